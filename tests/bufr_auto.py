@@ -5,7 +5,7 @@
 
 For each message, bufr-auto must write what the program writes for that message alone with the right table set, and must do
 so as soon as the whole message has arrived. Other tests check that --encode chooses table sets in the same way, that
-bufr-auto is fast, and that it leaves no files or processes behind. failures_of_scripts.py tests how bufr-auto fails.
+bufr-auto is fast, and that it leaves no files or processes behind. script_failures.py tests how bufr-auto fails.
 """
 import contextlib
 import fcntl

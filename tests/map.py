@@ -7,7 +7,7 @@ Each rule in docs/map.md has a tag. In the sources, a comment `rule: TAG, TAG` p
 apply: a definition in specs/, an example in proofs/, a function, or a test in bufr_tests. A file in tests/ has such a
 comment near its beginning. The last column of tests/vectors/cases.tsv lists the rules for each vector. The first two cells
 of a row in docs/map.md are written by hand; the other cells are generated from the tags. The last cell says how many
-comparisons, numbers and orders the rule's definitions contain, and how many of them an entry of tests/bent_definitions
+comparisons, numbers and orders the rule's definitions contain, and how many of them an entry of tests/definition_mutations
 bends. The others must have a reason for having no entry; otherwise, the rule is not covered.
 
 Each heading in docs/format.md and docs/texts.md must have a section in docs/map.md, and each fault in docs/texts.md a row.
@@ -20,7 +20,7 @@ import sys
 
 from lib import FAULT, TOP, finish
 
-sys.path.insert(0, str(TOP / "tests/bent_definitions"))
+sys.path.insert(0, str(TOP / "tests/definition_mutations"))
 from antt import Bad  # noqa: E402
 from entries import every_entry  # noqa: E402
 from sites import boundaries, cover  # noqa: E402
@@ -146,7 +146,7 @@ def rules() -> None:
             known.add(found[2])
             lacking = bounds_of(by_tag.get(found[2], []))[2]
             if lacking:
-                complain("docs/map.md", line, f"{found[2]} is not covered: {lacking} of its boundaries and orders have no entry in tests/bent_definitions")
+                complain("docs/map.md", line, f"{found[2]} is not covered: {lacking} of its boundaries and orders have no entry in tests/definition_mutations")
             one = row(found[1], found[2], by_tag.get(found[2], []))
         lines.append(one)
     for tag in sorted(set(by_tag) - known):

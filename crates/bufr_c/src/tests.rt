@@ -16,7 +16,7 @@ const NONE: Texts = Texts {
 };
 
 #[test]
-fn lists_two_strays(rt: HostRuntime) {
+fn reports_two_strays(rt: HostRuntime) {
     let (mut lines, mut faults) = ([0; 8], [0; 33]);
     let mut texts = NONE;
     let octets = b"BUFR BUFR";
@@ -31,7 +31,7 @@ fn lists_two_strays(rt: HostRuntime) {
 }
 
 #[test]
-fn stops_before_a_line_without_room(rt: HostRuntime) {
+fn stops_if_a_line_does_not_fit(rt: HostRuntime) {
     let (mut lines, mut faults) = ([0; 8], [0; 31]);
     let mut texts = NONE;
     let octets = b"BUFR BUFR";
@@ -65,7 +65,7 @@ const BLOCK_INPUT: CallInput<'static> = CallInput {
 };
 
 #[test]
-fn dumps_a_message_and_encodes_its_text(rt: HostRuntime) {
+fn dumps_a_message_and_encodes_the_dump(rt: HostRuntime) {
     let (mut text, mut faults) = ([0; 400], [0; 64]);
     let mut texts = NONE;
     let status = bufr_dump(rt.alloc(), &BLOCK_INPUT, &mut text, &mut faults, &mut texts);
@@ -96,7 +96,7 @@ fn dumps_a_message_and_encodes_its_text(rt: HostRuntime) {
 }
 
 #[test]
-fn says_how_much_room_documents_need(rt: HostRuntime) {
+fn reports_how_much_space_is_needed(rt: HostRuntime) {
     let input = CallInput {
         octets: b"subset 1\n",
         ..BLOCK_INPUT
@@ -110,7 +110,7 @@ fn says_how_much_room_documents_need(rt: HostRuntime) {
 }
 
 #[test]
-fn knows_three_forms(rt: HostRuntime) {
+fn rejects_an_unknown_form(rt: HostRuntime) {
     let input = CallInput {
         form: 3,
         ..BLOCK_INPUT
@@ -179,7 +179,7 @@ fn reads_an_item(rt: HostRuntime) {
 }
 
 #[test]
-fn reads_a_stray_and_stops_before_an_item_without_room(rt: HostRuntime) {
+fn reports_stray_and_stops_if_item_does_not_fit(rt: HostRuntime) {
     let mut octets = [0; 52];
     octets[..4].copy_from_slice(b"BUFR");
     octets[4..].copy_from_slice(&BLOCK);
@@ -243,7 +243,7 @@ fn lists_a_message_after_other_octets(rt: HostRuntime) {
 }
 
 #[test]
-fn names_the_fault_of_a_table(rt: HostRuntime) {
+fn returns_the_fault_of_a_table(rt: HostRuntime) {
     let (mut text, mut faults) = ([0; 8], [0; 8]);
     let mut texts = NONE;
     let input = CallInput {
@@ -261,6 +261,6 @@ fn names_the_fault_of_a_table(rt: HostRuntime) {
 }
 
 #[test]
-fn has_a_version(rt: HostRuntime) {
+fn returns_the_version(rt: HostRuntime) {
     assert_eq!(rt; bufr_version(), 1_000);
 }

@@ -43,7 +43,7 @@ fn assert_ones(rt: &impl Runtime, octets: &[u8], at: u64, width: u32, want: Opti
 
 #[test]
 // rule: bit-order, field-number
-fn get_is_bit_by_bit(rt: HostRuntime) {
+fn reads_numbers_at_every_offset_and_width(rt: HostRuntime) {
     assert_same(&rt, &BitSlice::new(NINE).len_bits(), &72, &"length");
     for at in 0..74 {
         for width in 0..64 {
@@ -71,7 +71,7 @@ const BORROWED_OCTETS: &[(u64, usize, Option<&[u8]>)] = &[
 
 #[test]
 // rule: past-last-bit
-fn numbers_and_octets_at_the_ends(rt: HostRuntime) {
+fn returns_none_past_the_last_bit(rt: HostRuntime) {
     for (at, width, want) in NUMBERS_AT_THE_ENDS {
         assert_number(&rt, NINE, *at, *width, *want);
     }
@@ -94,7 +94,7 @@ const ONES_AND_A_ZERO: &[(u64, u32, Option<bool>)] = &[
 
 /// A zero among ones is found in a field of any width.
 #[test]
-fn one_zero_among_ones(rt: HostRuntime) {
+fn finds_a_single_zero_among_ones(rt: HostRuntime) {
     for (at, width, want) in ONES_AND_A_ZERO {
         assert_ones(&rt, &[0xFF, 0xFE], *at, *width, *want);
     }
@@ -125,7 +125,7 @@ fn push_octets(rt: &impl Runtime, writer: &mut BitWriter, octets: &[u8])
 
 /// `put` and `put_octets` write bits into room that was reserved.
 #[test]
-fn bits_are_put_where_there_is_room(rt: HostRuntime) {
+fn puts_bits_into_reserved_space(rt: HostRuntime) {
     let mut writer = BitWriter::new(rt.alloc());
     if writer.reserve(91).is_ok() {
         writer.put(0x5_2FFD, 20);
@@ -171,7 +171,7 @@ fn assert_width(rt: &impl Runtime, octets: &[u8], at: u64, width: u32) -> u64
 }
 
 #[test]
-fn bits_are_pushed_at_each_width(rt: HostRuntime) {
+fn pushes_bits_of_every_width(rt: HostRuntime) {
     let writer = pushed_at_each_width(&rt);
     let length = writer.len_bits();
     let octets = writer.into_octets();
@@ -230,7 +230,7 @@ fn assert_flush<W: Sink>(rt: &impl Runtime, sink: &mut W, want: Result<(), Faile
 }
 
 #[test]
-fn a_scripted_reader_fails_at_its_place(rt: HostRuntime) {
+fn scripted_reader_fails_at_the_given_offset(rt: HostRuntime) {
     let mut source = ScriptIn::new(b"abcdefg", 3, Some(5));
     let mut buf = [0u8; 4];
     let reads = [Ok(3), Ok(2), Err(Failed), Err(Failed)];
@@ -255,7 +255,7 @@ const ENDS: &[(End, Result<usize, Failed>, Result<(), Failed>)] = &[
 
 /// A writer with room for five octets takes at most three in each write.
 #[test]
-fn a_scripted_writer_ends_at_its_place(rt: HostRuntime) {
+fn scripted_writer_stops_when_full(rt: HostRuntime) {
     for (end, last, flushed) in ENDS {
         let mut sink = ok(&rt, ScriptOut::new(rt.alloc(), 5, 3, *end));
         assert_writes(&rt, &mut sink, WRITES);
@@ -267,7 +267,7 @@ fn a_scripted_writer_ends_at_its_place(rt: HostRuntime) {
 
 /// A device fails if its reader or writer fails.
 #[test]
-fn devices(rt: HostRuntime) {
+fn device_fails_if_its_reader_or_writer_fails(rt: HostRuntime) {
     let mut source = Device::new(b"abc".as_slice());
     assert_reads(&rt, &mut source, &mut [0u8; 2], &[Ok(2), Ok(1), Ok(0)]);
     let mut sink = Device::new(Vec::new(rt.alloc()));
@@ -321,7 +321,7 @@ fn assert_long_texts(rt: &impl Runtime, v: i128, sign: &[u8], digits: &[u8]) {
 
 #[test]
 // rule: decimal-point, decimal-zeros-after, decimal-sign
-fn decimal_texts(rt: HostRuntime) {
+fn writes_decimals_and_reads_them_back(rt: HostRuntime) {
     for (v, scale, want) in TEXTS {
         assert_text(&rt, *v, *scale, want);
     }
@@ -377,7 +377,7 @@ const READ: &[(&[u8], i16, i128)] = &[
 
 #[test]
 // rule: decimal-form, inexact-before-too-large
-fn decimal_readings(rt: HostRuntime) {
+fn accepts_valid_decimals_and_rejects_invalid_ones(rt: HostRuntime) {
     for (text, scale, v) in READ {
         assert_read(&rt, text, *scale, Ok(*v));
     }
@@ -413,7 +413,7 @@ fn assert_prefix(rt: &impl Runtime, text: &[u8], want: usize) {
 }
 
 #[test]
-fn short_decimals(rt: HostRuntime) {
+fn finds_short_decimal_at_start_of_text(rt: HostRuntime) {
     for (text, want) in PREFIXES {
         assert_prefix(&rt, text, *want);
     }

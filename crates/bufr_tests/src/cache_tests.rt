@@ -40,7 +40,7 @@ fn text_for(rt: &impl Runtime, list: &str) -> Vec<u8> {
     repeated(rt, text.output(), 1)
 }
 
-fn assert_kept(rt: &impl Runtime, templates: &mut TemplateCache<'_>, list: &str) {
+fn assert_same_with_cache(rt: &impl Runtime, templates: &mut TemplateCache<'_>, list: &str) {
     let document = document_of(rt, &text_for(rt, list));
     let (alone, count) = encoded(rt, Encode, &document);
     let mut steps = Steps::new();
@@ -56,17 +56,17 @@ fn assert_kept(rt: &impl Runtime, templates: &mut TemplateCache<'_>, list: &str)
 }
 
 #[test]
-fn encodes_many_lists_of_descriptors(rt: HostRuntime) {
+fn encodes_more_descriptor_lists_than_are_cached(rt: HostRuntime) {
     let task = Task::new(&rt, Encode);
     let mut templates = TemplateCache::new(rt.alloc(), &task.b, &task.d);
     for index in 0..LISTS.saturating_mul(2) {
-        assert_kept(&rt, &mut templates, list_of(&rt, index % LISTS).as_str());
+        assert_same_with_cache(&rt, &mut templates, list_of(&rt, index % LISTS).as_str());
     }
     assert_same(&rt, &templates.others(), &127, &"lists");
 }
 
 #[test]
-fn has_room_for_some_cells(rt: HostRuntime) {
+fn caches_at_most_1024_cells(rt: HostRuntime) {
     let task = Task::new(&rt, Encode);
     let mut specs = SpecCache::new(rt.alloc(), &task.b);
     for (cells, room) in [(0, 0), (3, 3), (1024, 1024), (1025, 1024), (0, 0)] {

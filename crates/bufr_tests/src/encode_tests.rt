@@ -196,7 +196,7 @@ fn assert_encoded(rt: &impl Runtime, command: Command, flags: u8, row: &Row) {
 /// more documents.
 #[test]
 // rule: fault-lines-of-encoding
-fn encodes_worked_documents(rt: HostRuntime) {
+fn encodes_documents_or_reports_faults(rt: HostRuntime) {
     for row in ROWS {
         assert_encoded(&rt, Encode, row.2, row);
     }
@@ -210,12 +210,12 @@ fn assert_forms(rt: &impl Runtime, forms: &[(Form, u8, Row)]) {
 
 #[test]
 // rule: writes-form, form-option
-fn encodes_in_a_form(rt: HostRuntime) {
+fn encodes_in_the_requested_form(rt: HostRuntime) {
     assert_forms(&rt, FORMS)
 }
 
 #[test]
-fn laws() {
+fn laws_can_be_called() {
     laws::dumped_messages_are_encoded_again();
     laws::encoded_messages_are_accepted();
     laws::dumped_messages_are_encoded_in_each_form();
@@ -241,7 +241,7 @@ fn text_of_many_subsets(rt: &impl Runtime) -> String {
 
 /// The compressed message is short, but the plain one is too long.
 #[test]
-fn refuses_a_long_plain_form(rt: HostRuntime) {
+fn rejects_plain_form_that_is_too_long(rt: HostRuntime) {
     let text = text_of_many_subsets(&rt);
     let document = document_of(&rt, text.as_bytes());
     let octets = octets_of(&rt, Encode, &document);
@@ -261,7 +261,7 @@ const MANY_TEXTS: &str = "observed 1\ncompressed 0\noptional 0\nsubsets 1\n\
     descriptors 102255 101255 205255 102003 101255 205255 205255 205255\ndescriptors ";
 
 /// Returns a comment and then the text of this document, with this descriptor for its last string.
-fn text_of_many_texts(rt: &impl Runtime, last: &str) -> String {
+fn text_of_many_strings(rt: &impl Runtime, last: &str) -> String {
     let head = format!(in rt.alloc(); "# a comment\n{HEAD}{MANY_TEXTS}");
     let mut text = ok(rt, head);
     ok(rt, text.push_str(last));
@@ -278,7 +278,7 @@ fn text_of_many_texts(rt: &impl Runtime, last: &str) -> String {
 #[test]
 // rule: fault-60
 fn encodes_the_longest_message(rt: HostRuntime) {
-    let text = text_of_many_texts(&rt, "205192");
+    let text = text_of_many_strings(&rt, "205192");
     let octets = octets_for(&rt, text.as_bytes());
     assert_same(&rt, &octets.len(), &16_777_215, &"length");
     let first = octets.starts_with(b"BUFR\xFF\xFF\xFF\x04");
@@ -287,8 +287,8 @@ fn encodes_the_longest_message(rt: HostRuntime) {
 
 /// If a message would be one octet longer than the longest one, nothing is written.
 #[test]
-fn refuses_a_message_too_long(rt: HostRuntime) {
-    let text = text_of_many_texts(&rt, "205193");
+fn rejects_message_one_octet_too_long(rt: HostRuntime) {
+    let text = text_of_many_strings(&rt, "205193");
     let document = document_of(&rt, text.as_bytes());
     assert_too_long(&rt, Encode, &document, 2);
     let line = b"line 2: 60 too long\n";
@@ -308,7 +308,7 @@ const AS_DUMPED: &str = "observed 1\ncompressed 0\noptional 1\nsubsets 1\nlocal1
 
 /// A text that was written by hand and its dump are encoded to the same octets.
 #[test]
-fn dumps_what_was_written_by_hand(rt: HostRuntime) {
+fn dumps_handwritten_document_in_normal_spelling(rt: HostRuntime) {
     let octets = octets_for(&rt, with_head(&rt, BY_HAND).as_bytes());
     let text = dumped(&rt, &octets);
     let want = with_head(&rt, AS_DUMPED);
@@ -330,7 +330,7 @@ const ALIKE: &[(u16, &str, &str)] = &[
 /// Lines that are the same in all subsets are dumped in each subset, in their places. The shared
 /// lines of one message do not appear in the next.
 #[test]
-fn dumps_what_subsets_have_alike(rt: HostRuntime) {
+fn dumps_shared_lines_in_every_subset(rt: HostRuntime) {
     let (mut text, mut dump) = (String::new(rt.alloc()), String::new(rt.alloc()));
     for (subsets, descriptors, items) in ALIKE {
         let written = text_of(&rt, *subsets, PACKED, descriptors, items);

@@ -102,7 +102,7 @@ fn write_compressed(
 }
 
 #[test]
-fn laws() {
+fn laws_can_be_called() {
     laws::data_round_trip();
     laws::items_are_packed_with_the_least_k();
     laws::written_data_are_read();
@@ -128,7 +128,7 @@ fn assert_written(
 }
 
 #[test]
-fn writes_items(rt: HostRuntime) {
+fn writes_items_plain_and_compressed(rt: HostRuntime) {
     let (template, table) = (template_of(&rt, "001001"), table_b(&rt));
     let entries = two_items(&rt, 10);
     assert_same(&rt, &entries.len(), &4, &"entries");
@@ -139,7 +139,7 @@ fn writes_items(rt: HostRuntime) {
 }
 
 #[test]
-fn refuses_an_item(rt: HostRuntime) {
+fn rejects_value_that_reads_as_missing(rt: HostRuntime) {
     let (template, table) = (template_of(&rt, "001001"), table_b(&rt));
     let entries = two_items(&rt, 127);
     let plain = write_plain(&rt, &entries, &template, &table);

@@ -33,7 +33,7 @@ fn assert_run_fault(rt: &impl Runtime, fault: RunFault, text: &str) {
 
 #[test]
 // rule: status-0-and-1, status-of-usage, status-of-open, fault-70, fault-71, fault-72, fault-73
-fn finishes(rt: HostRuntime) {
+fn reports_outcome_and_exit_status(rt: HostRuntime) {
     assert_finished(&rt, &Outcome::Ran(tally(3, 0)), "", 0);
     assert_finished(&rt, &Outcome::Ran(tally(3, 1)), "", 1);
     let usage = "error: no command\n";
@@ -61,7 +61,7 @@ fn assert_table_fault(rt: &impl Runtime, fault: TableFault, text: &str) {
 
 #[test]
 // rule: status-of-table
-fn finishes_at_a_fault_of_a_table(rt: HostRuntime) {
+fn reports_table_faults(rt: HostRuntime) {
     assert_table_fault(&rt, TableFault::Header, "40 header");
     let row = TableFault::Row(18_446_744_073_709_551_615);
     assert_table_fault(&rt, row, "41 row 18446744073709551615");

@@ -16,7 +16,7 @@ use std::alloc::Global;
 
 /// The messages that the tests build have the octets that are listed for them.
 #[test]
-fn messages_are_built(rt: HostRuntime) {
+fn test_messages_have_expected_octets(rt: HostRuntime) {
     let one = message_of_hex(&rt, 1, PLAIN, "001001", "14");
     assert_same(&rt, &one.as_slice(), &ONE_BLOCK_NUMBER, &"plain");
     let two = message_of_hex(&rt, 2, PACKED, "012101", "708F05");
@@ -145,7 +145,7 @@ const STREAMS: &[(&[&[u8]], Option<usize>, &[Want], usize)] = &[
 
 #[test]
 // rule: first-bufr, stray-cut, stray-short-length, stray-no-end
-fn events_of_streams(rt: HostRuntime) {
+fn finds_messages_and_strays_in_streams(rt: HostRuntime) {
     for (parts, fails_at, wanted, longest) in STREAMS {
         let stream = joined(&rt, parts);
         assert_events(&rt, &stream, *fails_at, wanted, *longest);
@@ -171,7 +171,7 @@ fn strays(rt: &impl Runtime, apart: u64, without_end: u64) -> Vec<Want> {
 /// the end of the input.
 #[test]
 // rule: after-a-stray, output-waits
-fn words_alone(rt: HostRuntime) {
+fn reports_each_bare_bufr_as_a_stray(rt: HostRuntime) {
     let words = repeated(&rt, b"BUFR", 1024);
     assert_events(&rt, &words, None, &strays(&rt, 4, 0), 0x42_55_46);
     let words = repeated(&rt, b"BUFR\x00\x10\x00\x04", 1024);
@@ -189,7 +189,7 @@ fn long_message(rt: &impl Runtime) -> Vec<u8> {
 
 #[test]
 // rule: frame
-fn a_message_longer_than_all_before(rt: HostRuntime) {
+fn finds_message_longer_than_all_earlier_ones(rt: HostRuntime) {
     let (long, zeros) = (long_message(&rt), repeated(&rt, b"\x00", 10_000));
     let late = joined(&rt, &[&zeros, ONE_BLOCK_NUMBER]);
     assert_events(&rt, &late, None, &[Frame(10_000, 48)], 48);
@@ -201,14 +201,14 @@ fn a_message_longer_than_all_before(rt: HostRuntime) {
 /// A message that is longer than all earlier ones is buffered completely until the next call.
 /// Nothing else is buffered.
 #[test]
-fn a_long_message_is_held(rt: HostRuntime) {
+fn buffers_long_message_until_next_call(rt: HostRuntime) {
     let stream = joined(&rt, &[&long_message(&rt), ONE_BLOCK_NUMBER]);
     let wanted = [Frame(0, 5048), Holds(5048, 5048), Frame(5048, 48)];
     assert_events(&rt, &stream, None, &wanted, 5048);
 }
 
 #[test]
-fn laws() {
+fn laws_can_be_called() {
     laws::open_scan_is_prefix();
     laws::events_to_the_end_are_the_scan();
     laws::events_before_the_end_are_certain();
@@ -312,7 +312,7 @@ fn written(alloc: Global, message: &Message<'_>, word: u16, payload: &[u8]) -> O
 // rule: section-0, section-1-of-edition-4, section-1-of-edition-3, section-2-flag, local-use
 // rule: section-2, section-3, descriptors-of-section-3, section-4, section-5, edition-3-lacks
 // rule: reserved-zero, least-lengths, sections-in-order, writes-no-pad-octet
-fn parts_of_messages(rt: HostRuntime) {
+fn parses_messages_and_writes_them_back(rt: HostRuntime) {
     for (octets, parts, again) in MESSAGES {
         let message = parsed(&rt, octets);
         assert_parts(&rt, &message, parts);
@@ -367,7 +367,7 @@ fn assert_fault(rt: &impl Runtime, octets: &[u8], fault: SectionFault, text: &st
 
 #[test]
 // rule: length-past-end, length-under-least, section-past-end, section-4-end
-fn faults_of_sections(rt: HostRuntime) {
+fn reports_section_faults(rt: HostRuntime) {
     for (changes, fault, text) in FAULTS {
         assert_fault(&rt, &changed(&rt, changes), *fault, text);
     }
@@ -388,7 +388,7 @@ fn length_of_long(
 /// A message with odd sections is rejected if it would be too long with even sections.
 #[test]
 // rule: edition-3-length
-fn long_messages_of_edition_3_have_even_sections(rt: HostRuntime) {
+fn rejects_long_edition_3_message_with_odd_sections(rt: HostRuntime) {
     let odd = length_of_long(&rt, EDITION_3_ODD.get(..35), b"\xFF\xFF\xD7");
     assert_same(&rt, &odd, &Err(SectionFault::Edition3Long), &"odd");
     let even = length_of_long(&rt, EDITION_3.get(..36), b"\xFF\xFF\xD6");
@@ -414,14 +414,14 @@ const LOCAL_LENGTHS: &[(usize, Result<usize, WriteFault>)] = &[
 
 #[test]
 // rule: greatest-length
-fn messages_that_are_too_long(rt: HostRuntime) {
+fn refuses_to_write_messages_that_are_too_long(rt: HostRuntime) {
     for (local, want) in LOCAL_LENGTHS {
         assert_same(&rt, &length_with(&rt, *local), want, local);
     }
 }
 
 #[test]
-fn reads_to_the_end(rt: HostRuntime) {
+fn reads_to_the_end_and_counts_reads(rt: HostRuntime) {
     let mut r = ScriptIn::new(LOCAL_USE, 9, None);
     let mut octets = Vec::new(rt.alloc());
     let mut reads = 0;
@@ -432,7 +432,7 @@ fn reads_to_the_end(rt: HostRuntime) {
 
 /// Reads twice, and skips some octets between the reads.
 #[test]
-fn reads_piece_by_piece(rt: HostRuntime) {
+fn fills_buffer_again_after_a_skip(rt: HostRuntime) {
     let mut r = ScriptIn::new(b"abcd", 3, None);
     let mut input = InputBuffer::new(rt.alloc());
     assert_same(&rt, &input.fill(&mut r, 4, 8), &Ok(()), &"first read");
@@ -445,7 +445,7 @@ fn reads_piece_by_piece(rt: HostRuntime) {
 
 /// Pushes an octet at the end of an input.
 #[test]
-fn pushes_an_octet_at_the_end(rt: HostRuntime) {
+fn pushes_an_octet_after_the_end_of_input(rt: HostRuntime) {
     let mut r = ScriptIn::new(b"", 3, None);
     let mut input = InputBuffer::new(rt.alloc());
     assert_same(&rt, &input.fill(&mut r, 4, 8), &Ok(()), &"read");

@@ -1,7 +1,7 @@
 //! Tests of calls that allocate memory. Each call returns its whole result, or reports that memory
 //! ran out.
 //!
-//! `tests/memory_refused.py` makes each allocation of each test fail in turn. Therefore, a test
+//! `tests/failed_allocations.py` makes each allocation of each test fail in turn. Therefore, a test
 //! also passes if it cannot allocate memory for its own values.
 
 use crate::frame_tests::HEAD_4;
@@ -42,7 +42,7 @@ fn write_number(rt: &impl Abort, out: &mut Vec<u8>) {
 }
 
 #[test]
-fn decimal_text_grows(rt: HostRuntime) {
+fn decimal_text_changes_nothing_if_allocation_fails(rt: HostRuntime) {
     let mut out = Vec::new(rt.alloc());
     for _ in 0..4 {
         write_number(&rt, &mut out);
@@ -67,7 +67,7 @@ fn number_at(index: u64) -> u64 {
 }
 
 #[test]
-fn push_grows(rt: HostRuntime) {
+fn push_changes_nothing_if_allocation_fails(rt: HostRuntime) {
     let mut writer = BitWriter::new(rt.alloc());
     for index in 0..50 {
         push_number(&rt, &mut writer, number_at(index));
@@ -91,7 +91,7 @@ fn push_message(rt: &impl Abort, writer: &mut BitWriter) {
 }
 
 #[test]
-fn push_octets_grows(rt: HostRuntime) {
+fn push_octets_changes_nothing_if_allocation_fails(rt: HostRuntime) {
     let mut writer = BitWriter::new(rt.alloc());
     for _ in 0..5 {
         push_message(&rt, &mut writer);
@@ -104,7 +104,7 @@ fn push_octets_grows(rt: HostRuntime) {
 }
 
 #[test]
-fn script_out_grows(rt: HostRuntime) {
+fn script_out_reports_failed_allocation(rt: HostRuntime) {
     let writer = ScriptOut::new(rt.alloc(), 1000, 600, End::Fail);
     if let Some(mut writer) = whole(&rt, writer, AllocError) {
         let taken = (writer.write(&[1; 700]), writer.write(&[1; 700]));
@@ -113,7 +113,7 @@ fn script_out_grows(rt: HostRuntime) {
 }
 
 #[test]
-fn write_message_grows(rt: HostRuntime) {
+fn write_message_reports_failed_allocation(rt: HostRuntime) {
     let message = write_message(
         rt.alloc(),
         &HEAD_4,
@@ -141,7 +141,7 @@ fn thirty_two_groups() -> [Fxy; 33] {
 }
 
 #[test]
-fn build_grows(rt: HostRuntime) {
+fn template_build_reports_failed_allocation(rt: HostRuntime) {
     let table_b = read_b(rt.alloc(), messages::table_b());
     let table_d = read_d(rt.alloc(), messages::table_d());
     let table_b = whole(&rt, table_b, TableFault::Memory);
@@ -157,7 +157,7 @@ fn build_grows(rt: HostRuntime) {
 }
 
 #[test]
-fn read_all_grows(rt: HostRuntime) {
+fn read_all_reports_failed_allocation(rt: HostRuntime) {
     let input = [0x5A; 40_000];
     let mut r = ScriptIn::new(&input, 3000, None);
     let octets = read_all(rt.alloc(), &mut r);
@@ -184,7 +184,7 @@ fn assert_line(rt: &impl Runtime, words: &[&str], end: &str) {
 }
 
 #[test]
-fn parse_line_grows(rt: HostRuntime) {
+fn parse_line_reports_failed_allocation(rt: HostRuntime) {
     for (words, end) in LINES {
         assert_line(&rt, *words, *end);
     }

@@ -103,7 +103,7 @@ fn message_of(rt: &impl Runtime, text: &[u8]) -> Vec<u8> {
 }
 
 #[test]
-fn builds_a_message(rt: HostRuntime) {
+fn builds_a_message_from_text(rt: HostRuntime) {
     let octets = message_of(&rt, text_of_one(&rt).as_bytes());
     assert_same(&rt, &octets.as_slice(), &ONE_BLOCK_NUMBER, &"001001");
 }

@@ -56,7 +56,7 @@ static FORMS: &[(&[&str], Form)] = &[
 
 #[test]
 // rule: form-words
-fn parses_lines(rt: HostRuntime) {
+fn parses_command_lines(rt: HostRuntime) {
     let (none, one) = (["bufr", "ls"], ["bufr", "ls", "bulletins.bufr"]);
     assert_parsed(&rt, none.as_slice(), Subcommand::Ls, None);
     assert_parsed(&rt, one.as_slice(), Subcommand::Ls, Some("bulletins.bufr"));
@@ -103,7 +103,7 @@ static NO_FORMS: &[&str] = &["other", "", "Plain", "plain ", "compress"];
 
 #[test]
 // rule: one-file, usage
-fn refuses_lines(rt: HostRuntime) {
+fn rejects_invalid_command_lines(rt: HostRuntime) {
     for (words, part) in MISTAKEN {
         assert_usage(&rt, *words, *part);
     }
@@ -126,7 +126,7 @@ static MISTAKEN_ARGUMENTS: &[(&[&str], &str)] = &[
 
 #[test]
 // rule: usage
-fn refuses_lines_with_tables(rt: HostRuntime) {
+fn rejects_invalid_arguments_of_dump_and_encode(rt: HostRuntime) {
     for (arguments, part) in MISTAKEN_ARGUMENTS {
         assert_usage(&rt, line_of(&rt, "dump", *arguments).as_slice(), *part);
         assert_usage(&rt, line_of(&rt, "encode", *arguments).as_slice(), *part);
@@ -175,7 +175,7 @@ fn reply_to<'a, I: Inputs>(
     }
 }
 
-fn assert_holds(rt: &impl Runtime, text: &str, part: &str) {
+fn assert_contains(rt: &impl Runtime, text: &str, part: &str) {
     assert_that(rt, text.contains(part), &text);
     assert_that(rt, text.is_empty() == part.is_empty(), &text);
 }
@@ -190,7 +190,7 @@ fn assert_called<'a, I: Inputs>(
     let reply = reply_to(rt, words, inputs, End::Fail);
     assert_same(rt, &reply.status, &status, &words);
     assert_same(rt, &reply.output.taken(), &output, &words);
-    assert_holds(rt, text_on(rt, &reply.errors), errors);
+    assert_contains(rt, text_on(rt, &reply.errors), errors);
 }
 
 /// A file. If it is torn, reading fails at the end of its octets.
@@ -262,7 +262,7 @@ fn assert_shown(rt: &impl Runtime, words: &'static [&'static str]) {
     let mut inputs = ONE;
     let reply = reply_to(rt, words, &mut inputs, End::Zero);
     assert_same(rt, &reply.status, &0, &words);
-    assert_holds(rt, text_on(rt, &reply.output), "Exit status:");
+    assert_contains(rt, text_on(rt, &reply.output), "Exit status:");
     assert_same(rt, &text_on(rt, &reply.errors), &"", &words);
     let reply = reply_to(rt, words, &mut inputs, End::Flush);
     assert_same(rt, &reply.status, &2, &words);
@@ -289,7 +289,7 @@ static CALLED: &[(&[&str], u8, &str, &str)] = &[
 /// The file `one` contains a stray before the message.
 #[test]
 // rule: dash-is-a-name, status-of-help, status-of-usage, version
-fn runs_lines(rt: HostRuntime) {
+fn runs_command_lines_without_tables(rt: HostRuntime) {
     let one = joined(&rt, &[b"BUFR", ONE_BLOCK_NUMBER]);
     let mut library = Library { one: &one, ..ONE };
     let (first, fourth) = (line_of_one(&rt, "0"), line_of_one(&rt, "4"));
@@ -354,7 +354,7 @@ fn assert_runs(
 /// The file `one` contains a stray before the message.
 #[test]
 // rule: tables-before-input, table-not-read
-fn runs_dump_lines(rt: HostRuntime) {
+fn runs_dump_command_lines(rt: HostRuntime) {
     let one = joined(&rt, &[b"BUFR", ONE_BLOCK_NUMBER]);
     let mut library = Library { one: &one, ..ONE };
     let text = text_of_one(&rt);
@@ -365,7 +365,7 @@ fn runs_dump_lines(rt: HostRuntime) {
 /// The file `one` contains a misplaced line after the document.
 #[test]
 // rule: tables-before-input
-fn runs_encode_lines(rt: HostRuntime) {
+fn runs_encode_command_lines(rt: HostRuntime) {
     let text = text_of_one(&rt);
     let one = joined(&rt, &[text.as_bytes(), b"subset 1\n"]);
     let mut library = Library {
@@ -388,7 +388,7 @@ fn status_on(
     call(rt.alloc(), words, inputs, &mut w, &mut e)
 }
 
-fn assert_handed_on(
+fn assert_flushed(
     rt: &impl Runtime,
     command: &'static str,
     arguments: &'static [&'static str],
@@ -409,13 +409,13 @@ fn assert_handed_on(
 /// If a read fails, the octets in a buffered writer are flushed to its device before the writer is
 /// dropped.
 #[test]
-fn hands_on_what_was_written_before_a_fault(rt: HostRuntime) {
+fn flushes_output_if_a_read_fails(rt: HostRuntime) {
     let (line, text) = (line_of_one(&rt, "0"), text_of_one(&rt));
     let (line, text) = (line.as_bytes(), text.as_bytes());
     let arguments = &["-B", "b.csv", "-D", "d.csv", "torn.bufr"];
-    assert_handed_on(&rt, "ls", &["torn.bufr"], ONE_BLOCK_NUMBER, line);
-    assert_handed_on(&rt, "dump", arguments, ONE_BLOCK_NUMBER, text);
-    assert_handed_on(&rt, "encode", arguments, text, ONE_BLOCK_NUMBER);
+    assert_flushed(&rt, "ls", &["torn.bufr"], ONE_BLOCK_NUMBER, line);
+    assert_flushed(&rt, "dump", arguments, ONE_BLOCK_NUMBER, text);
+    assert_flushed(&rt, "encode", arguments, text, ONE_BLOCK_NUMBER);
 }
 
 /// A full writer, which counts its calls from the first write on.
@@ -482,7 +482,7 @@ fn assert_tried_once(
 /// A failed write is not tried again, neither by the run nor by a flush, nor when the writer is
 /// dropped.
 #[test]
-fn tries_no_write_again(rt: HostRuntime) {
+fn does_not_retry_a_failed_write(rt: HostRuntime) {
     let text = text_of_one(&rt);
     let arguments = &["-B", "b.csv", "-D", "d.csv"];
     assert_tried_once(&rt, "ls", &[], ONE_BLOCK_NUMBER);
@@ -491,15 +491,15 @@ fn tries_no_write_again(rt: HostRuntime) {
 }
 
 /// Reads all octets of a message that arrives in parts, from a reader that may fail.
-fn all_of_one(rt: &impl Runtime, fails_at: Option<usize>) -> Result<Vec<u8>, RunFault> {
+fn read_all_in_parts(rt: &impl Runtime, fails_at: Option<usize>) -> Result<Vec<u8>, RunFault> {
     let mut r = ScriptIn::new(ONE_BLOCK_NUMBER, 7, fails_at);
     read_all(rt.alloc(), &mut r)
 }
 
 #[test]
-fn reads_all(rt: HostRuntime) {
-    let octets = ok(&rt, all_of_one(&rt, None));
+fn reads_all_octets_unless_a_read_fails(rt: HostRuntime) {
+    let octets = ok(&rt, read_all_in_parts(&rt, None));
     assert_same(&rt, &octets.as_slice(), &ONE_BLOCK_NUMBER, &"octets");
-    let torn = all_of_one(&rt, Some(20));
+    let torn = read_all_in_parts(&rt, Some(20));
     assert_that(&rt, matches!(torn, Err(RunFault::Read)), &"torn");
 }

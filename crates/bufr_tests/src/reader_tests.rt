@@ -166,7 +166,7 @@ fn assert_texts(rt: &impl Runtime, number: usize, want: Next, texts: &[&[u8]]) {
 // rule: reading-after-a-value, reading-header-order, reading-long-lists, reading-hexadecimal
 // rule: reading-section2, reading-descriptor, reading-number, reading-reference, reading-quoted
 // rule: reading-subsets, fault-50, fault-57, fault-61, fault-order-of-a-line
-fn reads_each_line_by_its_rule(rt: HostRuntime) {
+fn accepts_valid_lines_and_rejects_invalid_ones(rt: HostRuntime) {
     for (number, want, texts) in RULES {
         assert_texts(&rt, *number, *want, *texts);
     }
@@ -199,7 +199,7 @@ fn assert_octet_lines(rt: &impl Runtime, word: &[u8]) {
 
 #[test]
 // rule: reading-long-lists
-fn reads_lines_of_octets(rt: HostRuntime) {
+fn checks_length_of_hexadecimal_lines(rt: HostRuntime) {
     assert_octet_lines(&rt, b"local1 ");
     assert_octet_lines(&rt, b"section2 ")
 }
@@ -219,7 +219,7 @@ static LONG_LINES: &[(usize, &[u8], usize, Next)] = &[
 /// feed.
 #[test]
 // rule: reading-longest-line, reading-header-number
-fn reads_long_lines(rt: HostRuntime) {
+fn reads_lines_of_up_to_4096_octets(rt: HostRuntime) {
     for (number, word, count, want) in LONG_LINES {
         let line = line_of_digits(&rt, word, *count);
         assert_document(&rt, &with_line(&rt, *number, &line), *want);
@@ -249,7 +249,7 @@ fn reads_several_documents(rt: HostRuntime) {
 
 /// A document is returned before the read after it fails.
 #[test]
-fn reads_up_to_a_failed_read(rt: HostRuntime) {
+fn returns_complete_documents_before_a_failed_read(rt: HostRuntime) {
     let two = repeated(&rt, text_of_one(&rt).as_bytes(), 2);
     assert_read(&rt, &two, None, &[Read(2, 1), Read(2, 26), Done]);
     let fault = Failed(RunFault::Read);
@@ -271,7 +271,7 @@ fn assert_octets(rt: &impl Runtime, document: &Document, local1: &[u8], section2
 }
 
 #[test]
-fn reads_the_sections(rt: HostRuntime) {
+fn reads_header_counts_and_descriptors(rt: HostRuntime) {
     let document = document_of(&rt, text_of_one(&rt).as_bytes());
     let head = ok(&rt, Message::parse(ONE_BLOCK_NUMBER)).head();
     assert_same(&rt, &document.head(), &head, &"head");
@@ -292,7 +292,7 @@ fn reads_local_use(rt: HostRuntime) {
 
 /// Each item and each end of a subset is an entry.
 #[test]
-fn counts_entries(rt: HostRuntime) {
+fn counts_items_and_subset_ends_as_entries(rt: HostRuntime) {
     let lines = b"001001 10  # note\n205001 \"\\x0A\"\n012101 MISSING\nR 012101 -400\n";
     let document = document_of(&rt, &with_line(&rt, 24, lines));
     assert_counts(&rt, &document, (true, false, 1, 5));
@@ -312,7 +312,7 @@ static FAULTS: &[(ReadFault, u8, &str)] = &[
 ];
 
 #[test]
-fn read_faults_have_texts(rt: HostRuntime) {
+fn read_faults_have_numbers_and_texts(rt: HostRuntime) {
     for (fault, number, text) in FAULTS {
         let shown = ok(&rt, format!(in rt.alloc(); "{fault}"));
         assert_same(
@@ -325,7 +325,7 @@ fn read_faults_have_texts(rt: HostRuntime) {
 }
 
 #[test]
-fn laws() {
+fn laws_can_be_called() {
     laws::dump_text_spells_its_document();
     laws::texts_are_their_documents();
     laws::calls_compose();
@@ -340,7 +340,7 @@ fn next_in(reader: &mut DumpReader, unread: &mut &[u8]) -> Next {
 
 /// Octets that were read after the last line of a document are buffered, and no others.
 #[test]
-fn holds_what_follows_a_document(rt: HostRuntime) {
+fn buffers_only_octets_after_a_document(rt: HostRuntime) {
     let text = repeated(&rt, text_of_one(&rt).as_bytes(), 1000);
     let mut unread = text.as_slice();
     let mut reader = DumpReader::new(rt.alloc());
@@ -357,7 +357,7 @@ fn holds_what_follows_a_document(rt: HostRuntime) {
 
 /// If the last line has no line feed, its own octets are buffered, and no others.
 #[test]
-fn holds_the_last_line(rt: HostRuntime) {
+fn buffers_last_line_without_line_feed(rt: HostRuntime) {
     let text = joined(&rt, &[text_of_one(&rt).as_bytes(), b"# note"]);
     let mut r = ScriptIn::new(&text, 4096, None);
     let mut reader = DumpReader::new(rt.alloc());
@@ -375,7 +375,7 @@ fn assert_reused<R: Source>(rt: &impl Runtime, reader: &mut DumpReader, r: &mut 
 
 /// A document can reuse the memory of the previous one, whether it is longer or shorter.
 #[test]
-fn reuses_memory(rt: HostRuntime) {
+fn reuses_memory_of_previous_document(rt: HostRuntime) {
     let one = text_of_one(&rt);
     let (one, short): (&[u8], _) = (one.as_bytes(), with_line(&rt, 21, b"subsets 2\n"));
     let text = joined(&rt, &[one, b"# note\n", one, &short]);

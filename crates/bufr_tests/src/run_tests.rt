@@ -19,7 +19,7 @@ use std::io::{self, Read};
 
 #[test]
 // rule: fault-1
-fn refuses_a_message_cut_anywhere(rt: HostRuntime) {
+fn rejects_message_cut_at_any_offset(rt: HostRuntime) {
     assert_cut_anywhere(&rt, Ls, "one block number", ONE_BLOCK_NUMBER);
     assert_cut_anywhere(&rt, Dump, "delayed", &delayed_twice(&rt));
     assert_cut_anywhere(&rt, Dump, "compressed", COMPRESSED);
@@ -52,7 +52,7 @@ impl<'a> Read for Watching<'a> {
 
 /// Each line is written whole, in a single write, before the next message is read.
 #[test]
-fn lists_while_it_reads(rt: HostRuntime) {
+fn writes_each_line_before_the_next_read(rt: HostRuntime) {
     let (first, second) = (line_of_one(&rt, "0").len(), line_of_one(&rt, "48").len());
     let (octets, writes, torn) = (Cell::new(0), Cell::new(0), Cell::new(false));
     let mut watching = Watching {
@@ -105,7 +105,7 @@ fn assert_pair_stops(
 /// written.
 #[test]
 // rule: fault-70, fault-71
-fn lists_what_was_decided_before_a_failure(rt: HostRuntime) {
+fn lists_complete_messages_before_a_failure(rt: HostRuntime) {
     let (first, second) = (line_of_one(&rt, "0"), line_of_one(&rt, "48"));
     let lines = (first.as_bytes(), second.as_bytes());
     assert_pair_stops(&rt, Ls, ONE_BLOCK_NUMBER, lines);
@@ -113,40 +113,40 @@ fn lists_what_was_decided_before_a_failure(rt: HostRuntime) {
 
 #[test]
 // rule: fault-line-not-written
-fn dumps_what_was_decided_before_a_failure(rt: HostRuntime) {
+fn dumps_complete_messages_before_a_failure(rt: HostRuntime) {
     let text = text_of_one(&rt);
     let text = text.as_bytes();
     assert_pair_stops(&rt, Dump, ONE_BLOCK_NUMBER, (text, text));
 }
 
 #[test]
-fn encodes_what_was_decided_before_a_failure(rt: HostRuntime) {
+fn encodes_complete_documents_before_a_failure(rt: HostRuntime) {
     let (text, message) = (text_of_one(&rt), ONE_BLOCK_NUMBER);
     assert_pair_stops(&rt, Encode, text.as_bytes(), (message, message))
 }
 
 #[test]
-fn stops_after_a_stray(rt: HostRuntime) {
+fn reports_stray_before_the_message_after_it(rt: HostRuntime) {
     let (line, text) = (line_of_one(&rt, "8"), text_of_one(&rt));
     assert_stops_after_a_stray(&rt, Ls, ONE_BLOCK_NUMBER, line.as_bytes());
     assert_stops_after_a_stray(&rt, Dump, ONE_BLOCK_NUMBER, text.as_bytes())
 }
 
 /// Returns a document that is rejected at its line 24.
-fn text_refused(rt: &impl Runtime) -> String {
+fn rejected_text(rt: &impl Runtime) -> String {
     text_of(rt, 1, PLAIN, "012101", "012101 288.155")
 }
 
 /// If the error output ends, the messages before a rejected document are written.
 #[test]
-fn stops_where_the_errors_end(rt: HostRuntime) {
+fn stops_if_error_output_fails(rt: HostRuntime) {
     let line = b"offset 0: 1 cut\n";
     let run = refused(Ls, "cut", b"BUFR\x00\x00\x30\x04", line);
     assert_stops_at_errors(&rt, run, b"");
     let message = message_of_hex(&rt, 1, PLAIN, "001001", "");
     let line = b"offset 0: 30 data end at subset 1 descriptor 001001 bit 0\n";
     assert_stops_at_errors(&rt, refused(Dump, "data", &message, line), b"");
-    let second = text_refused(&rt);
+    let second = rejected_text(&rt);
     let text = joined(&rt, &[text_of_one(&rt).as_bytes(), second.as_bytes()]);
     let run = accepted(Encode, "second", &text, ONE_BLOCK_NUMBER).counting(1, 1);
     let run = run.with_errors(b"line 49: 52 number\n");
@@ -159,8 +159,8 @@ fn stops_where_the_errors_end(rt: HostRuntime) {
 /// The run stops at the first document that is rejected, and does not read what follows it.
 #[test]
 // rule: first-refusal-ends
-fn stops_at_the_first_refused_document(rt: HostRuntime) {
-    let (good, bad) = (text_of_one(&rt), text_refused(&rt));
+fn stops_at_the_first_rejected_document(rt: HostRuntime) {
+    let (good, bad) = (text_of_one(&rt), rejected_text(&rt));
     let both = joined(&rt, &[good.as_bytes(), bad.as_bytes()]);
     let text = joined(&rt, &[&both, good.as_bytes(), b"no line\n"]);
     let second = accepted(Encode, "the second", &text, ONE_BLOCK_NUMBER).counting(1, 1);
@@ -174,7 +174,7 @@ fn stops_at_the_first_refused_document(rt: HostRuntime) {
 
 /// If the output cannot be flushed, both writers keep everything that they took.
 #[test]
-fn keeps_all_after_a_failed_flush(rt: HostRuntime) {
+fn keeps_written_octets_after_a_failed_flush(rt: HostRuntime) {
     let text = joined(&rt, &[text_of_one(&rt).as_bytes(), b"end\n"]);
     let run = accepted(Encode, "flush", &text, ONE_BLOCK_NUMBER);
     let mut run = run.with_errors(b"line 26: 50 line\n");
@@ -186,7 +186,7 @@ fn keeps_all_after_a_failed_flush(rt: HostRuntime) {
 
 /// At the end of an input, both writers are flushed, whether or not anything was written to them.
 #[test]
-fn ends_where_a_writer_cannot_be_flushed(rt: HostRuntime) {
+fn fails_if_either_writer_cannot_be_flushed(rt: HostRuntime) {
     for command in [Ls, Dump, Encode] {
         assert_fails_to_flush(&rt, accepted(command, "nothing", b"", b""));
     }
@@ -206,7 +206,7 @@ const LONG: &str =
 /// `ls` also rejects a message that would be too long with even sections.
 #[test]
 // rule: fault-14
-fn refuses_a_long_message_with_an_odd_section(rt: HostRuntime) {
+fn ls_rejects_long_message_with_odd_section(rt: HostRuntime) {
     let mut octets = from_hex(&rt, LONG);
     ok(&rt, octets.resize(16_777_210, 0));
     ok(&rt, octets.extend_from_slice(b"7777"));
@@ -215,22 +215,25 @@ fn refuses_a_long_message_with_an_odd_section(rt: HostRuntime) {
 }
 
 #[test]
-fn laws() {
+fn laws_can_be_called() {
     laws::dumped_streams_are_built_again();
     laws::runs_close_the_round();
     laws::encoded_texts_are_dumped_in_one_spelling();
 }
 
 /// Dumps a stream, encodes the dump, and dumps the result.
-fn round_of(rt: &impl Runtime, stream: &[u8]) -> Round {
+fn round_trip_of(rt: &impl Runtime, stream: &[u8]) -> Round {
     let task = Task::new(rt, Dump);
     dump_encode_dump(rt.alloc(), stream, 4096, &task.b, &task.d).expect(rt, "a round")
 }
 
 /// The dump of the bulletins is encoded to the four messages, and these have the same dump.
 #[test]
-fn encodes_a_dumped_stream(rt: HostRuntime) {
-    let (messages, round) = (messages_of_bulletins(&rt), round_of(&rt, &bulletins(&rt)));
+fn round_trips_a_stream(rt: HostRuntime) {
+    let (messages, round) = (
+        messages_of_bulletins(&rt),
+        round_trip_of(&rt, &bulletins(&rt)),
+    );
     let text = round.text.output.taken();
     assert_that(&rt, text.starts_with(b"message\nedition 4\n"), &"text");
     assert_same(&rt, &round.text.tally, &tally(4, 3), &"dumped");

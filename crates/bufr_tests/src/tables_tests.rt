@@ -36,7 +36,7 @@ fn assert_descriptor(rt: &impl Runtime, digits: &[u8], want: Option<u16>) {
 
 #[test]
 // rule: descriptor-fxy
-fn descriptors(rt: HostRuntime) {
+fn reads_and_prints_descriptors(rt: HostRuntime) {
     for (digits, want) in DESCRIPTORS {
         assert_descriptor(&rt, digits, *want);
     }
@@ -72,7 +72,7 @@ const ELEMENTS: &[(u16, &[u8], &[u8], Kind, (i16, i64, u32))] = &[
 const NO_ELEMENTS: &[u16] = &[0x3fff, 0x4c65, 0x8c65, 0xcc65];
 
 #[test]
-fn elements(rt: HostRuntime) {
+fn looks_up_elements_in_table_b(rt: HostRuntime) {
     let table = table_b(&rt);
     for (word, name, unit, kind, (scale, reference, width)) in ELEMENTS {
         let entry = some(&rt, entry_of(&table, *word));
@@ -92,7 +92,7 @@ fn elements(rt: HostRuntime) {
 }
 
 #[test]
-fn entries(rt: HostRuntime) {
+fn entries_have_line_start_and_comment(rt: HostRuntime) {
     let (table, again) = (table_b(&rt), table_b(&rt));
     let found = entry_of(&table, 0x0c65);
     let entry = some(&rt, found);
@@ -111,7 +111,7 @@ fn entries(rt: HostRuntime) {
 const NO_SEQUENCES: &[u16] = &[0xffff, 0x3cc0, 0x0101];
 
 #[test]
-fn sequences(rt: HostRuntime) {
+fn looks_up_sequences_in_table_d(rt: HostRuntime) {
     let table = table_d(&rt);
     let members = [Fxy::from_word(0x0101), Fxy::from_word(0x0c65)];
     let want = Some(members.as_slice());
@@ -234,7 +234,7 @@ fn assert_all(rt: &impl Runtime, cases: &[(&str, &[&[u8]])], is_b: bool) {
 #[test]
 // rule: fault-40, fault-41-of-table-b, fault-41-of-table-d, fault-42, fault-43, fault-45
 // rule: first-record-decides, fault-43-last
-fn rows_of_tables(rt: HostRuntime) {
+fn reads_table_rows_or_reports_faults(rt: HostRuntime) {
     assert_all(&rt, ROWS_OF_B, true);
     assert_all(&rt, ROWS_OF_D, false);
     for text in NO_HEADERS_OF_B {
@@ -252,7 +252,7 @@ const LONG_NAMES: &[(usize, &str)] = &[(512, "read"), (513, "41 row 2")];
 
 #[test]
 // rule: fault-41-of-table-b
-fn long_names_and_units(rt: HostRuntime) {
+fn limits_names_and_units_to_512_octets(rt: HostRuntime) {
     for (len, want) in LONG_NAMES {
         let long = ok(&rt, vec![in rt.alloc(); b'x'; *len]);
         let name = joined(&rt, &[HEADER_B, b"001001,", &long, b",K,0,0,8\n"]);
@@ -275,7 +275,7 @@ const KINDS: &[(&[u8], Kind)] = &[
 
 #[test]
 // rule: kind-by-unit
-fn kinds_of_units(rt: HostRuntime) {
+fn determines_kind_from_unit(rt: HostRuntime) {
     for (unit, kind) in KINDS {
         let text = joined(&rt, &[HEADER_B, b"001001,A,", unit, b",0,0,8\n"]);
         let table = ok(&rt, read_b(rt.alloc(), &text));
@@ -305,7 +305,7 @@ fn count_members(table: &TableD, word: u16) -> Option<usize> {
 
 #[test]
 // rule: fault-44
-fn as_many_rows_as_a_table_may_have(rt: HostRuntime) {
+fn limits_table_d_to_65536_rows(rt: HostRuntime) {
     let mut text = most_rows(&rt);
     let table = ok(&rt, read_d(rt.alloc(), &text));
     let count = count_members(&table, 0xc001);
@@ -337,7 +337,7 @@ fn long_chain(rt: &impl Runtime, back: bool, cycle: bool) -> Vec<u8> {
 
 #[test]
 // rule: fault-43
-fn long_chains_of_sequences(rt: HostRuntime) {
+fn detects_cycles_in_long_chains_of_sequences(rt: HostRuntime) {
     for back in [false, true] {
         assert_d(&rt, &long_chain(&rt, back, false), "read");
         assert_d(&rt, &long_chain(&rt, back, true), LAST_IN_A_CYCLE);
@@ -370,7 +370,7 @@ fn many_sequences(rt: &impl Runtime) -> Vec<u8> {
 }
 
 #[test]
-fn tables_of_usual_size(rt: HostRuntime) {
+fn looks_up_entries_in_tables_of_usual_size(rt: HostRuntime) {
     let table = ok(&rt, read_b(rt.alloc(), &many_elements(&rt)));
     for word in 0..6000u16 {
         let found = entry_of(&table, word).is_some();

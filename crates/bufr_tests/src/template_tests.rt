@@ -89,7 +89,7 @@ const NO_FACTORS: &[u8] = b"\
 #[test]
 // rule: delayed-replication, replication-in-one-list, 2-06-y-before-an-element
 // rule: 2-06-y-unknown-element, groups-take-bits, operators-known
-fn lists_of_descriptors(rt: HostRuntime) {
+fn expands_descriptor_lists_or_reports_faults(rt: HostRuntime) {
     let (table_b, table_d) = (table_b(&rt), table_d(&rt));
     for row in LISTS {
         assert_list(&rt, &table_b, &table_d, *row);
@@ -150,7 +150,7 @@ fn cells_of(rt: &impl Runtime, template: &Template) -> String {
 
 #[test]
 // rule: descriptor-kinds, fixed-replication, replication-before-expansion, replication-nested
-fn cells_of_templates(rt: HostRuntime) {
+fn expands_descriptors_into_cells(rt: HostRuntime) {
     for (name, text, want) in CELLS {
         let cells = cells_of(&rt, &template_of(&rt, text));
         assert_same(&rt, &cells.as_str(), want, name);

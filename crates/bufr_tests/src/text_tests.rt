@@ -49,7 +49,7 @@ fn push_each(rt: &impl Runtime, room: usize, w: &mut ScriptOut) {
 /// A line is the same whatever the size of the block.
 #[test]
 // rule: listing-time
-fn pushes_a_line_at_each_room(rt: HostRuntime) {
+fn writes_same_line_for_every_block_size(rt: HostRuntime) {
     for room in 0..64 {
         let mut w = writer(&rt, 3, (4096, End::Fail));
         ok(&rt, write_all(b"first ", &mut w));
@@ -143,7 +143,7 @@ fn assert_writes(rt: &impl Runtime, message: &[u8], count: usize) {
 /// No line is split: a dump is written in one write, or in several writes of whole lines.
 #[test]
 // rule: one-write-a-line
-fn dumps_whole_lines(rt: HostRuntime) {
+fn does_not_split_dump_lines_between_writes(rt: HostRuntime) {
     assert_writes(&rt, &delayed_twice(&rt), 1);
     assert_writes(&rt, &long_message(&rt), 2);
 }

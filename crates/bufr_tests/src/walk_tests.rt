@@ -316,7 +316,7 @@ fn assert_row(rt: &impl Runtime, row: &(&str, u16, u8, &str, &str, &str)) {
 // rule: fault-32-before-31, subsets-without-padding, field-past-end, compressed-increments-there
 // rule: compressed-missing-increment, compressed-sum-of-ones, compressed-text
 // rule: compressed-text-missing, compressed-text-base, class-31-never-missing, passes-by-count
-fn readings_of_messages(rt: HostRuntime) {
+fn reads_data_or_reports_faults(rt: HostRuntime) {
     for row in READINGS {
         assert_row(&rt, row);
     }
@@ -351,7 +351,7 @@ fn octets_with(rt: &impl Runtime, first: &[u8], len: usize) -> Vec<u8> {
 
 #[test]
 // rule: too-many-values, compressed-fault-order
-fn limits_of_readings(rt: HostRuntime) {
+fn reads_data_up_to_the_limits(rt: HostRuntime) {
     for (name, subsets, flags, descriptors, (first, len), want, counts) in LIMITS {
         let payload = octets_with(&rt, first, *len);
         let case = Case::new(&rt, *subsets, *flags, descriptors, &payload);
@@ -364,7 +364,7 @@ fn limits_of_readings(rt: HostRuntime) {
 }
 
 #[test]
-fn as_many_characters_as_may_be(rt: HostRuntime) {
+fn reads_a_string_of_255_octets(rt: HostRuntime) {
     let payload = octets_with(&rt, &[], 258);
     let case = Case::new(&rt, 1, PLAIN, "201129 012101 205255", &payload);
     assert_same(&rt, &case.outcome(&rt, true).len(), &554, &"characters");
@@ -378,7 +378,7 @@ const REFUSED_ITEMS: &[(u64, (u64, u64, u64))] = &[
 ];
 
 #[test]
-fn items_that_a_visitor_refuses(rt: HostRuntime) {
+fn stops_when_a_visitor_rejects_an_item(rt: HostRuntime) {
     let payload = octets_with(&rt, &[0x14], 8);
     let case = Case::new(&rt, 2, PLAIN, "012101 101002 001001", &payload);
     for (most, want) in REFUSED_ITEMS {
@@ -445,7 +445,7 @@ fn walked(
 // rule: compressed-item, compressed-equal, compressed-all-missing, compressed-past-width
 // rule: compressed-class-31, compressed-text-past-width, compressed-factors
 // rule: compressed-references, fault-30-before-34, fault-34-before-33
-fn items_of_compressed_subsets(rt: HostRuntime) {
+fn reads_items_of_compressed_subsets(rt: HostRuntime) {
     let table = table_b(&rt);
     for (name, subsets, descriptors, payload, want) in PACKED_ITEMS {
         let octets = from_hex(&rt, payload);
@@ -458,7 +458,7 @@ fn items_of_compressed_subsets(rt: HostRuntime) {
 
 /// Checks the faults that are in none of the rows above.
 #[test]
-fn faults_have_numbers(rt: HostRuntime) {
+fn walk_faults_have_numbers(rt: HostRuntime) {
     assert_same(&rt, &WalkFault::Memory.number(), &73, &"memory");
     assert_same(&rt, &DataFault::Memory.number(), &73, &"memory");
     let many = DataFault::TooManyValues(Fxy::from_word(257));

@@ -2,7 +2,7 @@
 """Tests scripts/bufr-plot: maps with unusual positions and strings, soundings, and the messages if there is nothing to draw
 or matplotlib is missing. Failures must leave no files behind.
 
-    tests/pictures.py [PROGRAM]
+    tests/plots.py [PROGRAM]
 
 The test draws with the first python3 that has matplotlib: its own, the one on PATH, or /usr/bin/python3. If none has it,
 drawing is skipped.

@@ -1,7 +1,7 @@
 #!/usr/bin/env python3
 """Tests the rows that scripts/table.awk makes for subsets and levels, with each installed awk.
 
-    tests/csv_by_awk.py [PROGRAM]
+    tests/awk_csv.py [PROGRAM]
 
 The test also covers notes about columns, invalid columns, rows that are joined with a listing, and the running time.
 """
@@ -313,7 +313,7 @@ def main() -> None:
         stream = Stream(folder)
         for awk in AWKS:
             if not shutil.which(awk[0]):
-                print(f"csv_by_awk: skipped, {awk[0]} is not installed")
+                print(f"awk_csv: skipped, {awk[0]} is not installed")
                 continue
             tries_wide(awk, synop)
             tries_levels(awk, sounding, synop)

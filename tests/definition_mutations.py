@@ -1,13 +1,13 @@
 #!/usr/bin/env python3
 """Makes one rule in the definitions wrong at a time, and checks that an example, a vector, a test or a law then fails.
 
-    tests/bent_definitions.py [PROGRAM]                      try a sample of the entries
-    tests/bent_definitions.py --all [PROGRAM]                try every entry, and fail if a comparison has no entry
-    tests/bent_definitions.py --crate NAME | --only WORD     try the entries of a crate, or those that contain WORD
-    tests/bent_definitions.py --list [--crate NAME]          try nothing, and list each comparison with its entries
+    tests/definition_mutations.py [PROGRAM]                      try a sample of the entries
+    tests/definition_mutations.py --all [PROGRAM]                try every entry, and fail if a comparison has no entry
+    tests/definition_mutations.py --crate NAME | --only WORD     try the entries of a crate, or those that contain WORD
+    tests/definition_mutations.py --list [--crate NAME]          try nothing, and list each comparison with its entries
 
 The program is proved to agree with its definitions, so a rule that is wrong in both goes unnoticed unless an example that
-was computed by hand covers it. The file bent_definitions/CRATE.txt lists wrong rules for a crate. Blank lines separate its
+was computed by hand covers it. The file definition_mutations/CRATE.txt lists wrong rules for a crate. Blank lines separate its
 entries:
 
     # 33 groups and sequences may be open together.
@@ -61,7 +61,7 @@ from concurrent.futures import ThreadPoolExecutor
 
 from lib import TOP, finish
 
-sys.path.insert(0, str(TOP / "tests/bent_definitions"))
+sys.path.insert(0, str(TOP / "tests/definition_mutations"))
 from antt import DECLARATION, MODULE, Bad, Block, below, blocks, crates, modules, parts_of, source, tokens  # noqa: E402
 from entries import Entry, every_entry, read_entries  # noqa: E402
 from sites import cover, files, listed  # noqa: E402
@@ -477,7 +477,7 @@ def judge(entries: list, jobs: int, program: str | None) -> dict:
     for entry in entries:
         if entry.kind == "example":
             by_crate[entry.of].append(entry)
-    with tempfile.TemporaryDirectory(prefix="bent-definitions-") as place, ThreadPoolExecutor(jobs) as pool:
+    with tempfile.TemporaryDirectory(prefix="definition-mutations-") as place, ThreadPoolExecutor(jobs) as pool:
         room, named = pathlib.Path(place), {(entry.kind, entry.of, entry.name) for entry in entries if entry.kind == "vector"}
         known = {vector: "yes" for vector in named if program and run([RUNNER, "--only", vector[2], program], TOP)[0] == 0}
         checks = [pool.submit(judge_examples, room, crate, of) for crate, of in by_crate.items()]
@@ -512,11 +512,11 @@ def main() -> None:
     missing = listed(asked.crate, False)
     if asked.list:
         print("\n".join(listed(asked.crate, True)))
-        print(f"bent_definitions: {len(missing)} comparisons, numbers and orders lack an entry")
+        print(f"definition_mutations: {len(missing)} comparisons, numbers and orders lack an entry")
         finish(wrongs)
     wrongs += missing if asked.all else []
     if not shutil.which("rt"):
-        print("bent_definitions: skipped, because rt is not on the PATH; only the lists were checked")
+        print("definition_mutations: skipped, because rt is not on the PATH; only the lists were checked")
         finish(wrongs)
     every = [entry for entry in [*entries, *read_entries(*CONTROLS)] if entry.kind]
     tried = chosen(asked, every)
@@ -536,7 +536,7 @@ def main() -> None:
             passes = f": {entry.kind} {entry.of}/{entry.name} does not fail" if verdict == "survives" else ""
             wrongs.append(f"{entry}: {verdict}{passes}")
     right = sum(verdicts.get(entry, "").partition(":")[0] == entry.wanted for entry in tried)
-    print(f"bent_definitions: {right} of {len(tried)} entries have their verdict ({len(every)} in all), in {time.monotonic() - start:.0f} s")
+    print(f"definition_mutations: {right} of {len(tried)} entries have their verdict ({len(every)} in all), in {time.monotonic() - start:.0f} s")
     finish(wrongs)
 
 

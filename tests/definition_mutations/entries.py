@@ -1,4 +1,4 @@
-"""Reads the lists of wrong rules. ../bent_definitions.py describes their format."""
+"""Reads the lists of wrong rules. ../definition_mutations.py describes their format."""
 import pathlib
 
 from antt import Bad, crates, source

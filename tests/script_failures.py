@@ -1,7 +1,7 @@
 #!/usr/bin/env python3
 """Makes the scripts fail. Each must report the failure in one line, and exit with status 2 if its output is incomplete.
 
-    tests/failures_of_scripts.py [PROGRAM [SCRIPT..]]
+    tests/script_failures.py [PROGRAM [SCRIPT..]]
 
 Descriptors are closed, devices are full, memory and disk space run out, files are truncated while they are being read,
 tables are invalid, and programs are killed. The test also covers the options that all scripts share, and the progress line.
@@ -31,7 +31,7 @@ DUMP = ["dump", *TABLES]
 SCRIPTS = {"bufr-auto": [], "bufr-csv": ["--json", "-c", "001001"], "bufr-extract": [], "bufr-lacks": [], "bufr-parallel": ["-P", "2", *DUMP]}
 # Scripts that read a stream themselves.
 READERS = ("bufr-auto", "bufr-csv")
-# A script that needs a package: of it is tried how it begins; tests/pictures.py has the rest.
+# A script that needs a package: of it is tried how it begins; tests/plots.py has the rest.
 OTHERS = {"bufr-plot": ["map", "a.png"]}
 complaints = []
 

@@ -1,7 +1,7 @@
 #!/usr/bin/env python3
 """Checks that each command needs no more memory than docs/operations.md states, for the worst messages of up to 16 MB.
 
-    tests/memory_of_program.py [PROGRAM]
+    tests/program_memory.py [PROGRAM]
 
 The test limits the address space. The worst message for `ls` consists almost entirely of data. The worst message for `dump`
 contains compressed items that are one bit wide but take seven bits each. The worst inputs for `encode` are the dump of that

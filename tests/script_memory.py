@@ -1,7 +1,7 @@
 #!/usr/bin/env python3
 """Checks that the scripts need no more memory than --help states, whatever the stream contains.
 
-    tests/memory_of_scripts.py [PROGRAM [SCRIPT..]]
+    tests/script_memory.py [PROGRAM [SCRIPT..]]
 
 The limit for each process is a number of megabytes, plus the length of the longest message or document if --help says so.
 The streams contain 300,000 strays, 300,000 small messages with bytes between them, 30,000 kinds of messages for which
@@ -144,7 +144,7 @@ def measured(name: str, path: pathlib.Path) -> tuple:
         errors.seek(0)
         lines = subprocess.run(["grep", "-cE", "^(offset|line)"], stdin=errors, stdout=subprocess.PIPE).stdout
     seconds = usage.ru_utime + usage.ru_stime
-    print(f"memory_of_scripts: {name}, {path.name}: {usage.ru_maxrss // 1000} MB in {seconds:.1f} s")
+    print(f"script_memory: {name}, {path.name}: {usage.ru_maxrss // 1000} MB in {seconds:.1f} s")
     return status, int(lines), usage.ru_maxrss
 
 

@@ -1,7 +1,7 @@
 #!/usr/bin/env python3
 """Makes each of the program's memory allocations fail in turn, and checks what the program writes.
 
-    tests/memory_refused.py [PROGRAM]
+    tests/failed_allocations.py [PROGRAM]
 
 Each command first runs without failures. Then its Nth allocation fails, for each N up to one more than the number of
 allocations, so that the last run produces the complete output. Every other run must exit with status 2. Its output must be
@@ -19,7 +19,7 @@ subset of compressed data, it must generate each line as it is needed.
 Finally, the tests in `growth_tests.rt`, each of which calls one library function, run in the same way. Each test must pass
 whichever allocation fails.
 
-refuse_memory.c makes the allocations fail. It is compiled by a C compiler ($CC or cc) or, if there is none, by the
+fail_allocations.c makes the allocations fail. It is compiled by a C compiler ($CC or cc) or, if there is none, by the
 toolchain's.
 """
 import concurrent.futures
@@ -91,8 +91,8 @@ class Trial:
     """The library that refuses, and a folder for files."""
 
     def __init__(self, compiler: list, work: pathlib.Path) -> None:
-        self.work, self.library = work, work / "refuse_memory.so"
-        source = TOP / "tests/refuse_memory.c"
+        self.work, self.library = work, work / "fail_allocations.so"
+        source = TOP / "tests/fail_allocations.c"
         flags = ["-shared", "-fPIC", "-O1", "-nostdlib", "-o", self.library]
         subprocess.run([*compiler, *flags, source], check=True)
 
@@ -110,7 +110,7 @@ class Trial:
     def lefts(self, run: Run) -> tuple:
         """What a run leaves with all memory, and with each call refused. Says how many calls it makes."""
         whole = self.left(run, 0)
-        print(f"memory_refused: {run.name}: {whole.calls} calls", flush=True)
+        print(f"failed_allocations: {run.name}: {whole.calls} calls", flush=True)
         numbers = range(1, whole.calls + 2)
         with concurrent.futures.ThreadPoolExecutor(os.cpu_count()) as pool:
             return whole, list(pool.map(lambda number: self.left(run, number), numbers))
@@ -164,7 +164,7 @@ def pieces(output: bytes) -> list:
 def tests(trial: Trial) -> list:
     """What is not so of the tests of calls that take memory, with each call for it refused."""
     if not TESTS.is_file():
-        print(f"memory_refused: skipped the tests of single calls, there is no {TESTS.relative_to(TOP)}")
+        print(f"failed_allocations: skipped the tests of single calls, there is no {TESTS.relative_to(TOP)}")
         return []
     listed = subprocess.run([TESTS, "--list"], capture_output=True, text=True, check=True).stdout
     wrong = []
@@ -236,7 +236,7 @@ def compiler() -> list:
 def main() -> None:
     words = compiler()
     if not words:
-        print("memory_refused: skipped, there is no C compiler and no toolchain")
+        print("failed_allocations: skipped, there is no C compiler and no toolchain")
         return
     with tempfile.TemporaryDirectory() as work:
         trial = Trial(words, pathlib.Path(work))

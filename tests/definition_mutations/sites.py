@@ -287,7 +287,7 @@ def listed(crate: str, is_whole: bool) -> list:
             for site in one.sites:
                 at = f"crates/{'/'.join(place)}:{source(place).count(chr(10), 0, one.starts[site.first]) + 1}: {one.name}: {site}"
                 if not site.is_covered():
-                    missing.append(f"{at}: has {len(site.entries)} of {site.wanted()} entries in tests/bent_definitions/{place[0]}.txt")
+                    missing.append(f"{at}: has {len(site.entries)} of {site.wanted()} entries in tests/definition_mutations/{place[0]}.txt")
                 told = f"free: {site.reason}" if site.reason else ", ".join(f"{entry.crate}.txt:{entry.line}" for entry in site.entries)
                 lines.append(f"{at}: {told or 'no entry'}")
     return lines if is_whole else missing

@@ -24,7 +24,7 @@ grows() {
         limit=$((limit + 16))
     done
     [ -n "$loaded" ] || fail "bufr $1: never tells want of memory"
-    echo "little_memory: bufr $1 has its whole answer in $limit KiB"
+    echo "low_memory: bufr $1 has its whole answer in $limit KiB"
 }
 
 grows ls examples/bulletins.bufr

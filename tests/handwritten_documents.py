@@ -1,7 +1,7 @@
 #!/usr/bin/env python3
 """Encodes documents that were written by hand, and compares the dumps of the results with the expected dumps.
 
-    tests/documents_by_hand.py [PROGRAM]
+    tests/handwritten_documents.py [PROGRAM]
 
 Each row contains the lines of a document from `compressed` on, first as a person might write them, and then as in a dump.
 Both forms must be encoded to the same octets, and a dump of these must contain the lines in the second form.
