@@ -24,7 +24,6 @@ use Rattle.std.proofs.lemmas.List.{length-map}
 use Rattle.bufr_text.specs.declared.encode.Form.{Form}
 use Rattle.bufr_text.proofs.NormalLemmas.{dump_is_normal, encoded_again_same, encoded_read}
 use Rattle.bufr_fill.proofs.ReadsLemmas.{reads_as}
-use Rattle.bufr_walk.proofs.PassLemmas.{legal_sane}
 
 -- the numbers of a slice of octets
 pub octets-all : (s : List ℕ) → ((i : ℕ) → slice_index s i < 256) → AllByRecursion IsOctet s
@@ -111,8 +110,7 @@ module _ (records : List Record) (b : List Row) (d : List Sequence) (rows : AreR
       where
         by : (o : Option Stop) → (reading_of (next_item b template) (data_of s)).stop ≡ o → IsFault (data_piece b offset s template) ⊎ IsDumped b d (FrameAt offset m) (data_piece b offset s template)
         by None none =
-            let sane = legal_sane b template (table_read records b rows) (tree_fine (tables_of b d) s.descriptors template expands).legal in
-            let reads = reads_as (next_item b template) sane (data_of s) none in
+            let reads = reads_as b template (table_read records b rows) (tree_fine (tables_of b d) s.descriptors template expands).legal (data_of s) none in
             inr (record {
               offset = offset;
               octets = m;

@@ -6,7 +6,7 @@ use Rattle.bufr_fill.proofs.EntryLemmas.{length-cells}
 use Rattle.std.proofs.lemmas.Bool.{ltb-false}
 use Rattle.std.specs.List.{AllByRecursion}
 use Rattle.bufr_tables.specs.Prelude.{IsLegal, Row, Tree}
-use Rattle.bufr_walk.specs.Prelude.{FieldSpec, IsSpec, Content, bits_for, FieldFault, found, content_at, Course, Next, take_next, at_end, astray, refused, next_item, max_values, Item, DataCoding, plain, packed, ReadsItems, answers_in, apart, together, items_of_subset, subsets_from, would_be_many}
+use Rattle.bufr_walk.specs.Prelude.{FieldSpec, IsSpec, Content, bits_for, FieldFault, found, content_at, Course, Next, take_next, at_end, astray, refused, next_item, max_values, Item, DataCoding, plain, packed, ReadsItems, answers_in, apart, together, each_subset, items_of_subset, subsets_from, would_be_many}
 use Rattle.bufr_fill.specs.Prelude.{packing_fault, Draft, Subset, ItemFault, DraftFault, at_line, too_many_values, content_of, plain_filler, RowCell, ItemRow, cells_at, rows, most_items, map_err, content_here, contents_here, pack_across, packed_filler, plain_data, packed_data, first_line, ◌>>=◌, WrittenItem, written_item, Filler, fill, with_bits_before, packing, Fits, AllFit, HasOctets, AllHaveOctets, IsSaid, IsReadBack, data_bits, AreDrafts, AreSaid}
 use Rattle.bufr_fill.proofs.FillSteps.{filled, bits_with, fill_at}
 use Rattle.bufr_walk.proofs.NextField.{AreRead, IsGoodCourse, next_field}
@@ -90,31 +90,25 @@ plain_one end_line spec d w good text e = by_content (content_of spec d) refl e
         let is : written_item c (bits_for spec.width c) ≡ w = same_ok (written_item c (bits_for spec.width c)) w q in
         subst (λ v. IsOneBack plain IsSaid spec d v) is (record { said = p; within = answer_within spec.role spec c good good.role fits; read = plain_again spec good c fits })
 
--- the bits read as the contents of the drafts, item by item
-record IsPlainBack (course : Course) (drafts : List Subset) (bits : List Bool) : Type 0 where
-  subsets : List (List (Item Content))
-  said : AreSaid subsets drafts
-  read : AreReadAs course false (length drafts) (apart subsets) bits
-
 module _ (course : Course) (sane : (m : ℕ) → IsSane m course) (good : IsGoodCourse course) where
   plain_join : (s : Subset) (ss : List Subset) (out : List Bool) → AllByRecursion (λ (d : Draft). HasOctets d.form) s.items
-      → ((rest : List Bool) → plain_data course ss ≡ Ok rest → IsPlainBack course ss rest)
+      → ((rest : List Bool) → plain_data course ss ≡ Ok rest → IsReadBack course false ss rest)
       → (a b : Result (List Bool) DraftFault) → fill (plain_filler s.end_line) course s.items ≡ a → plain_data course ss ≡ b → (a >>= λ x. b >>= λ y. Ok (x ++ y)) ≡ Ok out
-      → IsPlainBack course (s ∷ ss) out
+      → IsReadBack course false (s ∷ ss) out
   plain_join s ss out text others (Err why) b p q e = cc
   plain_join s ss out text others (Ok x) (Err why) p q e = cc
   plain_join s ss out text others (Ok x) (Ok y) p q e =
       let first = back plain (plain_filler s.end_line) IsSaid (λ (d : Draft). HasOctets d.form) (λ spec c. refl) (plain_one s.end_line) course s.items x good text p in
       let rest = others y q in
       record {
-        subsets = first.items ∷ rest.subsets;
+        values = apart (first.items ∷ each_subset (length ss) rest.values);
         said = (first.said, rest.said);
-        read = subst (AreReadAs course false (length (s ∷ ss)) (apart (first.items ∷ rest.subsets))) (same_ok (x ++ y) out e)
-            (subset_then course sane (length ss) first.items rest.subsets x y first.read first.end rest.read);
+        read = subst (AreReadAs course false (length (s ∷ ss)) (apart (first.items ∷ each_subset (length ss) rest.values))) (same_ok (x ++ y) out e)
+            (subset_then course sane (length ss) first.items rest.values x y first.read first.end rest.read);
       }
 
-  plain_back : (ss : List Subset) (out : List Bool) → AllHaveOctets ss → plain_data course ss ≡ Ok out → IsPlainBack course ss out
-  plain_back [] out text e = record { subsets = []; said = tt; read = subst (AreReadAs course false 0 (apart [])) (same_ok [] out e) (none_read course) }
+  plain_back : (ss : List Subset) (out : List Bool) → AllHaveOctets ss → plain_data course ss ≡ Ok out → IsReadBack course false ss out
+  plain_back [] out text e = record { values = apart []; said = tt; read = subst (AreReadAs course false 0 (apart [])) (same_ok [] out e) (none_read course) }
   plain_back (s ∷ ss) out text e = plain_join s ss out text.0 (λ rest q. plain_back ss rest text.1 q) (fill (plain_filler s.end_line) course s.items) (plain_data course ss) refl refl
       e
 
@@ -296,5 +290,4 @@ pub read_back : (table : List Row) (template : Tree) → AreRead table → IsLeg
     → data_bits compressed (next_item table template) drafts ≡ Ok bits → IsReadBack (next_item table template) compressed drafts bits
 read_back table template read legal true drafts bits text e = packed_back table template read legal drafts bits text e
 read_back table template read legal false drafts bits text e =
-    let b = plain_back (next_item table template) (legal_sane table template read legal) (next_field table template read legal) drafts bits text e in
-    record { values = apart b.subsets; said = b.said; read = b.read }
+    plain_back (next_item table template) (legal_sane table template read legal) (next_field table template read legal) drafts bits text e

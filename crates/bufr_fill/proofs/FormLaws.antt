@@ -9,7 +9,7 @@ use Rattle.bufr_walk.proofs.CourseLemmas.{IsSane}
 use Rattle.bufr_fill.proofs.ReadsLemmas.{AreReadAs, subset_then, items_read, none_read, none_read_together}
 use Rattle.bufr_fill.specs.Prelude.{ItemFault, Taken, Role, packing, same, packed_bits, packed_unlike, written_item, fill, with_bits_before, plain_filler, RowCell, ItemRow, map_err, content_here, contents_here, pack_across, packed_filler, first_line, unlike_line, ◌>>=◌, plain_data, item_row, cells_at, rows, most_items, packing_fault, packed_data, Fits, AllFit, IsDumped, AreDrafts, AreDumped, IsSaid, AreSaid, IsUnlike, IsTogetherOrNot, Draft, Subset, at_line, too_many_values, content_of}
 use Rattle.bufr_fill.proofs.FillSteps.{filled, fill_more, fill_end, plain_both}
-use Rattle.bufr_fill.proofs.PlainLaws.{IsSaidRow, item_bits, join, IsRewritten, draft_again, same_draft, AllSpecs, plain_again, width_least, plain_read, content_length}
+use Rattle.bufr_fill.proofs.PlainLaws.{IsSaidRow, item_bits, join, IsRewritten, draft_again, same_draft, AllFields, plain_again, width_least, plain_read, content_length}
 use Rattle.bufr_fill.proofs.PackedLaws.{packed_again, packed_count, fitting_again}
 use Rattle.bufr_bits.proofs.DecimalLemmas.{and_first, and_second}
 use Rattle.bufr_fill.proofs.LeastLemmas.{content_same}
@@ -108,7 +108,7 @@ plain_subsets course sane (items ∷ subsets) (s ∷ ss) h said =
     let rest = plain_subsets course sane subsets ss h.1 said.1 in
     record {
       is = plain_both course s ss bits others first.fills rest.is;
-      again = subset_then course sane (length subsets) items subsets bits others first.again first.end rest.again;
+      again = subset_then course sane (length subsets) items (apart subsets) bits others first.again first.end rest.again;
     }
 plain_subsets course sane subsets ss h said = absurd said
 
@@ -170,19 +170,19 @@ one_of n spec (c ∷ cs) j bits mid good h e =
     record { fits = fit_at spec (c ∷ cs) j p.2.fits within; gives = packed_alike spec c cs p.2.out j p.2.is within }
 
 -- the items of one subset follow one another
-follows_packed : (n j : ℕ) (course : Course) (items : List (Item (List Content))) (bits suffix : List Bool) → j < n → AllSpecs items → ReadsItems (packed n) course items bits suffix
+follows_packed : (n j : ℕ) (course : Course) (items : List (Item (List Content))) (bits suffix : List Bool) → j < n → AllFields items → ReadsItems (packed n) course items bits suffix
     → course (answers_in answer_first items) ≡ at_end → Follows course (items_of_subset j items)
-follows_packed n j course [] bits suffix h specs r end = end
-follows_packed n j course (i ∷ items) bits suffix h specs r end =
-    let one = one_of n i.spec i.content j bits r.0 specs.0 h r.2 in
-    let rest = follows_packed n j (after (packed n) course i) items r.0 suffix h specs.1 r.3 end in
-    (r.1, specs.0, one.fits, subst (λ (t : Taken). Follows (λ answer_of. course (t ∷ answer_of)) (items_of_subset j items)) (sym one.gives) rest)
+follows_packed n j course [] bits suffix h fields r end = end
+follows_packed n j course (i ∷ items) bits suffix h fields r end =
+    let one = one_of n i.spec i.content j bits r.0 fields.0.spec h r.2 in
+    let rest = follows_packed n j (after (packed n) course i) items r.0 suffix h fields.1 r.3 end in
+    (r.1, fields.0.spec, one.fits, subst (λ (t : Taken). Follows (λ answer_of. course (t ∷ answer_of)) (items_of_subset j items)) (sym one.gives) rest)
 
-pub all_follow : (n j left : ℕ) (course : Course) (items : List (Item (List Content))) (bits suffix : List Bool) → j + left ≤ n → AllSpecs items → ReadsItems (packed n) course items bits suffix
+pub all_follow : (n j left : ℕ) (course : Course) (items : List (Item (List Content))) (bits suffix : List Bool) → j + left ≤ n → AllFields items → ReadsItems (packed n) course items bits suffix
     → course (answers_in answer_first items) ≡ at_end → AllFollow course (subsets_from left j items)
-all_follow n j zero course items bits suffix h specs r end = tt
-all_follow n j (suc left) course items bits suffix h specs r end =
-    (follows_packed n j course items bits suffix (omega (arith, h)) specs r end, all_follow n (suc j) left course items bits suffix (omega (arith, h)) specs r end)
+all_follow n j zero course items bits suffix h fields r end = tt
+all_follow n j (suc left) course items bits suffix h fields r end =
+    (follows_packed n j course items bits suffix (omega (arith, h)) fields r end, all_follow n (suc j) left course items bits suffix (omega (arith, h)) fields r end)
 
 pub length-subsets_from : (n j : ℕ) (items : List (Item (List Content))) → length (subsets_from n j items) ≡ n
 length-subsets_from zero j items = refl
@@ -468,18 +468,18 @@ record AreFollowed (course : Course) (items : List (Item Content)) (bits suffix 
   short : length (flat_map item_bits items) + length suffix ≤ length bits
   least : length items ≤ length (flat_map item_bits items)
 
-followed : (course : Course) (items : List (Item Content)) (bits suffix : List Bool) → AllSpecs items → ReadsItems plain course items bits suffix → course (answers_in answer_of items) ≡ at_end
+followed : (course : Course) (items : List (Item Content)) (bits suffix : List Bool) → AllFields items → ReadsItems plain course items bits suffix → course (answers_in answer_of items) ≡ at_end
     → AreFollowed course items bits suffix
-followed course [] bits suffix specs r end = record { follow = end; short = omega (arith, ap length r); least = omega arith }
-followed course (i ∷ items) bits suffix specs r end =
-    let rest = followed (after plain course i) items r.0 suffix specs.1 r.3 end in
-    let read = plain_read i.spec specs.0 bits r.0 i.content r.2 in
-    let long = content_length i.spec specs.0 i.content read.0 in
+followed course [] bits suffix fields r end = record { follow = end; short = omega (arith, ap length r); least = omega arith }
+followed course (i ∷ items) bits suffix fields r end =
+    let rest = followed (after plain course i) items r.0 suffix fields.1 r.3 end in
+    let read = plain_read i.spec fields.0.spec bits r.0 i.content r.2 in
+    let long = content_length i.spec fields.0.spec i.content read.0 in
     let both = length-append (item_bits i) (flat_map item_bits items) in
     record {
-      follow = (r.1, specs.0, read.0, rest.follow);
+      follow = (r.1, fields.0.spec, read.0, rest.follow);
       short = omega (arith, rest.short, read.1, long, both);
-      least = omega (arith, rest.least, long, both, width_least i.spec.kind i.spec.width (specs.0).width);
+      least = omega (arith, rest.least, long, both, width_least i.spec.kind i.spec.width fields.0.spec.width);
     }
 
 pub record AreAllFollowed (course : Course) (n : ℕ) (subsets : List (List (Item Content))) (bits suffix : List Bool) : Type 0 where
@@ -491,10 +491,10 @@ pub record AreAllFollowed (course : Course) (n : ℕ) (subsets : List (List (Ite
 pub none_followed : (course : Course) (bits : List Bool) → AreAllFollowed course 0 [] bits bits
 none_followed course bits = record { follow = tt; short = omega arith; least = omega arith; count = refl }
 
-pub more_followed : (course : Course) (n : ℕ) (items : List (Item Content)) (subsets : List (List (Item Content))) (bits mid suffix : List Bool) → AllSpecs items
+pub more_followed : (course : Course) (n : ℕ) (items : List (Item Content)) (subsets : List (List (Item Content))) (bits mid suffix : List Bool) → AllFields items
     → ReadsItems plain course items bits mid → course (answers_in answer_of items) ≡ at_end → AreAllFollowed course n subsets mid suffix → AreAllFollowed course (suc n) (items ∷ subsets) bits suffix
-more_followed course n items subsets bits mid suffix specs r end rest =
-    let first = followed course items bits mid specs r end in
+more_followed course n items subsets bits mid suffix fields r end rest =
+    let first = followed course items bits mid fields r end in
     let both = length-append (flat_map item_bits items) (subset_bits subsets) in
     record {
       follow = (first.follow, rest.follow);

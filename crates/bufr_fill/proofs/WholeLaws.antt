@@ -5,13 +5,12 @@ use Rattle.bufr_fill.proofs.EntryLemmas.{length-cells}
 use Rattle.std.proofs.Math.Nat.{mul-le-mul_right}
 use Rattle.bufr_walk.specs.Prelude.{Content, max_values, Item, packed, ReadsItems, answers_in, answer_first, at_end, after, Data, Values, apart, together, each_subset, content_at, Course, next_item, items_of_subset, subsets_from, would_be_many}
 use Rattle.bufr_fill.specs.Prelude.{IsAlike, Draft, Subset, cells_at, rows, most_items, packed_filler, ◌>>=◌, map_err, content_here, contents_here, packed_data, AreDrafts, AreDumped, HasReading, IsWritten, IsWrittenAgain, IsTogetherOrNot, data_bits, IsSaid, AreSaid, AllAlike, AllHaveOctets, at_line}
-use Rattle.bufr_fill.proofs.PlainLaws.{IsSaidRow, HaveContents, AllSpecs, rewritten}
+use Rattle.bufr_fill.proofs.PlainLaws.{IsSaidRow, HaveContents, AllFields, rewritten}
 use Rattle.std.specs.List.{AllZip}
 use Rattle.bufr_tables.specs.Prelude.{Row, Tree, IsLegal}
-use Rattle.bufr_walk.proofs.NextField.{AreRead, IsGoodCourse, next_field}
+use Rattle.bufr_walk.proofs.NextField.{AreRead}
 use Rattle.bufr_walk.proofs.CourseLemmas.{IsSane}
 use Rattle.bufr_walk.proofs.PassLemmas.{legal_sane}
-use Rattle.bufr_fill.proofs.GoodReads.{plain_specs, packed_specs}
 use Rattle.bufr_fill.proofs.PackedLaws.{packed_count}
 use Rattle.bufr_fill.proofs.FormLaws.{subset_count, packed_rewritten, together as all_together, AreAllFollowed, none_followed, more_followed, AllFollow, all_follow, plain_subsets, subsets_said, subset_bits, row_bits, length-subsets_from}
 use Rattle.bufr_fill.proofs.BackLaws.{read_back}
@@ -89,9 +88,9 @@ all_rows_said n items s ss have said few =
     subst (λ k. AreDrafts IsSaidRow items (rows k 0 (s ∷ ss))) (sym l)
     (rows_said items (s ∷ ss) items 0 (subst (λ k. HaveContents k items) same have) h refl (omega (arith, subst (λ k. length items * k ≤ max_values) same few)))
 
-have_contents : (n : ℕ) (course : Course) (items : List (Item (List Content))) (bits suffix : List Bool) → AllSpecs items → ReadsItems (packed n) course items bits suffix → HaveContents n items
-have_contents n course [] bits suffix specs h = tt
-have_contents n course (i ∷ items) bits suffix specs h = (packed_count n i.spec specs.0 i.content bits h.0 h.2, have_contents n (after (packed n) course i) items h.0 suffix specs.1 h.3)
+have_contents : (n : ℕ) (course : Course) (items : List (Item (List Content))) (bits suffix : List Bool) → AllFields items → ReadsItems (packed n) course items bits suffix → HaveContents n items
+have_contents n course [] bits suffix fields h = tt
+have_contents n course (i ∷ items) bits suffix fields h = (packed_count n i.spec fields.0.spec i.content bits h.0 h.2, have_contents n (after (packed n) course i) items h.0 suffix fields.1 h.3)
 
 -- the drafts with the contents of items that were read are packed, and read again
 pub record ArePackedRows (n : ℕ) (course : Course) (items : List (Item (List Content))) (drafts : List Subset) (bits suffix : List Bool) : Type 0 where
@@ -103,14 +102,14 @@ no_rows : (course : Course) (drafts : List Subset) (bits : List Bool) → AreSai
 no_rows course [] bits said = record { is = refl; again = none_read_together course; short = omega arith }
 no_rows course (s ∷ ss) bits said = absurd said
 
-packed_rows : (course : Course) → ((m : ℕ) → IsSane m course) → (n : ℕ) (items : List (Item (List Content))) (drafts : List Subset) (bits suffix : List Bool) → AllSpecs items
+packed_rows : (course : Course) → ((m : ℕ) → IsSane m course) → (n : ℕ) (items : List (Item (List Content))) (drafts : List Subset) (bits suffix : List Bool) → AllFields items
     → AreSaid (subsets_from (suc n) 0 items) drafts → ReadsItems (packed (suc n)) course items bits suffix → course (answers_in answer_first items) ≡ at_end → length items * suc n ≤ max_values
     → ArePackedRows (suc n) course items drafts bits suffix
-packed_rows course sane n items [] bits suffix specs said r end few = absurd said
-packed_rows course sane n items (s ∷ ss) bits suffix specs said r end few =
+packed_rows course sane n items [] bits suffix fields said r end few = absurd said
+packed_rows course sane n items (s ∷ ss) bits suffix fields said r end few =
     let many = would_be_many (length (s ∷ ss)) (most_items (s ∷ ss)) in
     let w = rewritten (packed (suc n)) (packed_filler s.end_line many) IsSaidRow row_bits (λ spec c. refl) (packed_rewritten (suc n) s.end_line many (omega arith)) course items
-    (rows (most_items (s ∷ ss)) 0 (s ∷ ss)) bits suffix specs (all_rows_said (suc n) items s ss (have_contents (suc n) course items bits suffix specs r) said few) r end in
+    (rows (most_items (s ∷ ss)) 0 (s ∷ ss)) bits suffix fields (all_rows_said (suc n) items s ss (have_contents (suc n) course items bits suffix fields r) said few) r end in
     record { is = w.fills; again = items_read course sane n items (flat_map row_bits items) w.again end few; short = w.short }
 
 -- the bits that are written of values
@@ -127,20 +126,16 @@ module _ (table : List Row) (template : Tree) (rows : AreRead table) (legal : Is
   sane : (m : ℕ) → IsSane m course
   sane m = legal_sane table template rows legal m
 
-  good : IsGoodCourse course
-  good = next_field table template rows legal
-
   -- what is known of items that were read: subset after subset, or together
   plain_all : (subsets : List (List (Item Content))) (used : ℕ) → HasReading course d (apart subsets) used → AreAllFollowed course d.subsets subsets d.bits (drop used d.bits)
   plain_all subsets used h =
-      of_apart course sane (AreAllFollowed course) (none_followed course)
-      (λ n items subsets bits mid left r end rest. more_followed course n items subsets bits mid left (plain_specs course items bits mid good r) r end rest) d subsets used h
+      of_apart table template rows legal (AreAllFollowed course) (none_followed course) (more_followed course) d subsets used h
 
   packed_all : (items : List (Item (List Content))) (drafts : List Subset) (used : ℕ) → AreSaid (subsets_from d.subsets 0 items) drafts → HasReading course d (together items) used
       → ArePackedRows d.subsets course items drafts d.bits (drop used d.bits)
   packed_all items drafts used said h =
-      of_together course sane (λ n items bits left. AreSaid (subsets_from n 0 items) drafts → ArePackedRows n course items drafts bits left) (λ bits said. no_rows course drafts bits said)
-      (λ n items bits left r end few said. packed_rows course sane n items drafts bits left (packed_specs (suc n) course items bits left good r) said r end few) d items used h said
+      of_together table template rows legal (λ n items bits left. AreSaid (subsets_from n 0 items) drafts → ArePackedRows n course items drafts bits left)
+      (λ bits said. no_rows course drafts bits said) (λ n items bits left fields r end few said. packed_rows course sane n items drafts bits left fields said r end few) d items used h said
 
   -- as many as there are subsets
   pub each_count : (values : Values) (used : ℕ) → HasReading course d values used → length (each_subset d.subsets values) ≡ d.subsets
@@ -150,8 +145,8 @@ module _ (table : List Row) (template : Tree) (rows : AreRead table) (legal : Is
   pub follows : (values : Values) (used : ℕ) → HasReading course d values used → AllFollow course (each_subset d.subsets values)
   follows (apart subsets) used h = (plain_all subsets used h).follow
   follows (together items) used h =
-      of_together course sane (λ n items bits left. AllFollow course (subsets_from n 0 items)) (λ bits. tt)
-      (λ n items bits left r end few. all_follow (suc n) 0 (suc n) course items bits left (omega arith) (packed_specs (suc n) course items bits left good r) r end) d items used h
+      of_together table template rows legal (λ n items bits left. AllFollow course (subsets_from n 0 items)) (λ bits. tt)
+      (λ n items bits left fields r end few. all_follow (suc n) 0 (suc n) course items bits left (omega arith) fields r end) d items used h
 
   -- drafts that say what was read are written so that they are read again
   pub said_again : (values : Values) (used : ℕ) (drafts : List Subset) → HasReading course d values used → AreSaid (each_subset d.subsets values) drafts

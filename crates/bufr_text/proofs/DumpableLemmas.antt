@@ -4,7 +4,7 @@ use Rattle.std.specs.List.{AllByRecursion}
 use Rattle.std.proofs.lemmas.Bool.Decides.{nat_tests}
 use Rattle.bufr_tables.specs.declared.table_b.Kind.{Kind}
 use Rattle.bufr_tables.specs.Prelude.{Row, entry_of, IsLegal, Tree, Sequence}
-use Rattle.bufr_walk.proofs.NextField.{AreRead, row_found, next_field}
+use Rattle.bufr_walk.proofs.NextField.{AreRead, row_found}
 use Rattle.bufr_walk.specs.Prelude.{FieldSpec, IsSpec, HasWidth, HasRole, Content, number, text, missing, reference, shown, found, packed_field, Course, next_item, view_of, content_at, data_of, Item, plain, packed, ReadsItems, Values, apart, together, after, subsets_from, items_of_subset, each_subset}
 use Rattle.bufr_text.specs.Prelude.{IsDescriptorWord, IsOctet, IsValue, IsComment, IsItem, IsDumpable, IsAccepted, items_shown, dump_items}
 use Rattle.std.proofs.lemmas.List.{length-map}
@@ -12,16 +12,14 @@ use Rattle.bufr_frame.specs.Prelude.{u16_at, words, Sections, sections_of, parts
 use Rattle.bufr_frame.proofs.AgainLemmas.{sections-ended, heads-fit}
 use Rattle.bufr_walk.specs.declared.spec.Role.{Role}
 use Rattle.bufr_fill.specs.Prelude.{HasReading, AreOctets, FitsKind, FitsRole, Fits, AllFit}
-use Rattle.bufr_fill.proofs.PlainLaws.{plain_read}
+use Rattle.bufr_fill.proofs.PlainLaws.{AllFields, plain_read}
 use Rattle.bufr_fill.proofs.FieldLemmas.{top_below}
-use Rattle.bufr_fill.proofs.GoodReads.{AllFields, plain_fields, packed_fields}
 use Rattle.bufr_fill.proofs.PackedLaws.{packed_again}
 use Rattle.bufr_tables.specs.declared.table_b.Kind.TheVariants as kind
 use Rattle.bufr_walk.specs.declared.spec.Role.TheVariants as role
 use Rattle.std.proofs.lemmas.Grind.{common_steps}
 use Rattle.bufr_fill.proofs.ReadsLemmas.{of_apart, of_together}
 use Rattle.bufr_fill.proofs.WholeLaws.{each_count}
-use Rattle.bufr_walk.proofs.PassLemmas.{legal_sane}
 
 -- ---- the sections
 
@@ -165,15 +163,11 @@ counted table n (together items) = length-map (subsets_from n 0 items) (items_sh
 all_fit : (table : List Row) (template : Tree) (s : Sections) (values : Values) (used : ℕ) → AreRead table → IsLegal template → HasReading (next_item table template) (data_of s) values used
     → AllByRecursion (λ items. AllByRecursion IsItem items) (dump_items table s.subsets values)
 all_fit table template s (apart subsets) used all legal h =
-    let course = next_item table template in
-    of_apart course (legal_sane table template all legal) (λ n subsets bits left. AllByRecursion (λ items. AllByRecursion IsItem items) (map (items_shown table) subsets)) (λ bits. tt)
-    (λ n items subsets bits mid left r end rest. (items_fit table all course items bits mid (plain_fields course items bits mid (next_field table template all legal) r) r, rest))
-    (data_of s) subsets used h
+    of_apart table template all legal (λ n subsets bits left. AllByRecursion (λ items. AllByRecursion IsItem items) (map (items_shown table) subsets)) (λ bits. tt)
+    (λ n items subsets bits mid left fields r end rest. (items_fit table all (next_item table template) items bits mid fields r, rest)) (data_of s) subsets used h
 all_fit table template s (together items) used all legal h =
-    let course = next_item table template in
-    of_together course (legal_sane table template all legal) (λ n items bits left. AllByRecursion (λ items. AllByRecursion IsItem items) (map (items_shown table) (subsets_from n 0 items))) (λ bits. tt)
-    (λ n items bits left r end few. together_fit table all (suc n) 0 items
-    (λ j. packed_items_fit table all (suc n) j course items bits left (packed_fields (suc n) course items bits left (next_field table template all legal) r) r))
+    of_together table template all legal (λ n items bits left. AllByRecursion (λ items. AllByRecursion IsItem items) (map (items_shown table) (subsets_from n 0 items))) (λ bits. tt)
+    (λ n items bits left fields r end few. together_fit table all (suc n) 0 items (λ j. packed_items_fit table all (suc n) j (next_item table template) items bits left fields r))
     (data_of s) items used h
 
 pub dumpable : (table : List Row) (sequences : List Sequence) (m : List ℕ) (s : Sections) (template : Tree) (values : Values) (used : ℕ) → AreRead table → IsLegal template

@@ -8,13 +8,12 @@ use Rattle.bufr_tables.specs.Prelude.{Row, AreRows, Sequence, Tree, IsLegal, tab
 use Rattle.bufr_walk.specs.Prelude.{FieldSpec, IsSpec, Content, content_in, bits_for, found, plain_field, Course, next_item, Item, plain, ReadsItems, after, apart, together, Values, max_values, data_of, View, subsets_from, each_subset}
 use Rattle.bufr_fill.specs.Prelude.{IsMinusZero, rows, at_line, subsets_of, DraftEntry, IsUnlike, IsTogetherOrNot, HasReading}
 use Rattle.bufr_fill.specs.declared.fault.ItemFault.{ItemFault}
-use Rattle.bufr_fill.proofs.PlainLaws.{AllSpecs, same_bits, item_bits}
+use Rattle.bufr_fill.proofs.PlainLaws.{AllFields, same_bits, item_bits}
 use Rattle.bufr_frame.specs.Prelude.{with_even_length, message_octets, message_size, max_octets, MessageParts, parts_of, sections_from, Sections, sections_of}
 use Rattle.bufr_frame.proofs.AgainLemmas.{not-too-long, written-again}
 use Rattle.bufr_frame.proofs.LayoutLemmas.{even-least, message_size_is, written-even, length-evened}
-use Rattle.bufr_walk.proofs.NextField.{AreRead, table_read, next_field}
+use Rattle.bufr_walk.proofs.NextField.{AreRead, table_read}
 use Rattle.bufr_fill.proofs.WholeLaws.{bits_again, each_count, follows, said_again, written_apart, written_together}
-use Rattle.bufr_fill.proofs.GoodReads.{plain_specs}
 use Rattle.bufr_fill.proofs.FormLaws.{subsets_said, subset_bits, bits_or_none, row_bits}
 use Rattle.bufr_text.specs.Prelude.{header_in, subset_entries, document_of, lines_before, items_shown, IsAccepted, dump_items, HaveNoMinusZero, ArePacked, AreWritten, IsCanonical, IsEncodedAgain, HasReadingIn, IsForForm, IsFormed, IsFaultIn, EncodesForm, EncodesAgain, HasSameReading, data_bits, octets_of_bits, encoding_of, map_err, parts_as, compressed_as, message_of, encoding_in, IsDocumentRefusal, compressed_by, form_of_flag, Document, DocumentFault, Form, document_fault}
 use Rattle.bufr_text.proofs.DumpableLemmas.{sections_given}
@@ -28,7 +27,6 @@ use Rattle.bufr_text.specs.declared.fault.DocumentFault.TheVariants as fault
 use Rattle.bufr_text.specs.declared.encode.Form.TheVariants as form
 use Rattle.std.proofs.lemmas.Grind.{common_steps}
 use Rattle.bufr_fill.proofs.ReadsLemmas.{of_apart, form_is}
-use Rattle.bufr_walk.proofs.PassLemmas.{legal_sane}
 
 -- ---- A canonical message is encoded to the same octets.
 
@@ -48,13 +46,13 @@ field_bits spec h1 bits mid c h2 h3 = grind (arith, nat_tests, common_steps, tak
 
 -- ---- the items of one subset
 
-items_split : (course : Course) (items : List (Item Content)) (bits suffix : List Bool) → AllSpecs items → ReadsItems plain course items bits suffix → HaveNoMinusZero items bits
+items_split : (course : Course) (items : List (Item Content)) (bits suffix : List Bool) → AllFields items → ReadsItems plain course items bits suffix → HaveNoMinusZero items bits
     → bits ≡ flat_map item_bits items ++ suffix
-items_split course [] bits suffix specs h plus = h
-items_split course (i ∷ items) bits suffix specs h plus =
+items_split course [] bits suffix fields h plus = h
+items_split course (i ∷ items) bits suffix fields h plus =
     let t = field_taken i.spec bits h.0 i.content h.2 in
-    let rest = items_split (after plain course i) items h.0 suffix specs.1 h.3 (subst (HaveNoMinusZero items) t.suffix plus.1) in
-    field_bits i.spec specs.0 bits h.0 i.content t plus.0 ∙ ap (λ x. item_bits i ++ x) rest ∙ sym (append_assoc (item_bits i) (flat_map item_bits items) suffix)
+    let rest = items_split (after plain course i) items h.0 suffix fields.1 h.3 (subst (HaveNoMinusZero items) t.suffix plus.1) in
+    field_bits i.spec fields.0.spec bits h.0 i.content t plus.0 ∙ ap (λ x. item_bits i ++ x) rest ∙ sym (append_assoc (item_bits i) (flat_map item_bits items) suffix)
 
 -- ---- subsets
 
@@ -65,12 +63,12 @@ first_zeros course (i ∷ a) b bits mid h plus =
     let rest = first_zeros (after plain course i) a b h.0 mid h.3 (subst (HaveNoMinusZero (a ++ b)) t.suffix plus.1) in
     ((plus.0, subst (HaveNoMinusZero a) (sym t.suffix) rest.0), rest.1)
 
-subset_split : (course : Course) (items : List (Item Content)) (subsets : List (List (Item Content))) (bits mid suffix : List Bool) → AllSpecs items → ReadsItems plain course items bits mid
+subset_split : (course : Course) (items : List (Item Content)) (subsets : List (List (Item Content))) (bits mid suffix : List Bool) → AllFields items → ReadsItems plain course items bits mid
     → (HaveNoMinusZero (flat_map (λ x. x) subsets) mid → mid ≡ subset_bits subsets ++ suffix) → HaveNoMinusZero (flat_map (λ x. x) (items ∷ subsets)) bits
     → bits ≡ subset_bits (items ∷ subsets) ++ suffix
-subset_split course items subsets bits mid suffix specs r rest plus =
+subset_split course items subsets bits mid suffix fields r rest plus =
     let zeros = first_zeros course items (flat_map (λ x. x) subsets) bits mid r plus in
-    items_split course items bits mid specs r zeros.0 ∙ ap (λ x. flat_map item_bits items ++ x) (rest zeros.1) ∙ sym (append_assoc (flat_map item_bits items) (subset_bits subsets) suffix)
+    items_split course items bits mid fields r zeros.0 ∙ ap (λ x. flat_map item_bits items ++ x) (rest zeros.1) ∙ sym (append_assoc (flat_map item_bits items) (subset_bits subsets) suffix)
 
 -- ---- compressed data
 
@@ -90,10 +88,8 @@ record AreFilled (r : Result (List Bool) DraftFault) (bits suffix : List Bool) :
 bits_split : (table : List Row) (template : Tree) (s : Sections) (values : Values) (used : ℕ) → AreRead table → IsLegal template → HasReading (next_item table template) (data_of s) values used
     → AreWritten values (bits_of s.payload) (drop used (bits_of s.payload)) → bits_of s.payload ≡ bits_again values ++ drop used (bits_of s.payload)
 bits_split table template s (apart subsets) used rows legal read =
-    let course = next_item table template in
-    of_apart course (legal_sane table template rows legal) (λ n subsets bits left. HaveNoMinusZero (flat_map (λ x. x) subsets) bits → bits ≡ subset_bits subsets ++ left) (λ bits plus. refl)
-    (λ n items subsets bits mid left r end rest. subset_split course items subsets bits mid left (plain_specs course items bits mid (next_field table template rows legal) r) r rest)
-    (data_of s) subsets used read
+    of_apart table template rows legal (λ n subsets bits left. HaveNoMinusZero (flat_map (λ x. x) subsets) bits → bits ≡ subset_bits subsets ++ left) (λ bits plus. refl)
+    (λ n items subsets bits mid left fields r end rest. subset_split (next_item table template) items subsets bits mid left fields r rest) (data_of s) subsets used read
 bits_split table template s (together items) used rows legal read = rows_split items (bits_of s.payload) (drop used (bits_of s.payload))
 
 data_filled : (table : List Row) (template : Tree) (s : Sections) (values : Values) (used at : ℕ) → AreRead table → IsLegal template
