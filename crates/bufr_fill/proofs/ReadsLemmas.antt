@@ -24,9 +24,9 @@ form_is course d values used h = by d.compressed h.values_are
     by false e = ap is_together e
     by true e = ap is_together e
 
--- ---- Bits that are read.
+-- ---- Bits that are read as values.
 
--- as these values, whatever follows them
+-- whatever follows them
 abbrev pub AreReadAs : Course → (compressed : Bool) → (subsets : ℕ) → Values → (out : List Bool) → Type 0
 AreReadAs course compressed n values out = (more : List Bool) → HasReading course (record { compressed = compressed; subsets = n; bits = out ++ more }) values (length out)
 
@@ -70,7 +70,7 @@ none_read course more = record { none = refl; values_are = refl; left = refl; wi
 pub none_read_together : (course : Course) → AreReadAs course true 0 (together []) []
 none_read_together course more = record { none = refl; values_are = refl; left = refl; within = omega arith }
 
--- ---- Data that were read.
+-- ---- Data of a legal template that were read.
 
 module _ (table : List Row) (template : Tree) (rows : AreRead table) (legal : IsLegal template) where
   abbrev course : Course
@@ -83,6 +83,7 @@ module _ (table : List Row) (template : Tree) (rows : AreRead table) (legal : Is
   pub reads_as : (d : Data) → (reading_of course d).stop ≡ None → (used : ℕ) × HasReading course d (reading_of course d).values used
   reads_as d none = let s = reading_left course sane d in (s.0, record { none = none; values_are = refl; left = s.2; within = s.1 })
 
+  -- What holds of no subsets, and of one more if it holds of those after it, holds of all that were read.
   module _ (P : ℕ → List (List (Item Content)) → (bits left : List Bool) → Type 0) (none : (bits : List Bool) → P 0 [] bits bits)
       (more : (n : ℕ) (items : List (Item Content)) (subsets : List (List (Item Content))) (bits mid left : List Bool) → AllFields items
       → ReadsItems plain course items bits mid → course (answers_in answer_of items) ≡ at_end → P n subsets mid left → P (suc n) (items ∷ subsets) bits left) where
@@ -96,12 +97,12 @@ module _ (table : List Row) (template : Tree) (rows : AreRead table) (legal : Is
         (more n p.items _ bits p.state.left _ (fields_of_reads plain plain_gives course p.items bits p.state.left (next_field table template rows legal) reads) reads
         (pass_at_end plain (λ items. false) (suc (length bits)) course (place_at 0 bits) k.0) (of_passes n p.state.left k.2))
 
-    -- it holds of no subsets, and of one more before others
     pub of_apart : (d : Data) (subsets : List (List (Item Content))) (used : ℕ) → HasReading course d (apart subsets) used → P d.subsets subsets d.bits (drop used d.bits)
     of_apart d subsets used read =
         let h = subst (λ b. HasReading course (record d { compressed = b }) (apart subsets) used) (form_is course d (apart subsets) used read) read in
         subst (λ (q : List (List (Item Content)) × List Bool). P d.subsets q.0 d.bits q.1) (λ j. (each_subset 0 (h.values_are j), h.left j)) (of_passes d.subsets d.bits h.none)
 
+  -- What holds of no items, where there are no subsets, and of those of one pass holds of all that were read.
   module _ (P : ℕ → List (Item (List Content)) → (bits left : List Bool) → Type 0) (none : (bits : List Bool) → P 0 [] bits bits)
       (some : (n : ℕ) (items : List (Item (List Content))) (bits left : List Bool) → AllFields items → ReadsItems (packed (suc n)) course items bits left
       → course (answers_in answer_first items) ≡ at_end → length items * suc n ≤ max_values → P (suc n) items bits left) where
@@ -118,7 +119,6 @@ module _ (table : List Row) (template : Tree) (rows : AreRead table) (legal : Is
         only None e = refl
         only (Some why) e = absurd cc
 
-    -- it holds of no items where there are no subsets, and otherwise of the items of one pass
     pub of_together : (d : Data) (items : List (Item (List Content))) (used : ℕ) → HasReading course d (together items) used → P d.subsets items d.bits (drop used d.bits)
     of_together d items used read =
         let h = subst (λ b. HasReading course (record d { compressed = b }) (together items) used) (form_is course d (together items) used read) read in

@@ -195,14 +195,7 @@ few_values n items j h lt = grind (arith, common_steps, le-ltb)
 -- and back
 pub few_all : (n items : ℕ) → ((j : ℕ) → j < items → would_be_many n (0 + j) ≡ false) → items * n ≤ max_values
 few_all n zero h = omega arith
-few_all n (suc k) h = let few : (k + 1) * n ≤ max_values = ltb-false max_values ((k + 1) * n) (subst (λ j. would_be_many n j ≡ false) (none_before k) (h k (omega arith))) in subst
-    (λ m. m * n ≤ max_values) (one_on k) few
-  where
-    none_before : (k : ℕ) → 0 + k ≡ k
-    none_before k = omega arith
-
-    one_on : (k : ℕ) → k + 1 ≡ suc k
-    one_on k = omega arith
+few_all n (suc k) h = grind (arith, ltb-false max_values ((0 + k + 1) * n) (h k (omega arith)))
 
 -- ---- A pass over data of a legal template, both ways.
 
