@@ -99,7 +99,8 @@ pub record AreAllPlain (course : Course) (subsets : List (List (Item Content))) 
   pub is : plain_data course drafts ≡ Ok (subset_bits subsets)
   pub again : AreReadAs course false (length subsets) (apart subsets) (subset_bits subsets)
 
-pub plain_subsets : (course : Course) → ((m : ℕ) → IsSane m course) → (subsets : List (List (Item Content))) (drafts : List Subset) → AllFollow course subsets → AreSaid subsets drafts → AreAllPlain course subsets drafts
+pub plain_subsets : (course : Course) → ((m : ℕ) → IsSane m course) → (subsets : List (List (Item Content))) (drafts : List Subset) → AllFollow course subsets → AreSaid subsets drafts
+    → AreAllPlain course subsets drafts
 plain_subsets course sane [] [] h said = record { is = refl; again = none_read course }
 plain_subsets course sane (items ∷ subsets) (s ∷ ss) h said =
     let bits = flat_map item_bits items in

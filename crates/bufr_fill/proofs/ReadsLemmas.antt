@@ -42,7 +42,8 @@ module _ (course : Course) (sane : (m : ℕ) → IsSane m course) where
       (stop_of ps ≡ None) × (apart (items_by_pass ps) ≡ apart (items ∷ each_subset n values)) × (left_after bits ps ≡ more))
       (sym (pass_whole plain plain_forth (λ items. false) course sane bits items (others ++ more) (reads (others ++ more)) (λ j l. refl) end))
       (h.none, ap (λ v. apart (items ∷ each_subset n v)) h.values_are, h.left ∙ drop-append_seam others more) in
-      subst (λ bits. HasReading course (record { compressed = false; subsets = suc n; bits = bits }) (apart (items ∷ each_subset n values)) (length (first ++ others))) (sym (append_assoc first others more))
+      subst (λ bits. HasReading course (record { compressed = false; subsets = suc n; bits = bits }) (apart (items ∷ each_subset n values)) (length (first ++ others)))
+      (sym (append_assoc first others more))
       (record {
         none = w.0;
         values_are = w.1;

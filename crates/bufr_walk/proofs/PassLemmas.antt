@@ -60,7 +60,8 @@ module _ {C : Type 0} (form : DataCoding C) (many : ℕ → Bool) where
   abbrev ReadsSo : Course → ℕ → List Bool → Pass Place C Stop → Type 0
   ReadsSo course from bits p = ReadsTo form many course (place_at from bits) p × IsSuffix bits p.state.left
 
-  pass_so : GoesForth form → (n : ℕ) (course : Course) (from : ℕ) (bits : List Bool) → IsSane n course → length bits < n → ReadsSo course from bits (pass (reading form many) n course (place_at from bits))
+  pass_so : GoesForth form → (n : ℕ) (course : Course) (from : ℕ) (bits : List Bool) → IsSane n course → length bits < n
+      → ReadsSo course from bits (pass (reading form many) n course (place_at from bits))
   pass_so forth zero course from bits sane lt = absurd (omega (arith, lt))
   pass_so forth (suc n) course from bits sane lt = by (course []) refl (λ c bs h l. pass_so forth n c (from + 1) bs h l)
     where
