@@ -6,7 +6,7 @@ use Rattle.bufr_fill.proofs.EntryLemmas.{length-cells}
 use Rattle.std.proofs.lemmas.Bool.{ltb-false}
 use Rattle.std.specs.List.{AllByRecursion}
 use Rattle.bufr_tables.specs.Prelude.{IsLegal, Row, Tree}
-use Rattle.bufr_walk.specs.Prelude.{FieldSpec, IsSpec, Content, bits_for, FieldFault, found, content_at, Course, Next, take_next, at_end, astray, refused, next_item, max_values, Item, DataCoding, plain, packed, ReadsPass, ReadsSubsets, apart, together, items_of_subset, subsets_from, would_be_many}
+use Rattle.bufr_walk.specs.Prelude.{FieldSpec, IsSpec, Content, bits_for, FieldFault, found, content_at, Course, Next, take_next, at_end, astray, refused, next_item, max_values, Item, DataCoding, plain, packed, ReadsItems, answers_in, apart, together, each_subset, items_of_subset, subsets_from, would_be_many}
 use Rattle.bufr_fill.specs.Prelude.{packing_fault, Draft, Subset, ItemFault, DraftFault, at_line, too_many_values, content_of, plain_filler, RowCell, ItemRow, cells_at, rows, most_items, map_err, content_here, contents_here, pack_across, packed_filler, plain_data, packed_data, first_line, ◌>>=◌, WrittenItem, written_item, Filler, fill, with_bits_before, packing, Fits, AllFit, HasOctets, AllHaveOctets, IsSaid, IsReadBack, data_bits, AreDrafts, AreSaid}
 use Rattle.bufr_fill.proofs.FillSteps.{filled, bits_with, fill_at}
 use Rattle.bufr_walk.proofs.NextField.{AreRead, IsGoodCourse, next_field}
@@ -14,8 +14,9 @@ use Rattle.bufr_walk.specs.Prelude.{IsWithin}
 use Rattle.bufr_fill.proofs.GoodReads.{draft_fits, answer_within}
 use Rattle.bufr_fill.proofs.PackedLaws.{fitting_again}
 use Rattle.bufr_fill.proofs.PlainLaws.{plain_again}
-use Rattle.bufr_fill.proofs.ReadsLemmas.{plain_reads, packed_reads}
-use Rattle.std.proofs.lemmas.Slice.Zip.{AllZip-long}
+use Rattle.bufr_fill.proofs.ReadsLemmas.{AreReadAs, subset_then, items_read, none_read, none_read_together}
+use Rattle.bufr_walk.proofs.CourseLemmas.{IsSane}
+use Rattle.bufr_walk.proofs.PassLemmas.{legal_sane}
 use Rattle.std.specs.Result.{result_map_both}
 
 -- ---- one item after another
@@ -23,7 +24,8 @@ use Rattle.std.specs.Result.{result_map_both}
 pub record IsBack {C D : Type 0} (form : DataCoding C) (of_item : Item C → D → Type 0) (course : Course) (ds : List D) (out : List Bool) : Type 0 where
   pub items : List (Item C)
   pub said : AreDrafts of_item items ds
-  pub read : (more : List Bool) → ReadsPass form course items (out ++ more) more
+  pub read : (more : List Bool) → ReadsItems form course items (out ++ more) more
+  pub end : course (answers_in form.gives items) ≡ at_end
 
 -- what must hold of one item
 pub record IsOneBack {C D : Type 0} (form : DataCoding C) (of_item : Item C → D → Type 0) (spec : FieldSpec) (d : D) (w : WrittenItem C) : Type 0 where
@@ -36,7 +38,7 @@ module _ {C D E : Type 0} (form : DataCoding C) (filler : Filler D C E) (of_item
     (one : (spec : FieldSpec) (d : D) (w : WrittenItem C) → IsSpec spec → HasText d → filler.fills spec d ≡ Ok w → IsOneBack form of_item spec d w) where
   back_end : (course : Course) (out : List Bool) (n : Next) → course [] ≡ n → fill_at filler course [] n ≡ Ok out → IsBack form of_item course [] out
   back_end course out (take_next spec) q e = cc
-  back_end course out at_end q e = record { items = []; said = tt; read = λ more. (ap (λ x. x ++ more) (sym (same_ok [] out e)), q) }
+  back_end course out at_end q e = record { items = []; said = tt; read = λ more. ap (λ x. x ++ more) (sym (same_ok [] out e)); end = q }
   back_end course out astray q e = cc
   back_end course out (refused why) q e = cc
 
@@ -53,8 +55,8 @@ module _ {C D E : Type 0} (form : DataCoding C) (filler : Filler D C E) (of_item
           said = (here.said, suffix.said);
           read = λ more.
               let turned : w.bits ++ (rest ++ more) ≡ out ++ more = sym (append_assoc w.bits rest more) ∙ ap (λ x. x ++ more) joined in
-              let r = suffix.read more in
-              ((rest ++ more, q, subst (λ bits. form.field spec bits ≡ Ok (found w.content (rest ++ more))) turned (here.read (rest ++ more)), r.0), r.1);
+              (rest ++ more, q, subst (λ bits. form.field spec bits ≡ Ok (found w.content (rest ++ more))) turned (here.read (rest ++ more)), suffix.read more);
+          end = suffix.end;
         }
 
     back_fill : (spec : FieldSpec) → course [] ≡ take_next spec → (r : Result (WrittenItem C) E) → filler.fills spec d ≡ r
@@ -88,33 +90,25 @@ plain_one end_line spec d w good text e = by_content (content_of spec d) refl e
         let is : written_item c (bits_for spec.width c) ≡ w = same_ok (written_item c (bits_for spec.width c)) w q in
         subst (λ v. IsOneBack plain IsSaid spec d v) is (record { said = p; within = answer_within spec.role spec c good good.role fits; read = plain_again spec good c fits })
 
--- the bits read as the contents of the drafts, item by item
-record IsPlainBack (course : Course) (drafts : List Subset) (bits : List Bool) : Type 0 where
-  subsets : List (List (Item Content))
-  said : AreSaid subsets drafts
-  read : (more : List Bool) → ReadsSubsets course subsets (bits ++ more) more
-
-module _ (course : Course) (good : IsGoodCourse course) where
+module _ (course : Course) (sane : (m : ℕ) → IsSane m course) (good : IsGoodCourse course) where
   plain_join : (s : Subset) (ss : List Subset) (out : List Bool) → AllByRecursion (λ (d : Draft). HasOctets d.form) s.items
-      → ((rest : List Bool) → plain_data course ss ≡ Ok rest → IsPlainBack course ss rest)
+      → ((rest : List Bool) → plain_data course ss ≡ Ok rest → IsReadBack course false ss rest)
       → (a b : Result (List Bool) DraftFault) → fill (plain_filler s.end_line) course s.items ≡ a → plain_data course ss ≡ b → (a >>= λ x. b >>= λ y. Ok (x ++ y)) ≡ Ok out
-      → IsPlainBack course (s ∷ ss) out
+      → IsReadBack course false (s ∷ ss) out
   plain_join s ss out text others (Err why) b p q e = cc
   plain_join s ss out text others (Ok x) (Err why) p q e = cc
   plain_join s ss out text others (Ok x) (Ok y) p q e =
       let first = back plain (plain_filler s.end_line) IsSaid (λ (d : Draft). HasOctets d.form) (λ spec c. refl) (plain_one s.end_line) course s.items x good text p in
       let rest = others y q in
-      let joined : x ++ y ≡ out = same_ok (x ++ y) out e in
       record {
-        subsets = first.items ∷ rest.subsets;
+        values = apart (first.items ∷ each_subset (length ss) rest.values);
         said = (first.said, rest.said);
-        read = λ more.
-            let turned : x ++ (y ++ more) ≡ out ++ more = sym (append_assoc x y more) ∙ ap (λ z. z ++ more) joined in
-            (y ++ more, subst (λ bits. ReadsPass plain course first.items bits (y ++ more)) turned (first.read (y ++ more)), rest.read more);
+        read = subst (AreReadAs course false (length (s ∷ ss)) (apart (first.items ∷ each_subset (length ss) rest.values))) (same_ok (x ++ y) out e)
+            (subset_then course sane (length ss) first.items rest.values x y first.read first.end rest.read);
       }
 
-  plain_back : (ss : List Subset) (out : List Bool) → AllHaveOctets ss → plain_data course ss ≡ Ok out → IsPlainBack course ss out
-  plain_back [] out text e = record { subsets = []; said = tt; read = λ more. ap (λ x. x ++ more) (sym (same_ok [] out e)) }
+  plain_back : (ss : List Subset) (out : List Bool) → AllHaveOctets ss → plain_data course ss ≡ Ok out → IsReadBack course false ss out
+  plain_back [] out text e = record { values = apart []; said = tt; read = subst (AreReadAs course false 0 (apart [])) (same_ok [] out e) (none_read course) }
   plain_back (s ∷ ss) out text e = plain_join s ss out text.0 (λ rest q. plain_back ss rest text.1 q) (fill (plain_filler s.end_line) course s.items) (plain_data course ss) refl refl
       e
 
@@ -277,7 +271,7 @@ few_rows n (suc count) from ss (i ∷ items) few h =
 packed_back : (table : List Row) (template : Tree) (read : AreRead table) (legal : IsLegal template) (ss : List Subset) (out : List Bool) → AllHaveOctets ss
     → packed_data (next_item table template) ss ≡ Ok out → IsReadBack (next_item table template) true ss out
 packed_back table template read legal [] out text e =
-    record { values = together []; said = tt; read = λ more. packed_reads table template read legal [] 0 out more (refl, ap (λ x. x ++ more) (sym (same_ok [] out e))) }
+    record { values = together []; said = tt; read = subst (AreReadAs (next_item table template) true 0 (together [])) (same_ok [] out e) (none_read_together (next_item table template)) }
 packed_back table template read legal (s ∷ ss) out text e =
     let n = length (s ∷ ss) in
     let most = most_items (s ∷ ss) in
@@ -288,17 +282,12 @@ packed_back table template read legal (s ∷ ss) out text e =
     record {
       values = together b.items;
       said = all_subsets 0 most (s ∷ ss) b.items (rows_said n b.items (rows most 0 (s ∷ ss)) b.said) (omega arith);
-      read = λ more. packed_reads table template read legal b.items n out more
-          (b.read more, subst (λ k. k * n ≤ max_values) zero_more (few_rows n most 0 (s ∷ ss) b.items (omega arith) b.said));
+      read = items_read (next_item table template) (legal_sane table template read legal) (length ss) b.items out b.read b.end
+          (subst (λ k. k * n ≤ max_values) zero_more (few_rows n most 0 (s ∷ ss) b.items (omega arith) b.said));
     }
 
 pub read_back : (table : List Row) (template : Tree) → AreRead table → IsLegal template → (compressed : Bool) (drafts : List Subset) (bits : List Bool) → AllHaveOctets drafts
     → data_bits compressed (next_item table template) drafts ≡ Ok bits → IsReadBack (next_item table template) compressed drafts bits
 read_back table template read legal true drafts bits text e = packed_back table template read legal drafts bits text e
 read_back table template read legal false drafts bits text e =
-    let b = plain_back (next_item table template) (next_field table template read legal) drafts bits text e in
-    record {
-      values = apart b.subsets;
-      said = b.said;
-      read = λ more. plain_reads table template read legal b.subsets (length drafts) bits more (b.read more, sym (AllZip-long _ b.subsets drafts b.said));
-    }
+    plain_back (next_item table template) (legal_sane table template read legal) (next_field table template read legal) drafts bits text e

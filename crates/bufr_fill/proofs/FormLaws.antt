@@ -4,11 +4,12 @@ use Rattle.std.proofs.Common.{◌≡◌, ℕ, ◌+◌, ◌*◌, ◌≤◌, Bool,
 use Rattle.std.specs.List.{list_all, AllByRecursion, AllZip}
 use Rattle.std.proofs.lemmas.Bool.{le-ltb}
 use Rattle.std.proofs.lemmas.List.{length-append}
-use Rattle.bufr_walk.specs.Prelude.{FieldSpec, IsSpec, Content, found, bits_for, answer_by_role, answer_of, FieldFault, plain_field, missing, unequal_factor, packed_field, answer_first, max_values, Item, packed, plain, after, ReadsPass, ReadsSubsets, IsPackedReading, content_at, Course, take_next, at_end, subsets_from, items_of_subset, would_be_many}
-use Rattle.bufr_walk.specs.Prelude.{together as values_together}
-use Rattle.bufr_fill.specs.Prelude.{ItemFault, Taken, Role, packing, same, packed_bits, packed_unlike, written_item, fill, with_bits_before, plain_filler, RowCell, ItemRow, map_err, content_here, contents_here, pack_across, packed_filler, first_line, unlike_line, ◌>>=◌, plain_data, item_row, cells_at, rows, most_items, packing_fault, packed_data, Fits, AllFit, IsDumped, AreDrafts, AreDumped, IsSaid, AreSaid, IsUnlike, IsTogetherOrNot, HasReading, Draft, Subset, at_line, too_many_values, content_of}
+use Rattle.bufr_walk.specs.Prelude.{FieldSpec, IsSpec, Content, found, bits_for, answer_by_role, answer_of, FieldFault, plain_field, missing, unequal_factor, packed_field, answer_first, max_values, Item, packed, plain, after, apart, ReadsItems, answers_in, content_at, Course, take_next, at_end, subsets_from, items_of_subset, would_be_many}
+use Rattle.bufr_walk.proofs.CourseLemmas.{IsSane}
+use Rattle.bufr_fill.proofs.ReadsLemmas.{AreReadAs, subset_then, items_read, none_read, none_read_together}
+use Rattle.bufr_fill.specs.Prelude.{ItemFault, Taken, Role, packing, same, packed_bits, packed_unlike, written_item, fill, with_bits_before, plain_filler, RowCell, ItemRow, map_err, content_here, contents_here, pack_across, packed_filler, first_line, unlike_line, ◌>>=◌, plain_data, item_row, cells_at, rows, most_items, packing_fault, packed_data, Fits, AllFit, IsDumped, AreDrafts, AreDumped, IsSaid, AreSaid, IsUnlike, IsTogetherOrNot, Draft, Subset, at_line, too_many_values, content_of}
 use Rattle.bufr_fill.proofs.FillSteps.{filled, fill_more, fill_end, plain_both}
-use Rattle.bufr_fill.proofs.PlainLaws.{IsSaidRow, item_bits, join, IsRewritten, draft_again, same_draft, AllSpecs, plain_again, EachSpecs, width_least, plain_read, content_length}
+use Rattle.bufr_fill.proofs.PlainLaws.{IsSaidRow, item_bits, join, IsRewritten, draft_again, same_draft, AllFields, plain_again, width_least, plain_read, content_length}
 use Rattle.bufr_fill.proofs.PackedLaws.{packed_again, packed_count, fitting_again}
 use Rattle.bufr_bits.proofs.DecimalLemmas.{and_first, and_second}
 use Rattle.bufr_fill.proofs.LeastLemmas.{content_same}
@@ -64,10 +65,11 @@ Follows course (i ∷ items) = (course [] ≡ take_next i.spec) × IsSpec i.spec
 -- the drafts with the contents of items are written, and read again
 pub record ArePlain (end_line : ℕ) (course : Course) (items : List (Item Content)) (ds : List Draft) : Type 0 where
   pub fills : fill (plain_filler end_line) course ds ≡ Ok (flat_map item_bits items)
-  pub again : (more : List Bool) → ReadsPass plain course items (flat_map item_bits items ++ more) more
+  pub again : (more : List Bool) → ReadsItems plain course items (flat_map item_bits items ++ more) more
+  pub end : course (answers_in answer_of items) ≡ at_end
 
 pub plain_subset : (end_line : ℕ) (course : Course) (items : List (Item Content)) (ds : List Draft) → Follows course items → AreDrafts IsSaid items ds → ArePlain end_line course items ds
-plain_subset end_line course [] [] h said = record { fills = fill_end (plain_filler end_line) course h; again = λ more. (refl, h) }
+plain_subset end_line course [] [] h said = record { fills = fill_end (plain_filler end_line) course h; again = λ more. refl; end = h }
 plain_subset end_line course (i ∷ items) (d ∷ ds) h said =
     let first = item_bits i in
     let others = flat_map item_bits items in
@@ -75,15 +77,13 @@ plain_subset end_line course (i ∷ items) (d ∷ ds) h said =
     record {
       fills = join plain (plain_filler end_line) (λ spec c. refl) course i d ds first others h.0
           (ap (λ r. map_err (at_line d.line) r >>= λ c. Ok (written_item c (bits_for i.spec.width c))) said.0) rest.fills;
-      again = λ more. let r = rest.again more in (
-        (
-          others ++ more,
-          h.0,
-          subst (λ bits. plain_field i.spec bits ≡ Ok (found i.content (others ++ more))) (sym (append_assoc first others more)) (plain_again i.spec h.1 i.content h.2 (others ++ more)),
-          r.0,
-        ),
-        r.1,
+      again = λ more. (
+        others ++ more,
+        h.0,
+        subst (λ bits. plain_field i.spec bits ≡ Ok (found i.content (others ++ more))) (sym (append_assoc first others more)) (plain_again i.spec h.1 i.content h.2 (others ++ more)),
+        rest.again more,
       );
+      end = rest.end;
     }
 plain_subset end_line course items ds h said = absurd said
 
@@ -97,24 +97,21 @@ subset_bits subsets = flat_map (flat_map item_bits) subsets
 
 pub record AreAllPlain (course : Course) (subsets : List (List (Item Content))) (drafts : List Subset) : Type 0 where
   pub is : plain_data course drafts ≡ Ok (subset_bits subsets)
-  pub again : (more : List Bool) → ReadsSubsets course subsets (subset_bits subsets ++ more) more
+  pub again : AreReadAs course false (length subsets) (apart subsets) (subset_bits subsets)
 
-pub plain_subsets : (course : Course) (subsets : List (List (Item Content))) (drafts : List Subset) → AllFollow course subsets → AreSaid subsets drafts → AreAllPlain course subsets drafts
-plain_subsets course [] [] h said = record { is = refl; again = λ more. refl }
-plain_subsets course (items ∷ subsets) (s ∷ ss) h said =
+pub plain_subsets : (course : Course) → ((m : ℕ) → IsSane m course) → (subsets : List (List (Item Content))) (drafts : List Subset) → AllFollow course subsets → AreSaid subsets drafts
+    → AreAllPlain course subsets drafts
+plain_subsets course sane [] [] h said = record { is = refl; again = none_read course }
+plain_subsets course sane (items ∷ subsets) (s ∷ ss) h said =
     let bits = flat_map item_bits items in
     let others = subset_bits subsets in
     let first = plain_subset s.end_line course items s.items h.0 said.0 in
-    let rest = plain_subsets course subsets ss h.1 said.1 in
+    let rest = plain_subsets course sane subsets ss h.1 said.1 in
     record {
       is = plain_both course s ss bits others first.fills rest.is;
-      again = λ more. (
-        others ++ more,
-        subst (λ xs. ReadsPass plain course items xs (others ++ more)) (sym (append_assoc bits others more)) (first.again (others ++ more)),
-        rest.again more,
-      );
+      again = subset_then course sane (length subsets) items (apart subsets) bits others first.again first.end rest.again;
     }
-plain_subsets course subsets ss h said = absurd said
+plain_subsets course sane subsets ss h said = absurd said
 
 -- ---- The drafts that a dump writes for items have the contents of these items.
 
@@ -174,19 +171,19 @@ one_of n spec (c ∷ cs) j bits mid good h e =
     record { fits = fit_at spec (c ∷ cs) j p.2.fits within; gives = packed_alike spec c cs p.2.out j p.2.is within }
 
 -- the items of one subset follow one another
-follows_packed : (n j : ℕ) (course : Course) (items : List (Item (List Content))) (bits suffix : List Bool) → j < n → AllSpecs items → ReadsPass (packed n) course items bits suffix
-    → Follows course (items_of_subset j items)
-follows_packed n j course [] bits suffix h specs r = r.1
-follows_packed n j course (i ∷ items) bits suffix h specs r =
-    let one = one_of n i.spec i.content j bits r.0.0 specs.0 h r.0.2 in
-    let rest = follows_packed n j (after (packed n) course i) items r.0.0 suffix h specs.1 (r.0.3, r.1) in
-    (r.0.1, specs.0, one.fits, subst (λ (t : Taken). Follows (λ answer_of. course (t ∷ answer_of)) (items_of_subset j items)) (sym one.gives) rest)
+follows_packed : (n j : ℕ) (course : Course) (items : List (Item (List Content))) (bits suffix : List Bool) → j < n → AllFields items → ReadsItems (packed n) course items bits suffix
+    → course (answers_in answer_first items) ≡ at_end → Follows course (items_of_subset j items)
+follows_packed n j course [] bits suffix h fields r end = end
+follows_packed n j course (i ∷ items) bits suffix h fields r end =
+    let one = one_of n i.spec i.content j bits r.0 fields.0.spec h r.2 in
+    let rest = follows_packed n j (after (packed n) course i) items r.0 suffix h fields.1 r.3 end in
+    (r.1, fields.0.spec, one.fits, subst (λ (t : Taken). Follows (λ answer_of. course (t ∷ answer_of)) (items_of_subset j items)) (sym one.gives) rest)
 
-all_follow : (n j left : ℕ) (course : Course) (items : List (Item (List Content))) (bits suffix : List Bool) → j + left ≤ n → AllSpecs items → ReadsPass (packed n) course items bits suffix
-    → AllFollow course (subsets_from left j items)
-all_follow n j zero course items bits suffix h specs r = tt
-all_follow n j (suc left) course items bits suffix h specs r =
-    (follows_packed n j course items bits suffix (omega (arith, h)) specs r, all_follow n (suc j) left course items bits suffix (omega (arith, h)) specs r)
+pub all_follow : (n j left : ℕ) (course : Course) (items : List (Item (List Content))) (bits suffix : List Bool) → j + left ≤ n → AllFields items → ReadsItems (packed n) course items bits suffix
+    → course (answers_in answer_first items) ≡ at_end → AllFollow course (subsets_from left j items)
+all_follow n j zero course items bits suffix h fields r end = tt
+all_follow n j (suc left) course items bits suffix h fields r end =
+    (follows_packed n j course items bits suffix (omega (arith, h)) fields r end, all_follow n (suc j) left course items bits suffix (omega (arith, h)) fields r end)
 
 pub length-subsets_from : (n j : ℕ) (items : List (Item (List Content))) → length (subsets_from n j items) ≡ n
 length-subsets_from zero j items = refl
@@ -195,11 +192,6 @@ length-subsets_from (suc n) j items = ap suc (length-subsets_from n (suc j) item
 -- as many drafts as subsets
 pub subset_count : (R : List (Item Content) → Subset → Type 0) (n : ℕ) (items : List (Item (List Content))) (ss : List Subset) → AllZip R (subsets_from n 0 items) ss → length ss ≡ n
 subset_count R n items ss h = AllZip-long R (subsets_from n 0 items) ss h ∙ length-subsets_from n 0 items
-
-pub follow_reading : (n : ℕ) (course : Course) (items : List (Item (List Content))) (bits suffix : List Bool) → AllSpecs items → IsPackedReading n course items bits suffix
-    → AllFollow course (subsets_from n 0 items)
-follow_reading zero course items bits suffix specs r = tt
-follow_reading (suc n) course items bits suffix specs r = all_follow (suc n) 0 (suc n) course items bits suffix (omega arith) specs r.0
 
 -- ---- Items that were read subset after subset are written together so that they are read again.
 -- Otherwise their factors differ, or no increments can write their contents.
@@ -371,7 +363,8 @@ record IsTogether (n : ℕ) (course : Course) (rests : List (List (Item Content)
   parts : AreParts 0 items rests
   out : List Bool
   fills : fill (packed_filler end_line many) course drafts ≡ Ok out
-  again : (more : List Bool) → ReadsPass (packed n) course items (out ++ more) more
+  again : (more : List Bool) → ReadsItems (packed n) course items (out ++ more) more
+  end : course (answers_in answer_first items) ≡ at_end
   few : length items * n ≤ total rests
 
 record IsNot (course : Course) (drafts : List ItemRow) (end_line : ℕ) (many : Bool) : Type 0 where
@@ -420,15 +413,13 @@ module _ (end_line : ℕ) (many : Bool) where
             parts = more_parts 0 spec (c ∷ cs) x.items rs (sym f) h x.parts;
             out = w ++ x.out;
             fills = fill_first course spec a more (Ok w) (c ∷ cs) next gives ∙ ap (with_bits_before (packed_filler end_line many) w) x.fills;
-            again = λ bits. let r = x.again bits in (
-              (
-                x.out ++ bits,
-                next,
-                ap (packed_field n spec) (append_assoc w x.out bits) ∙ fitting_again n spec good c cs w (x.out ++ bits) fits long p,
-                r.0,
-              ),
-              r.1,
+            again = λ bits. (
+              x.out ++ bits,
+              next,
+              ap (packed_field n spec) (append_assoc w x.out bits) ∙ fitting_again n spec good c cs w (x.out ++ bits) fits long p,
+              x.again bits,
             );
+            end = x.end;
             few = let e : suc (length x.items) * n ≡ n + length x.items * n = grind arith in omega (arith, x.few, e, count, total_tails spec rs h);
           })
 
@@ -443,7 +434,8 @@ module _ (end_line : ℕ) (many : Bool) where
         parts = none.0;
         out = [];
         fills = fill_end (packed_filler end_line many) course f.0;
-        again = λ more. (refl, f.0);
+        again = λ more. refl;
+        end = f.0;
         few = omega arith;
       }))
   from_index course (i ∷ items) rs ss p f d few =
@@ -477,32 +469,40 @@ record AreFollowed (course : Course) (items : List (Item Content)) (bits suffix 
   short : length (flat_map item_bits items) + length suffix ≤ length bits
   least : length items ≤ length (flat_map item_bits items)
 
-followed : (course : Course) (items : List (Item Content)) (bits suffix : List Bool) → AllSpecs items → ReadsPass plain course items bits suffix → AreFollowed course items bits suffix
-followed course [] bits suffix specs r = record { follow = r.1; short = omega (arith, ap length r.0); least = omega arith }
-followed course (i ∷ items) bits suffix specs r =
-    let rest = followed (after plain course i) items r.0.0 suffix specs.1 (r.0.3, r.1) in
-    let read = plain_read i.spec specs.0 bits r.0.0 i.content r.0.2 in
-    let long = content_length i.spec specs.0 i.content read.0 in
+followed : (course : Course) (items : List (Item Content)) (bits suffix : List Bool) → AllFields items → ReadsItems plain course items bits suffix → course (answers_in answer_of items) ≡ at_end
+    → AreFollowed course items bits suffix
+followed course [] bits suffix fields r end = record { follow = end; short = omega (arith, ap length r); least = omega arith }
+followed course (i ∷ items) bits suffix fields r end =
+    let rest = followed (after plain course i) items r.0 suffix fields.1 r.3 end in
+    let read = plain_read i.spec fields.0.spec bits r.0 i.content r.2 in
+    let long = content_length i.spec fields.0.spec i.content read.0 in
     let both = length-append (item_bits i) (flat_map item_bits items) in
     record {
-      follow = (r.0.1, specs.0, read.0, rest.follow);
+      follow = (r.1, fields.0.spec, read.0, rest.follow);
       short = omega (arith, rest.short, read.1, long, both);
-      least = omega (arith, rest.least, long, both, width_least i.spec.kind i.spec.width (specs.0).width);
+      least = omega (arith, rest.least, long, both, width_least i.spec.kind i.spec.width fields.0.spec.width);
     }
 
-pub record AreAllFollowed (course : Course) (subsets : List (List (Item Content))) (bits suffix : List Bool) : Type 0 where
+pub record AreAllFollowed (course : Course) (n : ℕ) (subsets : List (List (Item Content))) (bits suffix : List Bool) : Type 0 where
   pub follow : AllFollow course subsets
   pub short : length (subset_bits subsets) + length suffix ≤ length bits
   pub least : total subsets ≤ length (subset_bits subsets)
+  pub count : length subsets ≡ n
 
-pub all_followed : (course : Course) (subsets : List (List (Item Content))) (bits suffix : List Bool) → EachSpecs subsets → ReadsSubsets course subsets bits suffix
-    → AreAllFollowed course subsets bits suffix
-all_followed course [] bits suffix specs r = record { follow = tt; short = omega (arith, ap length r); least = omega arith }
-all_followed course (items ∷ subsets) bits suffix specs r =
-    let first = followed course items bits r.0 specs.0 r.1 in
-    let rest = all_followed course subsets r.0 suffix specs.1 r.2 in
+pub none_followed : (course : Course) (bits : List Bool) → AreAllFollowed course 0 [] bits bits
+none_followed course bits = record { follow = tt; short = omega arith; least = omega arith; count = refl }
+
+pub more_followed : (course : Course) (n : ℕ) (items : List (Item Content)) (subsets : List (List (Item Content))) (bits mid suffix : List Bool) → AllFields items
+    → ReadsItems plain course items bits mid → course (answers_in answer_of items) ≡ at_end → AreAllFollowed course n subsets mid suffix → AreAllFollowed course (suc n) (items ∷ subsets) bits suffix
+more_followed course n items subsets bits mid suffix fields r end rest =
+    let first = followed course items bits mid fields r end in
     let both = length-append (flat_map item_bits items) (subset_bits subsets) in
-    record { follow = (first.follow, rest.follow); short = omega (arith, first.short, rest.short, both); least = omega (arith, first.least, rest.least, both) }
+    record {
+      follow = (first.follow, rest.follow);
+      short = omega (arith, first.short, rest.short, both);
+      least = omega (arith, first.least, rest.least, both);
+      count = ap suc rest.count;
+    }
 
 said_from : (subsets : List (List (Item Content))) (ss : List Subset) → AreSaid subsets ss → SaidAt 0 subsets ss × (most_items ss ≡ longest_left subsets)
 said_from [] [] h = (tt, refl)
@@ -512,20 +512,14 @@ said_from (items ∷ subsets) (s ∷ ss) h =
 said_from subsets ss h = absurd h
 
 -- data that were read subset after subset are written together, where their contents can be
-pub together : (course : Course)
-    → ((items : List (Item (List Content))) (n : ℕ) (out more : List Bool) → IsPackedReading n course items (out ++ more) more
-    → HasReading course (record { compressed = true; subsets = n; bits = out ++ more }) (values_together items) (length out))
-    → (subsets : List (List (Item Content))) (drafts : List Subset) (bits suffix : List Bool) → length bits ≤ max_values → EachSpecs subsets → AreDumped subsets drafts
-    → ReadsSubsets course subsets bits suffix → IsTogetherOrNot course subsets drafts
-together course reads [] [] bits suffix few specs dumped r = inl ([], refl, record { out = []; is = refl; again = λ more. reads [] 0 [] more (refl, refl) })
-together course reads (items ∷ subsets) (s ∷ ss) bits suffix few specs dumped r =
+pub together : (course : Course) → ((m : ℕ) → IsSane m course) → (n : ℕ) (subsets : List (List (Item Content))) (drafts : List Subset) (bits suffix : List Bool) → length bits ≤ max_values
+    → AreDumped subsets drafts → AreAllFollowed course n subsets bits suffix → IsTogetherOrNot course subsets drafts
+together course sane n [] [] bits suffix few dumped all = inl ([], refl, record { out = []; is = refl; again = none_read_together course })
+together course sane n (items ∷ subsets) (s ∷ ss) bits suffix few dumped all =
     by (from_index s.end_line many course items subsets (s ∷ ss) 0 all.follow at.0 (omega (arith, all.short, all.least, few)))
   where
     many : Bool
     many = would_be_many (length (s ∷ ss)) (most_items (s ∷ ss))
-
-    all : AreAllFollowed course (items ∷ subsets) bits suffix
-    all = all_followed course (items ∷ subsets) bits suffix specs r
 
     at : SaidAt 0 (items ∷ subsets) (s ∷ ss) × (most_items (s ∷ ss) ≡ longest_left (items ∷ subsets))
     at = said_from (items ∷ subsets) (s ∷ ss) (subsets_said course (items ∷ subsets) (s ∷ ss) all.follow dumped)
@@ -541,7 +535,7 @@ together course reads (items ∷ subsets) (s ∷ ss) bits suffix few specs dumpe
       record {
         out = x.out;
         is = data_are ∙ x.fills;
-        again = λ more. reads x.items (suc (length subsets)) x.out more (x.again more, omega (arith, x.few, all.short, all.least, few));
+        again = items_read course sane (length subsets) x.items x.out x.again x.end (omega (arith, x.few, all.short, all.least, few));
       },
     )
-together course reads subsets ss bits suffix few specs dumped r = absurd dumped
+together course sane n subsets ss bits suffix few dumped all = absurd dumped

@@ -4,13 +4,12 @@ use Rattle.bufr_fill.proofs.PackedBack.{AreOctets-append, AreOctets-spaces}
 use Rattle.bufr_fill.proofs.FieldLemmas.{same_ok}
 use Rattle.std.proofs.lemmas.Bool.{ltb-false, ltb-true}
 use Rattle.bufr_tables.specs.Prelude.{is_character}
-use Rattle.bufr_walk.specs.Prelude.{FieldSpec, IsSpec, HasWidth, HasRole, is_reference, Content, number, text, missing, reference, answer_by_role, answer_of, found, plain_field, packed_field, answer_first, Course, Item, DataCoding, plain, packed, ReadsItems, ReadsSubsets, after}
+use Rattle.bufr_walk.specs.Prelude.{FieldSpec, IsSpec, HasWidth, HasRole, is_reference, Content, number, text, missing, reference, answer_by_role, answer_of, found, plain_field, packed_field, answer_first, Course, Item, DataCoding, ReadsItems, after}
 use Rattle.bufr_fill.specs.Prelude.{Role, Kind, FitsRole, AreOctets, FitsNumber, FitsText, FitsReference, FitsKind, Fits, HasOctets, DraftValue, number_token, text_form, missing_form, reference_token, Draft, is_marked, raw_within, raw_of, reference_of, text_within, content_by_form, is_of, wrong_for, content_of, raw_limit}
 use Rattle.bufr_fill.specs.declared.fault.ItemFault.TheVariants as wrong
 use Rattle.bufr_walk.proofs.NextField.{IsGoodCourse}
 use Rattle.bufr_walk.specs.Prelude.{IsField, IsWithin}
-use Rattle.std.specs.List.{AllByRecursion}
-use Rattle.bufr_fill.proofs.PlainLaws.{AllSpecs, EachSpecs, plain_read}
+use Rattle.bufr_fill.proofs.PlainLaws.{AllFields, plain_read}
 use Rattle.bufr_fill.proofs.PackedLaws.{packed_again}
 use Rattle.std.specs.List.{list_all}
 use Rattle.std.proofs.lemmas.List.{length-append, length-replicate}
@@ -19,13 +18,6 @@ use Rattle.bufr_bits.specs.Prelude.{decimal_value_of}
 use Rattle.bufr_bits.specs.declared.decimal.NumberFault.{NumberFault}
 use Rattle.bufr_tables.specs.declared.table_b.Kind.TheVariants as kind
 use Rattle.bufr_walk.specs.declared.spec.Role.TheVariants as role
-
--- items of fields, and those of each subset
-abbrev pub AllFields : {C : Type 0} → List (Item C) → Type 0
-AllFields {C} items = AllByRecursion (λ (i : Item C). IsField i.spec) items
-
-abbrev pub EachFields : List (List (Item Content)) → Type 0
-EachFields subsets = AllByRecursion (λ (items : List (Item Content)). AllFields items) subsets
 
 narrow : (k : Kind) (w : ℕ) → HasWidth k w → k ≡ kind.Numeric → w ≤ 63
 narrow kind.Character w h e = absurd cc
@@ -40,40 +32,20 @@ answer_within role.Reference spec c good hr h = absurd h
 answer_within r spec c good hr h = tt
 
 module _ {C : Type 0} (form : DataCoding C) (gives : (spec : FieldSpec) (c : C) (bits mid : List Bool) → IsSpec spec → form.field spec bits ≡ Ok (found c mid) → IsWithin (form.gives spec c)) where
-  fields_of_reads : (course : Course) (items : List (Item C)) (bits suffix : List Bool) → IsGoodCourse course → ReadsItems form course items bits suffix → AllFields items
+  -- the items that are read are of fields
+  pub fields_of_reads : (course : Course) (items : List (Item C)) (bits suffix : List Bool) → IsGoodCourse course → ReadsItems form course items bits suffix → AllFields items
   fields_of_reads course [] bits suffix good h = tt
   fields_of_reads course (i ∷ items) bits suffix good h =
       let here : IsField i.spec = good [] i.spec tt h.1 in
       let within : IsWithin (form.gives i.spec i.content) = gives i.spec i.content bits h.0 here.spec h.2 in
       (here, fields_of_reads (after form course i) items h.0 suffix (λ answers spec w e. good (form.gives i.spec i.content ∷ answers) spec (within, w) e) h.3)
 
-pub all_specs : {C : Type 0} (items : List (Item C)) → AllFields items → AllSpecs items
-all_specs [] h = tt
-all_specs (i ∷ items) h = (h.0.spec, all_specs items h.1)
-
-each_specs : (subsets : List (List (Item Content))) → EachFields subsets → EachSpecs subsets
-each_specs [] h = tt
-each_specs (items ∷ subsets) h = (all_specs items h.0, each_specs subsets h.1)
-
-plain_gives : (spec : FieldSpec) (c : Content) (bits mid : List Bool) → IsSpec spec → plain_field spec bits ≡ Ok (found c mid) → IsWithin (answer_of spec c)
+pub plain_gives : (spec : FieldSpec) (c : Content) (bits mid : List Bool) → IsSpec spec → plain_field spec bits ≡ Ok (found c mid) → IsWithin (answer_of spec c)
 plain_gives spec c bits mid good e = answer_within spec.role spec c good good.role (plain_read spec good bits mid c e).0
 
-packed_gives : (n : ℕ) (spec : FieldSpec) (cs : List Content) (bits mid : List Bool) → IsSpec spec → packed_field n spec bits ≡ Ok (found cs mid) → IsWithin (answer_first spec cs)
+pub packed_gives : (n : ℕ) (spec : FieldSpec) (cs : List Content) (bits mid : List Bool) → IsSpec spec → packed_field n spec bits ≡ Ok (found cs mid) → IsWithin (answer_first spec cs)
 packed_gives n spec [] bits mid good e = tt
 packed_gives n spec (c ∷ cs) bits mid good e = answer_within spec.role spec c good good.role (packed_again n spec good c cs bits mid e).2.fits.0
-
-pub plain_fields : (course : Course) (subsets : List (List (Item Content))) (bits suffix : List Bool) → IsGoodCourse course → ReadsSubsets course subsets bits suffix → EachFields subsets
-plain_fields course [] bits suffix good h = tt
-plain_fields course (items ∷ subsets) bits suffix good h = (fields_of_reads plain plain_gives course items bits h.0 good h.1.0, plain_fields course subsets h.0 suffix good h.2)
-
-pub plain_specs : (course : Course) (subsets : List (List (Item Content))) (bits suffix : List Bool) → IsGoodCourse course → ReadsSubsets course subsets bits suffix → EachSpecs subsets
-plain_specs course subsets bits suffix good h = each_specs subsets (plain_fields course subsets bits suffix good h)
-
-pub packed_fields : (n : ℕ) (course : Course) (items : List (Item (List Content))) (bits suffix : List Bool) → IsGoodCourse course → ReadsItems (packed n) course items bits suffix → AllFields items
-packed_fields n course items bits suffix good h = fields_of_reads (packed n) (packed_gives n) course items bits suffix good h
-
-pub packed_specs : (n : ℕ) (course : Course) (items : List (Item (List Content))) (bits suffix : List Bool) → IsGoodCourse course → ReadsItems (packed n) course items bits suffix → AllSpecs items
-packed_specs n course items bits suffix good h = all_specs items (packed_fields n course items bits suffix good h)
 
 -- ---- The content of an item fits its field.
 

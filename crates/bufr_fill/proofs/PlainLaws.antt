@@ -1,7 +1,7 @@
 -- A plain field that was read is written from the item that a dump writes, and read again.
 use Rattle.std.proofs.lemmas.Grind.{common_steps}
 use Rattle.std.proofs.lemmas.Bool.{eqb-true, le-ltb, lt-ltb, eq-eqb}
-use Rattle.bufr_walk.specs.Prelude.{FieldSpec, IsSpec, HasWidth, HasRole, HasMissing, is_reference, Content, found, number, text, missing, reference, octets_in, content_by, coding_by, content_in, bits_for, data_end, FieldRead, plain_field, signed_by, sign_bit, max_values, Item, DataCoding, ReadsItems, ReadsPass, after, Course, take_next}
+use Rattle.bufr_walk.specs.Prelude.{FieldSpec, IsSpec, IsField, HasWidth, HasRole, HasMissing, is_reference, Content, found, number, text, missing, reference, octets_in, content_by, coding_by, content_in, bits_for, data_end, FieldRead, plain_field, signed_by, sign_bit, max_values, Item, DataCoding, ReadsItems, answers_in, after, Course, take_next, at_end}
 use Rattle.bufr_fill.specs.Prelude.{ItemFault, Role, Kind, Draft, DraftValue, number_token, text_form, missing_form, reference_token, draft_value_of, content_of, content_by_form, raw_within, raw_of, reference_of, text_within, is_marked, wrong_for, IsMinusZero, is_of, decimal_again, normal_form, raw_limit, ItemRow, written_item, Filler, fill, with_bits_before, AreDrafts, contents_here, FitsText, FitsKind, FitsRole, Fits}
 use Rattle.bufr_fill.specs.declared.fault.ItemFault.TheVariants as wrong
 use Rattle.bufr_fill.proofs.FillSteps.{fill_more, fill_end}
@@ -20,15 +20,11 @@ use Rattle.bufr_bits.specs.declared.decimal.NumberFault.{NumberFault}
 use Rattle.bufr_tables.specs.declared.table_b.Kind.TheVariants as kind
 use Rattle.bufr_walk.specs.declared.spec.Role.TheVariants as role
 
--- Lists in the lemmas on a round trip: each item's specification, the number of its contents, and
--- its row.
+-- Lists in the lemmas on a round trip: each item's field, the number of its contents, and its row.
 
--- each item's specification is one
-abbrev pub AllSpecs : {C : Type 0} → List (Item C) → Type 0
-AllSpecs {C} items = AllByRecursion (λ (i : Item C). IsSpec i.spec) items
-
-abbrev pub EachSpecs : List (List (Item Content)) → Type 0
-EachSpecs subsets = AllByRecursion (λ (items : List (Item Content)). AllSpecs items) subsets
+-- items of fields
+abbrev pub AllFields : {C : Type 0} → List (Item C) → Type 0
+AllFields {C} items = AllByRecursion (λ (i : Item C). IsField i.spec) items
 
 -- each item has so many contents
 abbrev pub HaveContents : ℕ → List (Item (List Content)) → Type 0
@@ -70,26 +66,26 @@ module _ {C D E : Type 0} (form : DataCoding C) (filler : Filler D C E) (of_item
     (same_answer : (spec : FieldSpec) (c : C) → filler.gives spec c ≡ form.gives spec c)
     (one : (i : Item C) (d : D) (bits mid : List Bool) → IsSpec i.spec → of_item i d → form.field i.spec bits ≡ Ok (found i.content mid)
     → IsRewritten form filler i d (bits_of_item i) bits mid) where
-  pub rewritten : (course : Course) (items : List (Item C)) (ds : List D) (bits suffix : List Bool) → AllSpecs items → AreDrafts of_item items ds → ReadsPass form course items bits suffix
-      → AreRewritten form filler course items ds (flat_map bits_of_item items) bits suffix
-  rewritten course [] [] bits suffix specs drafts h = record { fills = fill_end filler course h.1; again = λ more. refl; short = omega (arith, ap length h.0) }
-  rewritten course (i ∷ items) (d ∷ ds) bits suffix specs drafts h =
-      let mid = h.0.0 in
+  pub rewritten : (course : Course) (items : List (Item C)) (ds : List D) (bits suffix : List Bool) → AllFields items → AreDrafts of_item items ds → ReadsItems form course items bits suffix
+      → course (answers_in form.gives items) ≡ at_end → AreRewritten form filler course items ds (flat_map bits_of_item items) bits suffix
+  rewritten course [] [] bits suffix fields drafts h end = record { fills = fill_end filler course end; again = λ more. refl; short = omega (arith, ap length h) }
+  rewritten course (i ∷ items) (d ∷ ds) bits suffix fields drafts h end =
+      let mid = h.0 in
       let first = bits_of_item i in
       let others = flat_map bits_of_item items in
-      let here = one i d bits mid specs.0 drafts.0 h.0.2 in
-      let rest = rewritten (after form course i) items ds mid suffix specs.1 drafts.1 (h.0.3, h.1) in
+      let here = one i d bits mid fields.0.spec drafts.0 h.2 in
+      let rest = rewritten (after form course i) items ds mid suffix fields.1 drafts.1 h.3 end in
       record {
-        fills = join form filler same_answer course i d ds first others h.0.1 here.fills rest.fills;
+        fills = join form filler same_answer course i d ds first others h.1 here.fills rest.fills;
         again = λ more. (
           others ++ more,
-          h.0.1,
+          h.1,
           subst (λ bits'. form.field i.spec bits' ≡ Ok (found i.content (others ++ more))) (sym (append_assoc first others more)) (here.again (others ++ more)),
           rest.again more,
         );
         short = omega (arith, here.short, rest.short, length-append first others);
       }
-  rewritten course items ds bits suffix specs drafts h = absurd drafts
+  rewritten course items ds bits suffix fields drafts h end = absurd drafts
 
 -- ---- The item that a dump writes for a content has that content.
 

@@ -1,59 +1,130 @@
--- A reading by its items, as the lemmas take it, is what the definition of the reading returns.
-use Rattle.std.proofs.Common.{◌≡◌, ℕ, ◌≤◌, Bool, true, false, List, ◌++◌, length, None, refl, sym, ◌∙◌, ap, subst, arith, length-drop, length-append}
+-- What is known of data that are read without a stop, and that bits are read so.
+use Rattle.std.proofs.Common.{◌≡◌, ℕ, zero, suc, ◌*◌, ◌≤◌, Bool, true, false, List, [], ◌∷◌, ◌++◌, length, drop, Option, Some, None, refl, sym, ◌∙◌, ap, subst, arith, append_assoc, length-append, if◌then◌else◌}
 use Rattle.std.proofs.Math.Seq.{drop-append_seam}
+use Rattle.std.specs.Prelude.{is_none, is_some}
 use Rattle.bufr_tables.specs.Prelude.{Row, Tree, IsLegal}
-use Rattle.bufr_walk.specs.Prelude.{Content, Item, Course, next_item, Data, Values, apart, together, each_subset, reading_of, IsReading, IsPlainReading, IsPackedReading}
-use Rattle.bufr_walk.proofs.NextField.{AreRead, row_found}
-use Rattle.bufr_walk.proofs.CourseLemmas.{IsSane, template_sane}
-use Rattle.bufr_walk.proofs.PassLemmas.{reading_is, reads_so}
+use Rattle.bufr_walk.proofs.NextField.{AreRead, next_field}
+use Rattle.bufr_fill.proofs.PlainLaws.{AllFields}
+use Rattle.bufr_fill.proofs.GoodReads.{fields_of_reads, plain_gives, packed_gives}
+use Rattle.bufr_walk.specs.Prelude.{Content, Item, Course, next_item, at_end, Data, Values, apart, together, each_subset, reading_of, ReadsItems, plain, packed, answers_in, answer_of, answer_first, max_values, would_be_many, Stop, DataPass, read_pass, passes_apart, passes_together, stop_of, left_after, items_by_pass, first_items, place_at}
+use Rattle.bufr_walk.specs.Pass.{reading_in}
+use Rattle.bufr_walk.proofs.CourseLemmas.{IsSane, plain_forth, packed_forth}
+use Rattle.bufr_walk.proofs.PassLemmas.{legal_sane, pass_reads, pass_whole, pass_at_end, next_pass, few_values, few_all, reading_left}
 use Rattle.bufr_fill.specs.Prelude.{HasReading}
-use Rattle.bufr_fill.proofs.FormLaws.{length-subsets_from}
 
-within : (course : Course) (d : Data) (v : Values) (used : ℕ) → IsReading course d v used → used ≤ length d.bits
-within course d (apart subsets) used h = h.1
-within course d (together items) used h = h.1
+abbrev pub is_together : Values → Bool
+is_together (apart subsets) = false
+is_together (together items) = true
+
+-- values are read in the form of the data
+pub form_is : (course : Course) (d : Data) (values : Values) (used : ℕ) → HasReading course d values used → d.compressed ≡ is_together values
+form_is course d values used h = by d.compressed h.values_are
+  where
+    by : (b : Bool) → (reading_in course b d.subsets d.bits).values ≡ values → b ≡ is_together values
+    by false e = ap is_together e
+    by true e = ap is_together e
+
+-- ---- Bits that are read as values.
+
+-- whatever follows them
+abbrev pub AreReadAs : Course → (compressed : Bool) → (subsets : ℕ) → Values → (out : List Bool) → Type 0
+AreReadAs course compressed n values out = (more : List Bool) → HasReading course (record { compressed = compressed; subsets = n; bits = out ++ more }) values (length out)
+
+module _ (course : Course) (sane : (m : ℕ) → IsSane m course) where
+  -- a subset, and those after it
+  pub subset_then : (n : ℕ) (items : List (Item Content)) (values : Values) (first others : List Bool)
+      → ((more : List Bool) → ReadsItems plain course items (first ++ more) more) → course (answers_in answer_of items) ≡ at_end
+      → AreReadAs course false n values others → AreReadAs course false (suc n) (apart (items ∷ each_subset n values)) (first ++ others)
+  subset_then n items values first others reads end rest more =
+      let bits = first ++ (others ++ more) in
+      let h = rest more in
+      let w = subst (λ (p : DataPass Content). let ps = p ∷ (if is_none p.stop then passes_apart course n p.state.left else []) in
+      (stop_of ps ≡ None) × (apart (items_by_pass ps) ≡ apart (items ∷ each_subset n values)) × (left_after bits ps ≡ more))
+      (sym (pass_whole plain plain_forth (λ items. false) course sane bits items (others ++ more) (reads (others ++ more)) (λ j l. refl) end))
+      (h.none, ap (λ v. apart (items ∷ each_subset n v)) h.values_are, h.left ∙ drop-append_seam others more) in
+      subst (λ bits. HasReading course (record { compressed = false; subsets = suc n; bits = bits }) (apart (items ∷ each_subset n values)) (length (first ++ others)))
+      (sym (append_assoc first others more))
+      (record {
+        none = w.0;
+        values_are = w.1;
+        left = w.2 ∙ sym (drop-append_seam (first ++ others) more) ∙ ap (drop (length (first ++ others))) (append_assoc first others more);
+        within = omega (arith, length-append first others, length-append first (others ++ more), length-append others more);
+      })
+
+  -- the items of compressed data
+  pub items_read : (n : ℕ) (items : List (Item (List Content))) (out : List Bool)
+      → ((more : List Bool) → ReadsItems (packed (suc n)) course items (out ++ more) more) → course (answers_in answer_first items) ≡ at_end → length items * suc n ≤ max_values
+      → AreReadAs course true (suc n) (together items) out
+  items_read n items out reads end few more =
+      let e = pass_whole (packed (suc n)) (packed_forth n) (would_be_many (suc n)) course sane (out ++ more) items more (reads more) (λ j l. few_values (suc n) (length items) j few l) end in
+      record {
+        none = ap (λ (p : DataPass (List Content)). stop_of (p ∷ [])) e;
+        values_are = ap (λ (p : DataPass (List Content)). together p.items) e;
+        left = ap (λ (p : DataPass (List Content)). p.state.left) e ∙ sym (drop-append_seam out more);
+        within = omega (arith, length-append out more);
+      }
+
+-- no subsets
+pub none_read : (course : Course) → AreReadAs course false 0 (apart []) []
+none_read course more = record { none = refl; values_are = refl; left = refl; within = omega arith }
+
+pub none_read_together : (course : Course) → AreReadAs course true 0 (together []) []
+none_read_together course more = record { none = refl; values_are = refl; left = refl; within = omega arith }
+
+-- ---- Data of a legal template that were read.
 
 module _ (table : List Row) (template : Tree) (rows : AreRead table) (legal : IsLegal template) where
-  sane : (m : ℕ) → IsSane m (next_item table template)
-  sane m = template_sane table (λ fxy row e. (row_found table fxy row rows e).listed.width) template legal m
+  abbrev course : Course
+  course = next_item table template
 
-  pub items_of : (d : Data) (v : Values) (used : ℕ) → HasReading (next_item table template) d v used → IsReading (next_item table template) d v used
-  items_of d v used h =
-      let r = reads_so (next_item table template) sane d h.none in
-      let same : r.0 ≡ used = omega (
-        arith,
-        within (next_item table template) d (reading_of (next_item table template) d).values r.0 r.1,
-        h.within,
-        ap length (sym r.2 ∙ h.left),
-        length-drop r.0 d.bits,
-        length-drop used d.bits,
-      ) in
-      subst (λ v. IsReading (next_item table template) d v used) h.values_are (subst (IsReading (next_item table template) d (reading_of (next_item table template) d).values) same r.1)
-
-  reads_of : (d : Data) (v : Values) (used : ℕ) → IsReading (next_item table template) d v used → HasReading (next_item table template) d v used
-  reads_of d v used h =
-      let r = reading_is (next_item table template) sane d v used h in
-      record { none = r.none; values_are = r.items; left = r.left; within = within (next_item table template) d v used h }
+  sane : (m : ℕ) → IsSane m course
+  sane m = legal_sane table template rows legal m
 
   -- how many bits a reading without a stop takes
-  pub reads_as : (d : Data) → (reading_of (next_item table template) d).stop ≡ None → (used : ℕ) × HasReading (next_item table template) d (reading_of (next_item table template) d).values used
-  reads_as d none =
-      let r = reads_so (next_item table template) sane d none in
-      (r.0, record { none = none; values_are = refl; left = r.2; within = within (next_item table template) d (reading_of (next_item table template) d).values r.0 r.1 })
+  pub reads_as : (d : Data) → (reading_of course d).stop ≡ None → (used : ℕ) × HasReading course d (reading_of course d).values used
+  reads_as d none = let s = reading_left course sane d in (s.0, record { none = none; values_are = refl; left = s.2; within = s.1 })
 
-  pub plain_reads : (subsets : List (List (Item Content))) (n : ℕ) (out more : List Bool) → IsPlainReading n (next_item table template) subsets (out ++ more) more
-      → HasReading (next_item table template) (record { compressed = false; subsets = n; bits = out ++ more }) (apart subsets) (length out)
-  plain_reads subsets n out more h =
-      reads_of (record { compressed = false; subsets = n; bits = out ++ more }) (apart subsets) (length out)
-      (refl, omega (arith, length-append out more), subst (IsPlainReading n (next_item table template) subsets (out ++ more)) (sym (drop-append_seam out more)) h)
+  -- What holds of no subsets, and of one more if it holds of those after it, holds of all that were read.
+  module _ (P : ℕ → List (List (Item Content)) → (bits left : List Bool) → Type 0) (none : (bits : List Bool) → P 0 [] bits bits)
+      (more : (n : ℕ) (items : List (Item Content)) (subsets : List (List (Item Content))) (bits mid left : List Bool) → AllFields items
+      → ReadsItems plain course items bits mid → course (answers_in answer_of items) ≡ at_end → P n subsets mid left → P (suc n) (items ∷ subsets) bits left) where
+    of_passes : (n : ℕ) (bits : List Bool) → stop_of (passes_apart course n bits) ≡ None → P n (items_by_pass (passes_apart course n bits)) bits (left_after bits (passes_apart course n bits))
+    of_passes zero bits h = none bits
+    of_passes (suc n) bits h =
+        let k = next_pass course (suc n) n bits refl h in
+        let p = read_pass plain (λ items. false) course bits in
+        let reads = (pass_reads plain plain_forth (λ items. false) course sane bits).0.reads in
+        subst (λ ps. P (suc n) (items_by_pass ps) bits (left_after bits ps)) (sym k.1)
+        (more n p.items _ bits p.state.left _ (fields_of_reads plain plain_gives course p.items bits p.state.left (next_field table template rows legal) reads) reads
+        (pass_at_end plain (λ items. false) (suc (length bits)) course (place_at 0 bits) k.0) (of_passes n p.state.left k.2))
 
-  pub packed_reads : (items : List (Item (List Content))) (n : ℕ) (out more : List Bool) → IsPackedReading n (next_item table template) items (out ++ more) more
-      → HasReading (next_item table template) (record { compressed = true; subsets = n; bits = out ++ more }) (together items) (length out)
-  packed_reads items n out more h =
-      reads_of (record { compressed = true; subsets = n; bits = out ++ more }) (together items) (length out)
-      (refl, omega (arith, length-append out more), subst (IsPackedReading n (next_item table template) items (out ++ more)) (sym (drop-append_seam out more)) h)
+    pub of_apart : (d : Data) (subsets : List (List (Item Content))) (used : ℕ) → HasReading course d (apart subsets) used → P d.subsets subsets d.bits (drop used d.bits)
+    of_apart d subsets used read =
+        let h = subst (λ b. HasReading course (record d { compressed = b }) (apart subsets) used) (form_is course d (apart subsets) used read) read in
+        subst (λ (q : List (List (Item Content)) × List Bool). P d.subsets q.0 d.bits q.1) (λ j. (each_subset 0 (h.values_are j), h.left j)) (of_passes d.subsets d.bits h.none)
 
-  -- as many as there are subsets
-  pub each_count : (d : Data) (v : Values) (used : ℕ) → HasReading (next_item table template) d v used → length (each_subset d.subsets v) ≡ d.subsets
-  each_count d (apart subsets) used h = (items_of d (apart subsets) used h).2.1
-  each_count d (together items) used h = length-subsets_from d.subsets 0 items
+  -- What holds of no items, where there are no subsets, and of those of one pass holds of all that were read.
+  module _ (P : ℕ → List (Item (List Content)) → (bits left : List Bool) → Type 0) (none : (bits : List Bool) → P 0 [] bits bits)
+      (some : (n : ℕ) (items : List (Item (List Content))) (bits left : List Bool) → AllFields items → ReadsItems (packed (suc n)) course items bits left
+      → course (answers_in answer_first items) ≡ at_end → length items * suc n ≤ max_values → P (suc n) items bits left) where
+    of_pass : (n : ℕ) (bits : List Bool) → stop_of (passes_together course n bits) ≡ None
+        → P n (first_items (items_by_pass (passes_together course n bits))) bits (left_after bits (passes_together course n bits))
+    of_pass zero bits h = none bits
+    of_pass (suc n) bits h =
+        let p = read_pass (packed (suc n)) (would_be_many (suc n)) course bits in
+        let so = (pass_reads (packed (suc n)) (packed_forth n) (would_be_many (suc n)) course sane bits).0 in
+        some n p.items bits p.state.left (fields_of_reads (packed (suc n)) (packed_gives (suc n)) course p.items bits p.state.left (next_field table template rows legal) so.reads) so.reads
+        (pass_at_end (packed (suc n)) (would_be_many (suc n)) (suc (length bits)) course (place_at 0 bits) (only p.stop h)) (few_all (suc n) (length p.items) so.few)
+      where
+        only : (o : Option Stop) → (if is_some o then o else None) ≡ None → o ≡ None
+        only None e = refl
+        only (Some why) e = absurd cc
+
+    pub of_together : (d : Data) (items : List (Item (List Content))) (used : ℕ) → HasReading course d (together items) used → P d.subsets items d.bits (drop used d.bits)
+    of_together d items used read =
+        let h = subst (λ b. HasReading course (record d { compressed = b }) (together items) used) (form_is course d (together items) used read) read in
+        subst (λ (q : List (Item (List Content)) × List Bool). P d.subsets q.0 d.bits q.1) (λ j. (items_in_all (h.values_are j), h.left j)) (of_pass d.subsets d.bits h.none)
+      where
+        items_in_all : Values → List (Item (List Content))
+        items_in_all (apart subsets) = []
+        items_in_all (together items) = items

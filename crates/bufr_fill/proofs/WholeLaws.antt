@@ -1,19 +1,20 @@
 -- The round trip of all data.
 use Rattle.std.proofs.lemmas.Slice.Zip.{AllZip-long}
-use Rattle.std.proofs.Common.{◌≡◌, ℕ, zero, suc, ◌+◌, ◌*◌, ◌<◌, ◌≤◌, List, [], ◌∷◌, length, drop, Some, refl, sym, ◌∙◌, ap, subst, arith, Bool, false, ◌++◌, Ok, length-drop, slice_get, flat_map}
+use Rattle.std.proofs.Common.{◌≡◌, ℕ, zero, suc, ◌+◌, ◌*◌, ◌<◌, ◌≤◌, List, [], ◌∷◌, length, drop, Some, refl, sym, ◌∙◌, ap, subst, arith, Bool, true, false, ◌++◌, Ok, length-drop, slice_get, flat_map}
 use Rattle.bufr_fill.proofs.EntryLemmas.{length-cells}
 use Rattle.std.proofs.Math.Nat.{mul-le-mul_right}
-use Rattle.bufr_walk.specs.Prelude.{Content, max_values, Item, packed, ReadsItems, after, IsPackedReading, IsReading, Data, Values, apart, together, each_subset, content_at, Course, next_item, items_of_subset, subsets_from, would_be_many}
+use Rattle.bufr_walk.specs.Prelude.{Content, max_values, Item, packed, ReadsItems, answers_in, answer_first, at_end, after, Data, Values, apart, together, each_subset, content_at, Course, next_item, items_of_subset, subsets_from, would_be_many}
 use Rattle.bufr_fill.specs.Prelude.{IsAlike, Draft, Subset, cells_at, rows, most_items, packed_filler, ◌>>=◌, map_err, content_here, contents_here, packed_data, AreDrafts, AreDumped, HasReading, IsWritten, IsWrittenAgain, IsTogetherOrNot, data_bits, IsSaid, AreSaid, AllAlike, AllHaveOctets, at_line}
-use Rattle.bufr_fill.proofs.PlainLaws.{IsSaidRow, HaveContents, AllSpecs, rewritten}
+use Rattle.bufr_fill.proofs.PlainLaws.{IsSaidRow, HaveContents, AllFields, rewritten}
 use Rattle.std.specs.List.{AllZip}
 use Rattle.bufr_tables.specs.Prelude.{Row, Tree, IsLegal}
-use Rattle.bufr_walk.proofs.NextField.{AreRead, next_field}
-use Rattle.bufr_fill.proofs.GoodReads.{plain_specs, packed_specs}
+use Rattle.bufr_walk.proofs.NextField.{AreRead}
+use Rattle.bufr_walk.proofs.CourseLemmas.{IsSane}
+use Rattle.bufr_walk.proofs.PassLemmas.{legal_sane}
 use Rattle.bufr_fill.proofs.PackedLaws.{packed_count}
-use Rattle.bufr_fill.proofs.FormLaws.{subset_count, packed_rewritten, together as all_together, AreAllFollowed, all_followed, AllFollow, follow_reading, plain_subsets, subsets_said, subset_bits, row_bits, length-subsets_from}
+use Rattle.bufr_fill.proofs.FormLaws.{subset_count, packed_rewritten, together as all_together, AreAllFollowed, none_followed, more_followed, AllFollow, all_follow, plain_subsets, subsets_said, subset_bits, row_bits, length-subsets_from}
 use Rattle.bufr_fill.proofs.BackLaws.{read_back}
-use Rattle.bufr_fill.proofs.ReadsLemmas.{items_of, plain_reads, packed_reads}
+use Rattle.bufr_fill.proofs.ReadsLemmas.{AreReadAs, form_is, of_apart, of_together, items_read, none_read_together}
 use Rattle.bufr_walk.proofs.PackedReading.{length-items_of}
 
 -- ---- The drafts of compressed data, subset after subset, have the rows of the items.
@@ -87,27 +88,29 @@ all_rows_said n items s ss have said few =
     subst (λ k. AreDrafts IsSaidRow items (rows k 0 (s ∷ ss))) (sym l)
     (rows_said items (s ∷ ss) items 0 (subst (λ k. HaveContents k items) same have) h refl (omega (arith, subst (λ k. length items * k ≤ max_values) same few)))
 
-have_contents : (n : ℕ) (course : Course) (items : List (Item (List Content))) (bits suffix : List Bool) → AllSpecs items → ReadsItems (packed n) course items bits suffix → HaveContents n items
-have_contents n course [] bits suffix specs h = tt
-have_contents n course (i ∷ items) bits suffix specs h = (packed_count n i.spec specs.0 i.content bits h.0 h.2, have_contents n (after (packed n) course i) items h.0 suffix specs.1 h.3)
+have_contents : (n : ℕ) (course : Course) (items : List (Item (List Content))) (bits suffix : List Bool) → AllFields items → ReadsItems (packed n) course items bits suffix → HaveContents n items
+have_contents n course [] bits suffix fields h = tt
+have_contents n course (i ∷ items) bits suffix fields h = (packed_count n i.spec fields.0.spec i.content bits h.0 h.2, have_contents n (after (packed n) course i) items h.0 suffix fields.1 h.3)
 
 -- the drafts with the contents of items that were read are packed, and read again
 pub record ArePackedRows (n : ℕ) (course : Course) (items : List (Item (List Content))) (drafts : List Subset) (bits suffix : List Bool) : Type 0 where
   pub is : packed_data course drafts ≡ Ok (flat_map row_bits items)
-  pub again : (more : List Bool) → IsPackedReading n course items (flat_map row_bits items ++ more) more
+  pub again : AreReadAs course true n (together items) (flat_map row_bits items)
   pub short : length (flat_map row_bits items) + length suffix ≤ length bits
 
-pub packed_rows : (n : ℕ) (course : Course) (items : List (Item (List Content))) (drafts : List Subset) (bits suffix : List Bool) → AllSpecs items → AreSaid (subsets_from n 0 items) drafts
-    → IsPackedReading n course items bits suffix → ArePackedRows n course items drafts bits suffix
-packed_rows zero course [] [] bits suffix specs said h = record { is = refl; again = λ more. (refl, refl); short = omega (arith, ap length h.1) }
-packed_rows zero course (i ∷ items) [] bits suffix specs said h = let no : i ∷ items ≡ [] = h.0 in absurd cc
-packed_rows zero course items (s ∷ ss) bits suffix specs said h = absurd said
-packed_rows (suc n) course items [] bits suffix specs said h = absurd said
-packed_rows (suc n) course items (s ∷ ss) bits suffix specs said h =
+no_rows : (course : Course) (drafts : List Subset) (bits : List Bool) → AreSaid [] drafts → ArePackedRows 0 course [] drafts bits bits
+no_rows course [] bits said = record { is = refl; again = none_read_together course; short = omega arith }
+no_rows course (s ∷ ss) bits said = absurd said
+
+packed_rows : (course : Course) → ((m : ℕ) → IsSane m course) → (n : ℕ) (items : List (Item (List Content))) (drafts : List Subset) (bits suffix : List Bool) → AllFields items
+    → AreSaid (subsets_from (suc n) 0 items) drafts → ReadsItems (packed (suc n)) course items bits suffix → course (answers_in answer_first items) ≡ at_end → length items * suc n ≤ max_values
+    → ArePackedRows (suc n) course items drafts bits suffix
+packed_rows course sane n items [] bits suffix fields said r end few = absurd said
+packed_rows course sane n items (s ∷ ss) bits suffix fields said r end few =
     let many = would_be_many (length (s ∷ ss)) (most_items (s ∷ ss)) in
-    let r = rewritten (packed (suc n)) (packed_filler s.end_line many) IsSaidRow row_bits (λ spec c. refl) (packed_rewritten (suc n) s.end_line many (omega arith)) course items
-    (rows (most_items (s ∷ ss)) 0 (s ∷ ss)) bits suffix specs (all_rows_said (suc n) items s ss (have_contents (suc n) course items bits suffix specs h.0.0) said h.1) h.0 in
-    record { is = r.fills; again = λ more. ((r.again more, h.0.1), h.1); short = r.short }
+    let w = rewritten (packed (suc n)) (packed_filler s.end_line many) IsSaidRow row_bits (λ spec c. refl) (packed_rewritten (suc n) s.end_line many (omega arith)) course items
+    (rows (most_items (s ∷ ss)) 0 (s ∷ ss)) bits suffix fields (all_rows_said (suc n) items s ss (have_contents (suc n) course items bits suffix fields r) said few) r end in
+    record { is = w.fills; again = items_read course sane n items (flat_map row_bits items) w.again end few; short = w.short }
 
 -- the bits that are written of values
 abbrev pub bits_again : Values → List Bool
@@ -116,97 +119,92 @@ bits_again (together items) = flat_map row_bits items
 
 -- ---- The same over a template: nothing is required of the specifications.
 
-pub reads_specs : (n : ℕ) (table : List Row) (tree : Tree) (items : List (Item (List Content))) (bits suffix : List Bool) → AreRead table → IsLegal tree
-    → IsPackedReading n (next_item table tree) items bits suffix → AllSpecs items
-reads_specs zero table tree items bits suffix rows legal h = subst AllSpecs (sym h.0) tt
-reads_specs (suc n) table tree items bits suffix rows legal h = packed_specs (suc n) (next_item table tree) items bits suffix (next_field table tree rows legal) h.0.0
-
 module _ (table : List Row) (template : Tree) (rows : AreRead table) (legal : IsLegal template) (d : Data) where
+  abbrev course : Course
+  course = next_item table template
+
+  sane : (m : ℕ) → IsSane m course
+  sane m = legal_sane table template rows legal m
+
   -- what is known of items that were read: subset after subset, or together
-  plain_all : (subsets : List (List (Item Content))) (used : ℕ) → IsReading (next_item table template) d (apart subsets) used
-      → AreAllFollowed (next_item table template) subsets d.bits (drop used d.bits)
-  plain_all subsets used r =
-      all_followed (next_item table template) subsets d.bits (drop used d.bits)
-      (plain_specs (next_item table template) subsets d.bits (drop used d.bits) (next_field table template rows legal) r.2.0) r.2.0
+  plain_all : (subsets : List (List (Item Content))) (used : ℕ) → HasReading course d (apart subsets) used → AreAllFollowed course d.subsets subsets d.bits (drop used d.bits)
+  plain_all subsets used h =
+      of_apart table template rows legal (AreAllFollowed course) (none_followed course) (more_followed course) d subsets used h
 
-  packed_specs_of : (items : List (Item (List Content))) (used : ℕ) → IsReading (next_item table template) d (together items) used → AllSpecs items
-  packed_specs_of items used r = reads_specs d.subsets table template items d.bits (drop used d.bits) rows legal r.2
+  packed_all : (items : List (Item (List Content))) (drafts : List Subset) (used : ℕ) → AreSaid (subsets_from d.subsets 0 items) drafts → HasReading course d (together items) used
+      → ArePackedRows d.subsets course items drafts d.bits (drop used d.bits)
+  packed_all items drafts used said h =
+      of_together table template rows legal (λ n items bits left. AreSaid (subsets_from n 0 items) drafts → ArePackedRows n course items drafts bits left)
+      (λ bits said. no_rows course drafts bits said) (λ n items bits left fields r end few said. packed_rows course sane n items drafts bits left fields said r end few) d items used h said
 
-  pub follows : (values : Values) (used : ℕ) → HasReading (next_item table template) d values used → AllFollow (next_item table template) (each_subset d.subsets values)
-  follows (apart subsets) used h = (plain_all subsets used (items_of table template rows legal d (apart subsets) used h)).follow
+  -- as many as there are subsets
+  pub each_count : (values : Values) (used : ℕ) → HasReading course d values used → length (each_subset d.subsets values) ≡ d.subsets
+  each_count (apart subsets) used h = (plain_all subsets used h).count
+  each_count (together items) used h = length-subsets_from d.subsets 0 items
+
+  pub follows : (values : Values) (used : ℕ) → HasReading course d values used → AllFollow course (each_subset d.subsets values)
+  follows (apart subsets) used h = (plain_all subsets used h).follow
   follows (together items) used h =
-      let r = items_of table template rows legal d (together items) used h in
-      follow_reading d.subsets (next_item table template) items d.bits (drop used d.bits) (packed_specs_of items used r) r.2
+      of_together table template rows legal (λ n items bits left. AllFollow course (subsets_from n 0 items)) (λ bits. tt)
+      (λ n items bits left fields r end few. all_follow (suc n) 0 (suc n) course items bits left (omega arith) fields r end) d items used h
 
   -- drafts that say what was read are written so that they are read again
-  pub said_again : (values : Values) (used : ℕ) (drafts : List Subset) → HasReading (next_item table template) d values used → AreSaid (each_subset d.subsets values) drafts
-      → (w : IsWrittenAgain (next_item table template) d values used drafts) × (w.0.out ≡ bits_again values)
+  pub said_again : (values : Values) (used : ℕ) (drafts : List Subset) → HasReading course d values used → AreSaid (each_subset d.subsets values) drafts
+      → (w : IsWrittenAgain course d values used drafts) × (w.0.out ≡ bits_again values)
   said_again (apart subsets) used drafts h said =
-      let r = items_of table template rows legal d (apart subsets) used h in
-      let all = plain_all subsets used r in
-      let w = plain_subsets (next_item table template) subsets drafts all.follow said in (
+      let form = form_is course d (apart subsets) used h in
+      let all = plain_all subsets used h in
+      let w = plain_subsets course sane subsets drafts all.follow said in (
         (
           record {
             out = subset_bits subsets;
-            is = ap (λ b. data_bits b (next_item table template) drafts) r.0 ∙ w.is;
-            again = λ more. subst (λ b. HasReading (next_item table template) (record { compressed = b; subsets = d.subsets; bits = subset_bits subsets ++ more }) (apart subsets)
-                (length (subset_bits subsets)))
-                (sym r.0)
-                (plain_reads table template rows legal subsets d.subsets (subset_bits subsets) more (w.again more, r.2.1));
+            is = ap (λ b. data_bits b course drafts) form ∙ w.is;
+            again = subst (λ b. AreReadAs course b d.subsets (apart subsets) (subset_bits subsets)) (sym form)
+                (subst (λ n. AreReadAs course false n (apart subsets) (subset_bits subsets)) all.count w.again);
           },
-          omega (arith, all.short, r.1, length-drop used d.bits),
+          omega (arith, all.short, h.within, length-drop used d.bits),
         ),
         refl,
       )
   said_again (together items) used drafts h said =
-      let r = items_of table template rows legal d (together items) used h in
-      let w = packed_rows d.subsets (next_item table template) items drafts d.bits (drop used d.bits) (packed_specs_of items used r) said r.2 in (
+      let form = form_is course d (together items) used h in
+      let w = packed_all items drafts used said h in (
         (
           record {
             out = flat_map row_bits items;
-            is = ap (λ b. data_bits b (next_item table template) drafts) r.0 ∙ w.is;
-            again = λ more. subst (λ b. HasReading (next_item table template) (record { compressed = b; subsets = d.subsets; bits = flat_map row_bits items ++ more }) (together items)
-                (length (flat_map row_bits items)))
-                (sym r.0)
-                (packed_reads table template rows legal items d.subsets (flat_map row_bits items) more (w.again more));
+            is = ap (λ b. data_bits b course drafts) form ∙ w.is;
+            again = subst (λ b. AreReadAs course b d.subsets (together items) (flat_map row_bits items)) (sym form) w.again;
           },
-          omega (arith, w.short, r.1, length-drop used d.bits),
+          omega (arith, w.short, h.within, length-drop used d.bits),
         ),
         refl,
       )
 
-  pub written_again : (values : Values) (used : ℕ) (drafts : List Subset) → HasReading (next_item table template) d values used → AreDumped (each_subset d.subsets values) drafts
-      → IsWrittenAgain (next_item table template) d values used drafts
-  written_again values used drafts h dumped = (said_again values used drafts h (subsets_said (next_item table template) (each_subset d.subsets values) drafts (follows values used h) dumped)).0
+  pub written_again : (values : Values) (used : ℕ) (drafts : List Subset) → HasReading course d values used → AreDumped (each_subset d.subsets values) drafts
+      → IsWrittenAgain course d values used drafts
+  written_again values used drafts h dumped = (said_again values used drafts h (subsets_said course (each_subset d.subsets values) drafts (follows values used h) dumped)).0
 
   -- the contents of drafts determine the bits that are written
-  pub said_alike : (values : Values) (used : ℕ) (drafts others : List Subset) → HasReading (next_item table template) d values used → AreSaid (each_subset d.subsets values) drafts
-      → AreSaid (each_subset d.subsets values) others → data_bits d.compressed (next_item table template) drafts ≡ data_bits d.compressed (next_item table template) others
+  pub said_alike : (values : Values) (used : ℕ) (drafts others : List Subset) → HasReading course d values used → AreSaid (each_subset d.subsets values) drafts
+      → AreSaid (each_subset d.subsets values) others → data_bits d.compressed course drafts ≡ data_bits d.compressed course others
   said_alike values used drafts others h said also =
       let a = said_again values used drafts h said in
       let b = said_again values used others h also in
       a.0.0.is ∙ ap Ok (a.1 ∙ sym b.1) ∙ sym b.0.0.is
 
   -- compressed data are written subset after subset
-  pub written_apart : (items : List (Item (List Content))) (used : ℕ) (drafts : List Subset) → HasReading (next_item table template) d (together items) used
-      → AreDumped (subsets_from d.subsets 0 items) drafts → IsWritten (next_item table template) false d.subsets (apart (subsets_from d.subsets 0 items)) drafts
+  pub written_apart : (items : List (Item (List Content))) (used : ℕ) (drafts : List Subset) → HasReading course d (together items) used
+      → AreDumped (subsets_from d.subsets 0 items) drafts → IsWritten course false d.subsets (apart (subsets_from d.subsets 0 items)) drafts
   written_apart items used drafts h dumped =
       let subsets = subsets_from d.subsets 0 items in
       let follow = follows (together items) used h in
-      let w = plain_subsets (next_item table template) subsets drafts follow (subsets_said (next_item table template) subsets drafts follow dumped) in
-      record {
-        out = subset_bits subsets;
-        is = w.is;
-        again = λ more. plain_reads table template rows legal subsets d.subsets (subset_bits subsets) more (w.again more, length-subsets_from d.subsets 0 items);
-      }
+      let w = plain_subsets course sane subsets drafts follow (subsets_said course subsets drafts follow dumped) in
+      subst (λ n. IsWritten course false n (apart subsets) drafts) (length-subsets_from d.subsets 0 items) (record { out = subset_bits subsets; is = w.is; again = w.again })
 
   -- other data are written together, where they can be
-  pub written_together : (subsets : List (List (Item Content))) (used : ℕ) (drafts : List Subset) → length d.bits ≤ max_values → HasReading (next_item table template) d (apart subsets) used
-      → AreDumped subsets drafts → IsTogetherOrNot (next_item table template) subsets drafts
-  written_together subsets used drafts few h dumped =
-      let r = items_of table template rows legal d (apart subsets) used h in
-      all_together (next_item table template) (packed_reads table template rows legal) subsets drafts d.bits (drop used d.bits) few
-      (plain_specs (next_item table template) subsets d.bits (drop used d.bits) (next_field table template rows legal) r.2.0) dumped r.2.0
+  pub written_together : (subsets : List (List (Item Content))) (used : ℕ) (drafts : List Subset) → length d.bits ≤ max_values → HasReading course d (apart subsets) used
+      → AreDumped subsets drafts → IsTogetherOrNot course subsets drafts
+  written_together subsets used drafts few h dumped = all_together course sane d.subsets subsets drafts d.bits (drop used d.bits) few dumped (plain_all subsets used h)
 
 -- ---- Drafts with the same contents are written to the same bits.
 

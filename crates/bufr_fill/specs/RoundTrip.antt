@@ -1,6 +1,6 @@
 -- Only contracts need this file. What is written of a reading, of its other form, or of any drafts
 -- is read back the same. (WMO-No. 306, Volume I.2, FM 94: section 4)
-use Rattle.std.specs.Prelude.{ℕ, ◌≡◌, ◌<◌, ◌-◌, ◌/◌, ◌^◌, ◌==◌, Bool, true, false, List, length, nat_abs, ◌+◌, ◌≤◌, ◌++◌, Ok, ◌⊎◌, Err, drop, None}
+use Rattle.std.specs.Prelude.{ℕ, ◌≡◌, ◌<◌, ◌-◌, ◌/◌, ◌^◌, ◌==◌, Bool, true, false, List, length, nat_abs, ◌≤◌, ◌++◌, Ok, ◌⊎◌, Err, drop, None}
 use Rattle.std.specs.List.{list_all, AllByRecursion, AllZip}
 use Rattle.bufr_walk.specs.declared.spec.Role.TheVariants as role
 use Rattle.bufr_walk.specs.Prelude.{FieldSpec, Content, number, text, missing, reference, Course, next_item, TakenField, answers_of, answers_in, subsets_from, Item, Data, Values, together, each_subset, reading_of}

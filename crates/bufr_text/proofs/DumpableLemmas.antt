@@ -4,23 +4,22 @@ use Rattle.std.specs.List.{AllByRecursion}
 use Rattle.std.proofs.lemmas.Bool.Decides.{nat_tests}
 use Rattle.bufr_tables.specs.declared.table_b.Kind.{Kind}
 use Rattle.bufr_tables.specs.Prelude.{Row, entry_of, IsLegal, Tree, Sequence}
-use Rattle.bufr_walk.proofs.NextField.{AreRead, row_found, next_field}
-use Rattle.bufr_walk.specs.Prelude.{FieldSpec, IsSpec, HasWidth, HasRole, Content, number, text, missing, reference, shown, found, packed_field, Course, next_item, view_of, content_at, data_of, Item, plain, packed, ReadsItems, ReadsSubsets, IsPackedReading, IsReading, Values, apart, together, after, subsets_from, items_of_subset, each_subset}
+use Rattle.bufr_walk.proofs.NextField.{AreRead, row_found}
+use Rattle.bufr_walk.specs.Prelude.{FieldSpec, IsSpec, HasWidth, HasRole, Content, number, text, missing, reference, shown, found, packed_field, Course, next_item, view_of, content_at, data_of, Item, plain, packed, ReadsItems, Values, apart, together, after, subsets_from, items_of_subset, each_subset}
 use Rattle.bufr_text.specs.Prelude.{IsDescriptorWord, IsOctet, IsValue, IsComment, IsItem, IsDumpable, IsAccepted, items_shown, dump_items}
 use Rattle.std.proofs.lemmas.List.{length-map}
-use Rattle.bufr_bits.specs.Prelude.{bits_of}
 use Rattle.bufr_frame.specs.Prelude.{u16_at, words, Sections, sections_of, parts, edition_of, head_of, has_section2, IsFitting, min_section_1}
 use Rattle.bufr_frame.proofs.AgainLemmas.{sections-ended, heads-fit}
 use Rattle.bufr_walk.specs.declared.spec.Role.{Role}
-use Rattle.bufr_fill.specs.Prelude.{AreOctets, FitsKind, FitsRole, Fits, AllFit}
-use Rattle.bufr_fill.proofs.PlainLaws.{plain_read}
+use Rattle.bufr_fill.specs.Prelude.{HasReading, AreOctets, FitsKind, FitsRole, Fits, AllFit}
+use Rattle.bufr_fill.proofs.PlainLaws.{AllFields, plain_read}
 use Rattle.bufr_fill.proofs.FieldLemmas.{top_below}
-use Rattle.bufr_fill.proofs.GoodReads.{AllFields, EachFields, plain_fields, packed_fields}
 use Rattle.bufr_fill.proofs.PackedLaws.{packed_again}
 use Rattle.bufr_tables.specs.declared.table_b.Kind.TheVariants as kind
 use Rattle.bufr_walk.specs.declared.spec.Role.TheVariants as role
 use Rattle.std.proofs.lemmas.Grind.{common_steps}
-use Rattle.bufr_fill.proofs.ReadsLemmas.{each_count, items_of}
+use Rattle.bufr_fill.proofs.ReadsLemmas.{of_apart, of_together}
+use Rattle.bufr_fill.proofs.WholeLaws.{each_count}
 
 -- ---- the sections
 
@@ -138,11 +137,6 @@ module _ (table : List Row) (all : AreRead table) where
     items_fit (after plain course i) items h.0 suffix fields.1 h.3,
   )
 
-  subsets_fit : (course : Course) (subsets : List (List (Item Content))) (bits suffix : List Bool) → EachFields subsets → ReadsSubsets course subsets bits suffix
-      → AllByRecursion (λ items. AllByRecursion IsItem items) (map (items_shown table) subsets)
-  subsets_fit course [] bits suffix fields h = tt
-  subsets_fit course (items ∷ subsets) bits suffix fields h = (items_fit course items bits h.0 fields.0 h.1.0, subsets_fit course subsets h.0 suffix fields.1 h.2)
-
   packed_fits : (n : ℕ) (spec : FieldSpec) (cs : List Content) (bits mid : List Bool) → IsSpec spec → packed_field n spec bits ≡ Ok (found cs mid) → AllFit spec cs
   packed_fits n spec [] bits mid good e = tt
   packed_fits n spec (c ∷ cs) bits mid good e = (packed_again n spec good c cs bits mid e).2.fits
@@ -160,27 +154,21 @@ module _ (table : List Row) (all : AreRead table) where
   together_fit zero j items h = tt
   together_fit (suc left) j items h = (h j, together_fit left (suc j) items h)
 
-  pub packed_fit : (n : ℕ) (course : Course) (items : List (Item (List Content))) (bits suffix : List Bool) → ((n : ℕ) → ReadsItems (packed n) course items bits suffix → AllFields items)
-      → IsPackedReading n course items bits suffix → AllByRecursion (λ items. AllByRecursion IsItem items) (map (items_shown table) (subsets_from n 0 items))
-  packed_fit zero course items bits suffix fields h = tt
-  packed_fit (suc n) course items bits suffix fields h = together_fit (suc n) 0 items (λ j. packed_items_fit (suc n) j course items bits suffix (fields (suc n) h.0.0) h.0.0)
-
 -- ---- the message
 
 counted : (table : List Row) (n : ℕ) (values : Values) → length (dump_items table n values) ≡ length (each_subset n values)
 counted table n (apart subsets) = length-map subsets (items_shown table)
 counted table n (together items) = length-map (subsets_from n 0 items) (items_shown table)
 
-all_fit : (table : List Row) (template : Tree) (s : Sections) (values : Values) (used : ℕ) → AreRead table → IsLegal template → IsReading (next_item table template) (data_of s) values used
+all_fit : (table : List Row) (template : Tree) (s : Sections) (values : Values) (used : ℕ) → AreRead table → IsLegal template → HasReading (next_item table template) (data_of s) values used
     → AllByRecursion (λ items. AllByRecursion IsItem items) (dump_items table s.subsets values)
 all_fit table template s (apart subsets) used all legal h =
-    let course = next_item table template in
-    let bits = bits_of s.payload in
-    subsets_fit table all course subsets bits (drop used bits) (plain_fields course subsets bits (drop used bits) (next_field table template all legal) h.2.0) h.2.0
+    of_apart table template all legal (λ n subsets bits left. AllByRecursion (λ items. AllByRecursion IsItem items) (map (items_shown table) subsets)) (λ bits. tt)
+    (λ n items subsets bits mid left fields r end rest. (items_fit table all (next_item table template) items bits mid fields r, rest)) (data_of s) subsets used h
 all_fit table template s (together items) used all legal h =
-    let course = next_item table template in
-    let bits = bits_of s.payload in
-    packed_fit table all s.subsets course items bits (drop used bits) (λ n r. packed_fields n course items bits (drop used bits) (next_field table template all legal) r) h.2
+    of_together table template all legal (λ n items bits left. AllByRecursion (λ items. AllByRecursion IsItem items) (map (items_shown table) (subsets_from n 0 items))) (λ bits. tt)
+    (λ n items bits left fields r end few. together_fit table all (suc n) 0 items (λ j. packed_items_fit table all (suc n) j (next_item table template) items bits left fields r))
+    (data_of s) items used h
 
 pub dumpable : (table : List Row) (sequences : List Sequence) (m : List ℕ) (s : Sections) (template : Tree) (values : Values) (used : ℕ) → AreRead table → IsLegal template
     → IsAccepted table sequences m s template values used → IsDumpable s (dump_items table s.subsets values)
@@ -193,5 +181,5 @@ dumpable table sequences m s template values used all legal a =
       descriptors = given.descriptors;
       few = given.few;
       counted = counted table s.subsets values ∙ each_count table template all legal (data_of s) values used a.read;
-      items = all_fit table template s values used all legal (items_of table template all legal (data_of s) values used a.read);
+      items = all_fit table template s values used all legal a.read;
     }

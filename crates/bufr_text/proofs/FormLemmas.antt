@@ -5,16 +5,15 @@ use Rattle.std.proofs.lemmas.Bool.Decides.{nat_tests}
 use Rattle.std.proofs.lemmas.List.{take-append-drop}
 use Rattle.bufr_bits.specs.Prelude.{bits_of}
 use Rattle.bufr_tables.specs.Prelude.{Row, AreRows, Sequence, Tree, IsLegal, tables_of, Record}
-use Rattle.bufr_walk.specs.Prelude.{FieldSpec, IsSpec, Content, content_in, bits_for, found, plain_field, Course, next_item, Item, plain, ReadsItems, ReadsSubsets, after, apart, together, Values, IsReading, max_values, data_of, View, subsets_from, each_subset}
+use Rattle.bufr_walk.specs.Prelude.{FieldSpec, IsSpec, Content, content_in, bits_for, found, plain_field, Course, next_item, Item, plain, ReadsItems, after, apart, together, Values, max_values, data_of, View, subsets_from, each_subset}
 use Rattle.bufr_fill.specs.Prelude.{IsMinusZero, rows, at_line, subsets_of, DraftEntry, IsUnlike, IsTogetherOrNot, HasReading}
 use Rattle.bufr_fill.specs.declared.fault.ItemFault.{ItemFault}
-use Rattle.bufr_fill.proofs.PlainLaws.{AllSpecs, EachSpecs, same_bits, item_bits}
+use Rattle.bufr_fill.proofs.PlainLaws.{AllFields, same_bits, item_bits}
 use Rattle.bufr_frame.specs.Prelude.{with_even_length, message_octets, message_size, max_octets, MessageParts, parts_of, sections_from, Sections, sections_of}
 use Rattle.bufr_frame.proofs.AgainLemmas.{not-too-long, written-again}
 use Rattle.bufr_frame.proofs.LayoutLemmas.{even-least, message_size_is, written-even, length-evened}
-use Rattle.bufr_walk.proofs.NextField.{AreRead, table_read, next_field}
-use Rattle.bufr_fill.proofs.WholeLaws.{bits_again, follows, said_again, written_apart, written_together}
-use Rattle.bufr_fill.proofs.GoodReads.{plain_specs}
+use Rattle.bufr_walk.proofs.NextField.{AreRead, table_read}
+use Rattle.bufr_fill.proofs.WholeLaws.{bits_again, each_count, follows, said_again, written_apart, written_together}
 use Rattle.bufr_fill.proofs.FormLaws.{subsets_said, subset_bits, bits_or_none, row_bits}
 use Rattle.bufr_text.specs.Prelude.{header_in, subset_entries, document_of, lines_before, items_shown, IsAccepted, dump_items, HaveNoMinusZero, ArePacked, AreWritten, IsCanonical, IsEncodedAgain, HasReadingIn, IsForForm, IsFormed, IsFaultIn, EncodesForm, EncodesAgain, HasSameReading, data_bits, octets_of_bits, encoding_of, map_err, parts_as, compressed_as, message_of, encoding_in, IsDocumentRefusal, compressed_by, form_of_flag, Document, DocumentFault, Form, document_fault}
 use Rattle.bufr_text.proofs.DumpableLemmas.{sections_given}
@@ -27,7 +26,7 @@ use Rattle.bufr_fill.specs.declared.fault.DraftFault.{DraftFault}
 use Rattle.bufr_text.specs.declared.fault.DocumentFault.TheVariants as fault
 use Rattle.bufr_text.specs.declared.encode.Form.TheVariants as form
 use Rattle.std.proofs.lemmas.Grind.{common_steps}
-use Rattle.bufr_fill.proofs.ReadsLemmas.{items_of}
+use Rattle.bufr_fill.proofs.ReadsLemmas.{of_apart, form_is}
 
 -- ---- A canonical message is encoded to the same octets.
 
@@ -47,13 +46,13 @@ field_bits spec h1 bits mid c h2 h3 = grind (arith, nat_tests, common_steps, tak
 
 -- ---- the items of one subset
 
-items_split : (course : Course) (items : List (Item Content)) (bits suffix : List Bool) → AllSpecs items → ReadsItems plain course items bits suffix → HaveNoMinusZero items bits
+items_split : (course : Course) (items : List (Item Content)) (bits suffix : List Bool) → AllFields items → ReadsItems plain course items bits suffix → HaveNoMinusZero items bits
     → bits ≡ flat_map item_bits items ++ suffix
-items_split course [] bits suffix specs h plus = h
-items_split course (i ∷ items) bits suffix specs h plus =
+items_split course [] bits suffix fields h plus = h
+items_split course (i ∷ items) bits suffix fields h plus =
     let t = field_taken i.spec bits h.0 i.content h.2 in
-    let rest = items_split (after plain course i) items h.0 suffix specs.1 h.3 (subst (HaveNoMinusZero items) t.suffix plus.1) in
-    field_bits i.spec specs.0 bits h.0 i.content t plus.0 ∙ ap (λ x. item_bits i ++ x) rest ∙ sym (append_assoc (item_bits i) (flat_map item_bits items) suffix)
+    let rest = items_split (after plain course i) items h.0 suffix fields.1 h.3 (subst (HaveNoMinusZero items) t.suffix plus.1) in
+    field_bits i.spec fields.0.spec bits h.0 i.content t plus.0 ∙ ap (λ x. item_bits i ++ x) rest ∙ sym (append_assoc (item_bits i) (flat_map item_bits items) suffix)
 
 -- ---- subsets
 
@@ -64,14 +63,12 @@ first_zeros course (i ∷ a) b bits mid h plus =
     let rest = first_zeros (after plain course i) a b h.0 mid h.3 (subst (HaveNoMinusZero (a ++ b)) t.suffix plus.1) in
     ((plus.0, subst (HaveNoMinusZero a) (sym t.suffix) rest.0), rest.1)
 
-subsets_split : (course : Course) (subsets : List (List (Item Content))) (bits suffix : List Bool) → EachSpecs subsets → ReadsSubsets course subsets bits suffix
-    → HaveNoMinusZero (flat_map (λ x. x) subsets) bits → bits ≡ subset_bits subsets ++ suffix
-subsets_split course [] bits suffix specs h plus = h
-subsets_split course (items ∷ subsets) bits suffix specs h plus =
-    let zeros = first_zeros course items (flat_map (λ x. x) subsets) bits h.0 h.1.0 plus in
-    items_split course items bits h.0 specs.0 h.1.0 zeros.0
-    ∙ ap (λ x. flat_map item_bits items ++ x) (subsets_split course subsets h.0 suffix specs.1 h.2 zeros.1)
-    ∙ sym (append_assoc (flat_map item_bits items) (subset_bits subsets) suffix)
+subset_split : (course : Course) (items : List (Item Content)) (subsets : List (List (Item Content))) (bits mid suffix : List Bool) → AllFields items → ReadsItems plain course items bits mid
+    → (HaveNoMinusZero (flat_map (λ x. x) subsets) mid → mid ≡ subset_bits subsets ++ suffix) → HaveNoMinusZero (flat_map (λ x. x) (items ∷ subsets)) bits
+    → bits ≡ subset_bits (items ∷ subsets) ++ suffix
+subset_split course items subsets bits mid suffix fields r rest plus =
+    let zeros = first_zeros course items (flat_map (λ x. x) subsets) bits mid r plus in
+    items_split course items bits mid fields r zeros.0 ∙ ap (λ x. flat_map item_bits items ++ x) (rest zeros.1) ∙ sym (append_assoc (flat_map item_bits items) (subset_bits subsets) suffix)
 
 -- ---- compressed data
 
@@ -88,13 +85,12 @@ record AreFilled (r : Result (List Bool) DraftFault) (bits suffix : List Bool) :
   fills : r ≡ Ok out
   splits : bits ≡ out ++ suffix
 
-bits_split : (table : List Row) (template : Tree) (s : Sections) (values : Values) (used : ℕ) → AreRead table → IsLegal template → IsReading (next_item table template) (data_of s) values used
+bits_split : (table : List Row) (template : Tree) (s : Sections) (values : Values) (used : ℕ) → AreRead table → IsLegal template → HasReading (next_item table template) (data_of s) values used
     → AreWritten values (bits_of s.payload) (drop used (bits_of s.payload)) → bits_of s.payload ≡ bits_again values ++ drop used (bits_of s.payload)
-bits_split table template s (apart subsets) used rows legal read writes =
-    let course = next_item table template in
-    let bits = bits_of s.payload in
-    subsets_split course subsets bits (drop used bits) (plain_specs course subsets bits (drop used bits) (next_field table template rows legal) read.2.0) read.2.0 writes
-bits_split table template s (together items) used rows legal read writes = rows_split items (bits_of s.payload) (drop used (bits_of s.payload)) writes
+bits_split table template s (apart subsets) used rows legal read =
+    of_apart table template rows legal (λ n subsets bits left. HaveNoMinusZero (flat_map (λ x. x) subsets) bits → bits ≡ subset_bits subsets ++ left) (λ bits plus. refl)
+    (λ n items subsets bits mid left fields r end rest. subset_split (next_item table template) items subsets bits mid left fields r rest) (data_of s) subsets used read
+bits_split table template s (together items) used rows legal read = rows_split items (bits_of s.payload) (drop used (bits_of s.payload))
 
 data_filled : (table : List Row) (template : Tree) (s : Sections) (values : Values) (used at : ℕ) → AreRead table → IsLegal template
     → HasReading (next_item table template) (data_of s) values used → AreWritten values (bits_of s.payload) (drop used (bits_of s.payload))
@@ -106,7 +102,7 @@ data_filled table template s values used at rows legal read writes =
     record {
       out = bits_again values;
       fills = w.0.0.is ∙ ap Ok w.1;
-      splits = bits_split table template s values used rows legal (items_of table template rows legal (data_of s) values used read) writes;
+      splits = bits_split table template s values used rows legal read writes;
     }
 
 prefix_is : (bits out : List Bool) (used : ℕ) → used ≤ length bits → bits ≡ out ++ drop used bits → out ≡ take used bits
@@ -169,7 +165,7 @@ module _ (table : List Row) (template : Tree) (s : Sections) (used at : ℕ) (ro
       })
 
   filled_plainly : (values : Values) → HasReading (next_item table template) (data_of s) values used → IsFilled false table template s values (subset_entries at (dump_items table s.subsets values))
-  filled_plainly (apart subsets) read = in_own_form false (apart subsets) (items_of table template rows legal (data_of s) (apart subsets) used read).0 read
+  filled_plainly (apart subsets) read = in_own_form false (apart subsets) (form_is (next_item table template) (data_of s) (apart subsets) used read) read
   filled_plainly (together items) read =
       let subsets = subsets_from s.subsets 0 items in
       let w = written_apart table template rows legal (data_of s) items used (subsets_of (subset_entries at (map (items_shown table) subsets))) read (all_apart table at subsets) in
@@ -177,14 +173,14 @@ module _ (table : List Row) (template : Tree) (s : Sections) (used at : ℕ) (ro
 
   packedly : (values : Values) → length (bits_of s.payload) ≤ max_values → HasReading (next_item table template) (data_of s) values used
       → IsFilled true table template s values (subset_entries at (dump_items table s.subsets values)) ⊎ IsUnfilled table template (subset_entries at (dump_items table s.subsets values))
-  packedly (together items) few read = inl (in_own_form true (together items) (items_of table template rows legal (data_of s) (together items) used read).0 read)
+  packedly (together items) few read = inl (in_own_form true (together items) (form_is (next_item table template) (data_of s) (together items) used read) read)
   packedly (apart subsets) few read = by (written_together table template rows legal (data_of s) subsets used (subsets_of entries) few read (all_apart table at subsets))
     where
       entries : List DraftEntry
       entries = subset_entries at (map (items_shown table) subsets)
 
       count : length subsets ≡ s.subsets
-      count = (items_of table template rows legal (data_of s) (apart subsets) used read).2.1
+      count = each_count table template rows legal (data_of s) (apart subsets) used read
 
       by : IsTogetherOrNot (next_item table template) subsets (subsets_of entries) → IsFilled true table template s (apart subsets) entries ⊎ IsUnfilled table template entries
       by (inr x) = inr (record { line = x.0; why = x.1; is = x.2; unlike = x.3 })

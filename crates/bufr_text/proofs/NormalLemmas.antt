@@ -20,14 +20,13 @@ use Rattle.bufr_text.proofs.HeaderLemmas.{headed-fits, subsets-few, header-wides
 use Rattle.bufr_frame.specs.declared.section1.Head.{Head}
 use Rattle.bufr_fill.proofs.PlainLaws.{normal_dumped, said_fxy}
 use Rattle.bufr_fill.proofs.FormLaws.{Follows, AllFollow, subsets_said}
-use Rattle.bufr_fill.proofs.WholeLaws.{follows, said_alike}
+use Rattle.bufr_fill.proofs.WholeLaws.{each_count, follows, said_alike}
 use Rattle.bufr_text.specs.declared.fault.DocumentFault.TheVariants as fault
 use Rattle.bufr_text.specs.declared.encode.Form.TheVariants.{AsWritten, Plain, Compressed}
 use Rattle.bufr_text.proofs.DumpTextLemmas.{one-document}
 use Rattle.bufr_walk.specs.Reading as reading
 use Rattle.std.proofs.lemmas.Grind.{common_steps}
 use Rattle.std.specs.Int.{from_bool}
-use Rattle.bufr_fill.proofs.ReadsLemmas.{each_count}
 
 -- ---- The message of a document that was encoded is accepted, and says what the document says.
 

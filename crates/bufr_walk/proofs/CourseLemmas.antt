@@ -1,17 +1,16 @@
 -- What comes next in a legal template takes bits of the data, and its counts match its factors.
 use Rattle.std.proofs.lemmas.Grind.{common_steps}
-use Rattle.std.proofs.Common.{◌≡◌, ℕ, zero, suc, ◌*◌, ◌≤◌, Bool, true, false, List, [], ◌∷◌, Option, Some, None, Result, Ok, Err, refl, sym, ◌∙◌, ap, subst, arith, ◌+◌, ◌-◌, length, drop, take, map, ◌==◌, nat_le, nat_lt, if◌then◌else◌, ◌||◌}
+use Rattle.std.proofs.Common.{◌≡◌, ℕ, zero, suc, ◌*◌, ◌≤◌, Bool, true, false, List, [], ◌∷◌, Option, Some, None, Result, Ok, Err, refl, sym, ◌∙◌, ap, subst, arith, ◌+◌, ◌-◌, length, drop, take, ◌==◌, nat_le, nat_lt, if◌then◌else◌, ◌||◌}
 use Rattle.std.proofs.lemmas.Bool.{leb-true, ltb-false}
 use Rattle.std.proofs.lemmas.Bool.Decides.{nat_tests}
 use Rattle.bufr_bits.proofs.DecimalLemmas.{and_first}
-use Rattle.bufr_tables.specs.Prelude.{y_of, IsLegal, is_legal_operator, Tree, bare, element, operator, fixed, delayed, is_inserted_text, Row, entry_of, allows_width, row_of, Record}
+use Rattle.bufr_tables.specs.Prelude.{y_of, IsLegal, is_legal_operator, Tree, bare, element, operator, fixed, delayed, is_inserted_text, Row, entry_of, allows_width}
 use Rattle.bufr_walk.specs.Prelude.{Role, TurnRefusal, Taken, FieldSpec, IsFor, IsForRole, Content, content_in, answer_by_role, FieldFault, data_end, FieldRead, found, plain_field, packed_field, answer_first, Course, Next, take_next, astray, refused, at_end, asked, operated, ahead, counts_of, next_item, finish, open_end, group, pass_end, operator_turn, Rest, passes, unroll, if_valid_width, numeric_spec, coded_spec, text_spec, text_width, spec_by_kind, defined_field, new_reference_spec, unsigned_field, begin, element_spec, factor_field, factor_by, factor_spec, inserted_spec, OperatorModel, is_defining, after_operator, after_field, DataCoding, plain, packed, Kind, step_of, coding_of, contents_across}
 use Rattle.bufr_walk.proofs.SpecLemmas.{inserted_width}
 use Rattle.bufr_walk.proofs.WalkLemmas.{no_count, element_cases}
 use Rattle.bufr_walk.proofs.PackedLemmas.{item_parts, some_across, neither}
 use Rattle.std.proofs.lemmas.List.{length-drop, drop-drop}
 use Rattle.bufr_bits.specs.Prelude.{number_of}
-use Rattle.bufr_tables.proofs.TableBLemmas.{row-limits}
 use Rattle.bufr_tables.specs.declared.table_b.Kind.TheVariants as kind
 use Rattle.bufr_walk.specs.declared.spec.Role.TheVariants as role
 use Rattle.bufr_walk.specs.declared.spec.TurnRefusal.TheVariants as refusal
@@ -267,25 +266,3 @@ packed_forth n spec bits cs mid some e =
 
     within : (w x all left : ℕ) → w ≤ all → x ≤ left → left ≡ all - w → w + x ≤ all
     within w x all left h g e = omega arith
-
--- the widths of the rows of the records
-pub rows_within : (records : List Record) (table : List Row) → map row_of records ≡ map Some table → (fxy : ℕ) (row : Row) → entry_of table fxy ≡ Some row → allows_width row.kind row.width ≡ true
-rows_within records [] e fxy row q = absurd cc
-rows_within [] (first ∷ table) e fxy row q = absurd cc
-rows_within (r ∷ records) (first ∷ table) e fxy row q =
-    by (first.fxy == fxy) (row-limits r first (prefix (row_of r) (map row_of records) first (map Some table) e)).width
-    (λ z. rows_within records table (others (row_of r) (map row_of records) first (map Some table) e) fxy row z) q
-  where
-    prefix : (o : Option Row) (os : List (Option Row)) (x : Row) (xs : List (Option Row)) → ◌≡◌ {A = List (Option Row)} (o ∷ os) (Some x ∷ xs) → o ≡ Some x
-    prefix o os x xs e = cc
-
-    others : (o : Option Row) (os : List (Option Row)) (x : Row) (xs : List (Option Row)) → ◌≡◌ {A = List (Option Row)} (o ∷ os) (Some x ∷ xs) → os ≡ xs
-    others o os x xs e = cc
-
-    same_row : (a b : Row) → ◌≡◌ {A = Option Row} (Some a) (Some b) → a ≡ b
-    same_row a b e = cc
-
-    by : (b : Bool) → allows_width first.kind first.width ≡ true → (entry_of table fxy ≡ Some row → allows_width row.kind row.width ≡ true) → (if b then Some first else entry_of table fxy) ≡ Some row
-        → allows_width row.kind row.width ≡ true
-    by true h go z = subst (λ (x : Row). allows_width x.kind x.width ≡ true) (same_row first row z) h
-    by false h go z = go z

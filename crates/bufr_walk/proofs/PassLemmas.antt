@@ -2,17 +2,18 @@
 use Rattle.bufr_walk.proofs.WalkPass.{Passes, passes_none, passes_one, pass_ends, Comes}
 use Rattle.std.proofs.lemmas.Bool.{ltb-false, le-ltb}
 use Rattle.std.proofs.Common.{◌≡◌, ℕ, zero, suc, ◌+◌, ◌<◌, ◌≤◌, Bool, true, false, List, ◌∷◌, length, Option, Some, None, Result, Ok, Err, ◌*◌, refl, sym, ◌∙◌, ap, subst, arith, drop, length-drop, if◌then◌else◌, [], ◌⊎◌, ◌++◌}
-use Rattle.bufr_tables.specs.Prelude.{Row, Tree, IsLegal, Record, AreRows}
-use Rattle.bufr_walk.specs.Prelude.{FieldSpec, Content, FieldFault, FieldRead, found, Course, Next, take_next, at_end, astray, refused, next_item, Item, DataCoding, plain, packed, answers_in, after, ReadsItems, ReadsPass, ReadsSubsets, IsPackedReading, Data, Values, apart, together, IsReading, Stop, would_be_many, max_values, wrong_of, stop_by, Taken, CountedCourse, uncounted, turns_in, fault_at}
+use Rattle.bufr_tables.specs.Prelude.{Row, Tree, IsLegal}
+use Rattle.bufr_walk.specs.Prelude.{FieldSpec, FieldFault, FieldRead, found, Course, Next, take_next, at_end, astray, refused, next_item, Item, DataCoding, plain, packed, answers_in, after, ReadsItems, Data, Stop, would_be_many, max_values, wrong_of, stop_by, Taken, CountedCourse, uncounted, turns_in, fault_at}
 use Rattle.bufr_walk.specs.declared.walker.WalkStop.TheVariants as stops
 use Rattle.bufr_walk.specs.declared.spec.Role.TheVariants as role
 use Rattle.bufr_walk.specs.declared.fault.WalkFault.TheVariants as fault
 use Rattle.bufr_walk.specs.declared.fault.DataFault.TheVariants as wrong
-use Rattle.bufr_walk.specs.Pass.{Pass, empty_pass, item_then, pass_field, pass_next, pass, Place, read_field, reading, read_pass, DataPass, passes_apart, passes_together, stop_of, left_after, DataReading, reading_in, reading_of, EndsPass, ReadsTo, RunsShort}
-use Rattle.bufr_walk.specs.Readers.{place_at, items_by_pass, first_items}
+use Rattle.bufr_walk.specs.Pass.{Pass, empty_pass, item_then, pass_field, pass_next, pass, Place, read_field, reading, read_pass, DataPass, passes_apart, passes_together, stop_of, left_after, reading_in, reading_of, EndsPass, ReadsTo, RunsShort}
+use Rattle.bufr_walk.specs.Readers.{place_at, items_by_pass}
 use Rattle.std.proofs.lemmas.Grind.{common_steps}
 use Rattle.std.proofs.lemmas.List.{drop-drop}
-use Rattle.bufr_walk.proofs.CourseLemmas.{IsSane, Forth, plain_forth, packed_forth, rows_within, template_sane}
+use Rattle.bufr_walk.proofs.CourseLemmas.{IsSane, Forth, plain_forth, packed_forth, template_sane}
+use Rattle.bufr_walk.proofs.NextField.{AreRead, row_found}
 use Rattle.std.specs.Prelude.{is_none, is_some}
 
 none_more : (a : ℕ) → a + 0 ≡ a
@@ -21,9 +22,9 @@ none_more a = omega arith
 one_more : (a b : ℕ) → a + 1 + b ≡ a + suc b
 one_more a b = omega arith
 
--- the pass that has these items
-abbrev pub passed : {C : Type 0} → ℕ → List (Item C) → List Bool → Option Stop → Pass Place C Stop
-passed place items left o = record { items = items; state = place_at place left; stop = o }
+-- the pass that has these items and does not stop
+abbrev pub passed : {C : Type 0} → List (Item C) → List Bool → DataPass C
+passed items left = record { items = items; state = place_at (0 + length items) left; stop = None }
 
 module _ {C : Type 0} (form : DataCoding C) (many : ℕ → Bool) where
   -- items that are read are those of the pass, up to what comes next
@@ -41,15 +42,11 @@ module _ {C : Type 0} (form : DataCoding C) (many : ℕ → Bool) where
       (subst (λ k. Passes (reading form many) (answers_in form.gives xs) (after form course x) (place_at (from + 1) h.0) xs (place_at k left)) (one_more from (length xs))
       (reads_pass (after form course x) (from + 1) h.0 xs left h.3 (λ j l. ap many (one_more from j) ∙ few (suc j) (omega (arith, l)))))
 
-  -- a pass with these items and this end is what the function gives
-  pub pass_is : (most : ℕ) (course : Course) (from : ℕ) (bits : List Bool) (items : List (Item C)) (left : List Bool) (o : Option Stop)
-      → ReadsTo form many course (place_at from bits) (passed (from + length items) items left o) → length items < most
-      → pass (reading form many) most course (place_at from bits) ≡ passed (from + length items) items left o
-  pass_is most course from bits items left o h lt =
-      pass_ends (reading form many) (answers_in form.gives items) course (place_at from bits) items (place_at (from + length items) left) most (reads_pass course from bits items left h.reads h.few) lt
-      o h.ends
-
 -- ---- A pass reads each item where the one before ended.
+
+-- a field that is read takes bits of the data
+abbrev pub GoesForth : {C : Type 0} → DataCoding C → Type 0
+GoesForth {C} form = (spec : FieldSpec) (bits : List Bool) (c : C) (mid : List Bool) → 1 ≤ spec.width → form.field spec bits ≡ Ok (found c mid) → Forth form spec bits c mid
 
 -- bits after some others
 abbrev IsSuffix : (bits left : List Bool) → Type 0
@@ -63,8 +60,8 @@ module _ {C : Type 0} (form : DataCoding C) (many : ℕ → Bool) where
   abbrev ReadsSo : Course → ℕ → List Bool → Pass Place C Stop → Type 0
   ReadsSo course from bits p = ReadsTo form many course (place_at from bits) p × IsSuffix bits p.state.left
 
-  pub pass_so : ((spec : FieldSpec) (bits : List Bool) (c : C) (mid : List Bool) → 1 ≤ spec.width → form.field spec bits ≡ Ok (found c mid) → Forth form spec bits c mid)
-      → (n : ℕ) (course : Course) (from : ℕ) (bits : List Bool) → IsSane n course → length bits < n → ReadsSo course from bits (pass (reading form many) n course (place_at from bits))
+  pass_so : GoesForth form → (n : ℕ) (course : Course) (from : ℕ) (bits : List Bool) → IsSane n course → length bits < n
+      → ReadsSo course from bits (pass (reading form many) n course (place_at from bits))
   pass_so forth zero course from bits sane lt = absurd (omega (arith, lt))
   pass_so forth (suc n) course from bits sane lt = by (course []) refl (λ c bs h l. pass_so forth n c (from + 1) bs h l)
     where
@@ -123,10 +120,6 @@ module _ {C : Type 0} (form : DataCoding C) (many : ℕ → Bool) where
       by astray e go = absurd (sane.0 e)
       by (refused why) e go = at_once (refused why) e (Some (stop_by why)) refl
       by (take_next spec) e go = at_field spec e (many from) refl (form.field spec bits) refl go
-
--- the end of the template ends a pass over data, and nothing else does so without a stop
-pub ended : {C : Type 0} (form : DataCoding C) (many : ℕ → Bool) (next : Next) (s : Place) → next ≡ at_end → EndsPass (reading form many) next s None
-ended form many next s e = subst (λ n. EndsPass (reading form many) n s None) (sym e) refl
 
 -- a pass over data that does not stop comes to the end of the template
 pub pass_at_end : {C : Type 0} (form : DataCoding C) (many : ℕ → Bool) (most : ℕ) (course : Course) (p : Place) → (pass (reading form many) most course p).stop ≡ None
@@ -201,121 +194,75 @@ pub few_values : (n items j : ℕ) → items * n ≤ max_values → j < items �
 few_values n items j h lt = grind (arith, common_steps, le-ltb)
 
 -- and back
-few_all : (n items : ℕ) → ((j : ℕ) → j < items → would_be_many n (0 + j) ≡ false) → items * n ≤ max_values
+pub few_all : (n items : ℕ) → ((j : ℕ) → j < items → would_be_many n (0 + j) ≡ false) → items * n ≤ max_values
 few_all n zero h = omega arith
-few_all n (suc k) h = let few : (k + 1) * n ≤ max_values = ltb-false max_values ((k + 1) * n) (subst (λ j. would_be_many n j ≡ false) (none_before k) (h k (omega arith))) in subst
-    (λ m. m * n ≤ max_values) (one_on k) few
-  where
-    none_before : (k : ℕ) → 0 + k ≡ k
-    none_before k = omega arith
+few_all n (suc k) h = grind (arith, ltb-false max_values ((0 + k + 1) * n) (h k (omega arith)))
 
-    one_on : (k : ℕ) → k + 1 ≡ suc k
-    one_on k = omega arith
+-- ---- A pass over data of a legal template, both ways.
 
--- ---- The reading of a legal template's data, both ways.
-
-module _ (course : Course) (sane : (m : ℕ) → IsSane m course) where
+module _ {C : Type 0} (form : DataCoding C) (forth : GoesForth form) where
   -- items take at least a bit each
-  fits : {C : Type 0} (form : DataCoding C) → ((spec : FieldSpec) (bits : List Bool) (c : C) (mid : List Bool) → 1 ≤ spec.width → form.field spec bits ≡ Ok (found c mid) → Forth form spec bits c mid)
-      → (n : ℕ) (course : Course) (items : List (Item C)) (bits left : List Bool) → IsSane n course → length items ≤ n → ReadsItems form course items bits left → length items ≤ length bits
-  fits form forth n course [] bits left sane few h = omega arith
-  fits form forth zero course (x ∷ xs) bits left sane few h = absurd (omega (arith, few))
-  fits form forth (suc n) course (x ∷ xs) bits left sane few h =
+  fits : (n : ℕ) (course : Course) (items : List (Item C)) (bits left : List Bool) → IsSane n course → length items ≤ n → ReadsItems form course items bits left → length items ≤ length bits
+  fits n course [] bits left sane few h = omega arith
+  fits zero course (x ∷ xs) bits left sane few h = absurd (omega (arith, few))
+  fits (suc n) course (x ∷ xs) bits left sane few h =
       let w = sane.1 x.spec h.1 in
       let f = forth x.spec bits x.content h.0 w.0 h.2 in
       omega (
         arith,
-        fits form forth n (after form course x) xs h.0 left (w.1 (form.gives x.spec x.content) f.gives) (omega (arith, few)) h.3,
+        fits n (after form course x) xs h.0 left (w.1 (form.gives x.spec x.content) f.gives) (omega (arith, few)) h.3,
         f.some,
         f.within,
         length-drop f.size bits,
         ap length f.left_is,
       )
 
-  subset_ends : (x : List (Item Content)) (bits left : List Bool) → ReadsPass plain course x bits left → read_pass plain (λ items. false) course bits ≡ passed (0 + length x) x left None
-  subset_ends x bits left h =
-      pass_is plain (λ items. false) (suc (length bits)) course 0 bits x left None (record { reads = h.0; few = λ j lt. refl; count = refl; ends = ended plain (λ items. false) _ _ h.1 })
-      (omega (arith, fits plain plain_forth (length x) course x bits left (sane (length x)) (omega arith) h.0))
+  module _ (many : ℕ → Bool) (course : Course) (sane : (m : ℕ) → IsSane m course) (bits : List Bool) where
+    pub pass_reads : ReadsSo form many course 0 bits (read_pass form many course bits)
+    pass_reads = pass_so form many forth (suc (length bits)) course 0 bits (sane (suc (length bits))) (omega arith)
 
-  -- one pass for all subsets, or none where there is no subset
-  together_read : (n : ℕ) (xs : List (Item (List Content))) (bits left : List Bool) → IsPackedReading n course xs bits left
-      → (stop_of (passes_together course n bits) ≡ None) × (first_items (items_by_pass (passes_together course n bits)) ≡ xs) × (left_after bits (passes_together course n bits) ≡ left)
-  together_read zero xs bits left h = (refl, sym h.0, h.1)
-  together_read (suc n) xs bits left h =
-      let e = pass_is (packed (suc n)) (would_be_many (suc n)) (suc (length bits)) course 0 bits xs left None
-      (record { reads = h.0.0; few = λ j lt. few_values (suc n) (length xs) j h.1 lt; count = refl; ends = ended (packed (suc n)) (would_be_many (suc n)) _ _ h.0.1 })
-      (omega (arith, fits (packed (suc n)) (packed_forth n) (length xs) course xs bits left (sane (length xs)) (omega arith) h.0.0)) in
-      (ap (λ (p : DataPass (List Content)). stop_of (p ∷ [])) e, ap (λ (p : DataPass (List Content)). p.items) e, ap (λ (p : DataPass (List Content)). p.state.left) e)
+    -- no other pass reads so
+    pub pass_only : (p : DataPass C) → ReadsTo form many course (place_at 0 bits) p → read_pass form many course bits ≡ p
+    pass_only p h =
+        let answers = answers_in form.gives p.items in
+        pass_ends (reading form many) answers course (place_at 0 bits) p.items p.state (suc (length bits))
+        (subst (λ k. Passes (reading form many) answers course (place_at 0 bits) p.items (place_at k p.state.left)) (sym h.count)
+        (reads_pass form many course 0 bits p.items p.state.left h.reads h.few))
+        (omega (arith, fits (length p.items) course p.items bits p.state.left (sane (length p.items)) (omega arith) h.reads))
+        p.stop h.ends
 
-  -- the items that a reading has
-  pub record IsRead (d : Data) (r : DataReading) (v : Values) (used : ℕ) : Type 0 where
-    pub none : r.stop ≡ None
-    pub items : r.values ≡ v
-    pub left : r.left ≡ drop used d.bits
+    -- items that are read to the end of the template are those of the pass
+    pub pass_whole : (items : List (Item C)) (left : List Bool) → ReadsItems form course items bits left → ((j : ℕ) → j < length items → many (0 + j) ≡ false)
+        → course (answers_in form.gives items) ≡ at_end → read_pass form many course bits ≡ passed items left
+    pass_whole items left reads few end = pass_only (passed items left) (record {
+      reads = reads;
+      few = few;
+      count = refl;
+      ends = subst (λ n. EndsPass (reading form many) n (place_at (0 + length items) left) None) (sym end) refl;
+    })
 
-  subsets_are : (xs : List (List (Item Content))) (n : ℕ) (bits left : List Bool) → ReadsSubsets course xs bits left → length xs ≡ n
-      → (stop_of (passes_apart course n bits) ≡ None) × (items_by_pass (passes_apart course n bits) ≡ xs) × (left_after bits (passes_apart course n bits) ≡ left)
-  subsets_are [] zero bits left h e = (refl, refl, h)
-  subsets_are [] (suc n) bits left h e = absurd (omega (arith, e))
-  subsets_are (x ∷ xs) zero bits left h e = absurd (omega (arith, e))
-  subsets_are (x ∷ xs) (suc n) bits left h e =
-      let more = subsets_are xs n h.0 left h.2 (omega (arith, e)) in
-      subst (λ (p : DataPass Content). let ps = p ∷ (if is_none p.stop then passes_apart course n p.state.left else []) in (stop_of ps ≡ None) × (items_by_pass ps ≡ x ∷ xs)
-      × (left_after bits ps ≡ left))
-      (sym (subset_ends x bits h.0 h.1))
-      (more.0, ap (λ ys. x ∷ ys) more.1, more.2)
+-- ---- The bits that are left after a reading are the last ones.
 
-  -- a reading by the items is the reading
-  pub reading_is : (d : Data) (v : Values) (used : ℕ) → IsReading course d v used → IsRead d (reading_of course d) v used
-  reading_is d (apart xs) used h =
-      let s = subsets_are xs d.subsets d.bits (drop used d.bits) h.2.0 h.2.1 in
-      subst (λ b. IsRead d (reading_in course b d.subsets d.bits) (apart xs) used) (sym h.0) (record { none = s.0; items = ap apart s.1; left = s.2 })
-  reading_is d (together xs) used h =
-      let s = together_read d.subsets xs d.bits (drop used d.bits) h.2 in
-      subst (λ b. IsRead d (reading_in course b d.subsets d.bits) (together xs) used) (sym h.0) (record { none = s.0; items = ap together s.1; left = s.2 })
-
-  -- passes that are not stopped read the subsets
-  subsets_so : (n : ℕ) (bits : List Bool) → stop_of (passes_apart course n bits) ≡ None
-      → ReadsSubsets course (items_by_pass (passes_apart course n bits)) bits (left_after bits (passes_apart course n bits)) × (length (items_by_pass (passes_apart course n bits)) ≡ n)
-      × IsSuffix bits (left_after bits (passes_apart course n bits))
-  subsets_so zero bits h = (refl, refl, (0, omega arith, refl))
-  subsets_so (suc n) bits h =
-      let p = read_pass plain (λ items. false) course bits in
-      let k = next_pass course (suc n) n bits refl h in
-      let so = pass_so plain (λ items. false) plain_forth (suc (length bits)) course 0 bits (sane (suc (length bits))) (omega arith) in
-      let r = subsets_so n p.state.left k.2 in
-      subst (λ ps. ReadsSubsets course (items_by_pass ps) bits (left_after bits ps) × (length (items_by_pass ps) ≡ suc n) × IsSuffix bits (left_after bits ps)) (sym k.1) (
-        (p.state.left, (so.0.reads, pass_at_end plain (λ items. false) (suc (length bits)) course (place_at 0 bits) k.0), r.0),
-        ap suc r.1,
-        suffix_then so.1.0 bits p.state.left _ so.1.1 so.1.2 r.2,
-      )
-
-  together_so : (n : ℕ) (bits : List Bool) → stop_of (passes_together course n bits) ≡ None
-      → IsPackedReading n course (first_items (items_by_pass (passes_together course n bits))) bits (left_after bits (passes_together course n bits))
-      × IsSuffix bits (left_after bits (passes_together course n bits))
-  together_so zero bits h = ((refl, refl), (0, omega arith, refl))
-  together_so (suc n) bits h =
-      let p = read_pass (packed (suc n)) (would_be_many (suc n)) course bits in
-      let so = pass_so (packed (suc n)) (would_be_many (suc n)) (packed_forth n) (suc (length bits)) course 0 bits (sane (suc (length bits))) (omega arith) in
-      let ends = pass_at_end (packed (suc n)) (would_be_many (suc n)) (suc (length bits)) course (place_at 0 bits) (only p.stop h) in
-      (((so.0.reads, ends), few_all (suc n) (length p.items) so.0.few), so.1)
+module _ (course : Course) (sane : (m : ℕ) → IsSane m course) where
+  left_apart : (n : ℕ) (bits : List Bool) → IsSuffix bits (left_after bits (passes_apart course n bits))
+  left_apart zero bits = (0, omega arith, refl)
+  left_apart (suc n) bits = by (read_pass plain (λ items. false) course bits).stop (λ mid. left_apart n mid)
     where
-      only : (o : Option Stop) → (if is_some o then o else None) ≡ None → o ≡ None
-      only None e = refl
-      only (Some why) e = absurd cc
+      by : (o : Option Stop) → ((mid : List Bool) → IsSuffix mid (left_after mid (passes_apart course n mid)))
+          → (let mid = (read_pass plain (λ items. false) course bits).state.left in IsSuffix bits (left_after mid (if is_none o then passes_apart course n mid else [])))
+      by None rest = let s = (pass_reads plain plain_forth (λ items. false) course sane bits).1 in suffix_then s.0 bits _ _ s.1 s.2 (rest _)
+      by (Some why) rest = (pass_reads plain plain_forth (λ items. false) course sane bits).1
 
-  -- a reading that is not stopped is a reading by the items
-  pub reads_so : (d : Data) → (reading_of course d).stop ≡ None → (used : ℕ) × IsReading course d (reading_of course d).values used × ((reading_of course d).left ≡ drop used d.bits)
-  reads_so d none = by d.compressed refl none
+  left_together : (n : ℕ) (bits : List Bool) → IsSuffix bits (left_after bits (passes_together course n bits))
+  left_together zero bits = (0, omega arith, refl)
+  left_together (suc n) bits = (pass_reads (packed (suc n)) (packed_forth n) (would_be_many (suc n)) course sane bits).1
+
+  pub reading_left : (d : Data) → IsSuffix d.bits (reading_of course d).left
+  reading_left d = by d.compressed
     where
-      by : (b : Bool) → d.compressed ≡ b → (reading_in course b d.subsets d.bits).stop ≡ None
-          → (used : ℕ) × IsReading course d (reading_in course b d.subsets d.bits).values used × ((reading_in course b d.subsets d.bits).left ≡ drop used d.bits)
-      by false e h =
-          let s = subsets_so d.subsets d.bits h in
-          (s.2.0, (e, s.2.1, (subst (λ l. ReadsSubsets course (items_by_pass (passes_apart course d.subsets d.bits)) d.bits l) s.2.2 s.0, s.1)), s.2.2)
-      by true e h =
-          let s = together_so d.subsets d.bits h in
-          (s.1.0, (e, s.1.1, subst (λ l. IsPackedReading d.subsets course (first_items (items_by_pass (passes_together course d.subsets d.bits))) d.bits l) s.1.2 s.0), s.1.2)
+      by : (b : Bool) → IsSuffix d.bits (reading_in course b d.subsets d.bits).left
+      by false = left_apart d.subsets d.bits
+      by true = left_together d.subsets d.bits
 
-pub legal_sane : (records : List Record) (table : List Row) (template : Tree) → AreRows records table → IsLegal template → (m : ℕ) → IsSane m (next_item table template)
-legal_sane records table template h legal m = template_sane table (λ fxy row e. rows_within h.rest table h.rows fxy row e) template legal m
+pub legal_sane : (table : List Row) (template : Tree) → AreRead table → IsLegal template → (m : ℕ) → IsSane m (next_item table template)
+legal_sane table template rows legal m = template_sane table (λ fxy row e. (row_found table fxy row rows e).listed.width) template legal m

@@ -1,7 +1,7 @@
 -- The data of a message: their items, and why they cannot be read. (WMO-No. 306, Volume I.2, FM 94:
 -- sections 3 and 4)
 -- Cited by public contracts.
-use Rattle.std.specs.Prelude.{ℕ, zero, suc, ◌≡◌, ◌+◌, ◌*◌, ◌≤◌, Bool, true, false, List, [], ◌∷◌, length, drop, take, ◌<◌, Result, Ok, ◌⊎◌, nat_lt, Option, None, Err, codes, decimal, if◌then◌else◌, ◌++◌, option_map, map, get_or}
+use Rattle.std.specs.Prelude.{ℕ, zero, suc, ◌≡◌, ◌+◌, ◌*◌, Bool, List, [], ◌∷◌, length, drop, take, ◌<◌, Result, Ok, ◌⊎◌, nat_lt, Option, None, Err, codes, decimal, if◌then◌else◌, ◌++◌, option_map, map, get_or}
 use Rattle.bufr_walk.specs.Content.{Taken, FieldSpec, Content, answer_of, FieldFault, FieldRead, found, plain_field, data_end, increment, unequal_factor, packed_field, answer_first, ShownValue, shown, missing, shown_number, shown_text, shown_missing, shown_reference}
 use Rattle.bufr_walk.specs.Course.{Course, take_next, at_end, next_item}
 use Rattle.bufr_walk.specs.Steps.{CountedCourse, counted_item, ticked}
@@ -58,20 +58,6 @@ ReadsItems form course (i ∷ items) bits suffix =
     × (form.field i.spec bits ≡ Ok (found i.content mid))
     × ReadsItems form (after form course i) items mid suffix
 
--- The items are those of one pass to the end of the template.
-abbrev pub ReadsPass : {C : Type 0} → DataCoding C → Course → List (Item C)
-    → (bits suffix : List Bool) → Type 0
-ReadsPass form course items bits suffix =
-    ReadsItems form course items bits suffix × (course (answers_in form.gives items) ≡ at_end)
-
--- The subsets follow one another, each from the beginning of the template.
--- rule: operators-end-with-subset, subsets-without-padding
-abbrev pub ReadsSubsets : Course → List (List (Item Content)) → (bits suffix : List Bool) → Type 0
-ReadsSubsets course [] bits suffix = bits ≡ suffix
-ReadsSubsets course (items ∷ subsets) bits suffix =
-    (mid : List Bool) × ReadsPass plain course items bits mid
-    × ReadsSubsets course subsets mid suffix
-
 -- the maximum number of values in a compressed message: 2^27 (own)
 -- rule: too-many-values
 abbrev pub max_values : ℕ
@@ -80,21 +66,6 @@ max_values = 134217728
 -- how many items of compressed data have room at once (own)
 abbrev pub items_at_once : ℕ
 items_at_once = 64
-
--- The items are those of one pass for all subsets, and do not have too many values; without
--- subsets, no items are read.
--- rule: no-subsets
-abbrev pub IsPackedReading : (subsets : ℕ) → Course → List (Item (List Content))
-    → (bits suffix : List Bool) → Type 0
-IsPackedReading zero course items bits suffix = (items ≡ []) × (bits ≡ suffix)
-IsPackedReading (suc n) course items bits suffix =
-    ReadsPass (packed (suc n)) course items bits suffix × (length items * suc n ≤ max_values)
-
--- The subsets follow one another, and there are n of them.
-abbrev pub IsPlainReading : (subsets : ℕ) → Course → List (List (Item Content))
-    → (bits suffix : List Bool) → Type 0
-IsPlainReading n course subsets bits suffix =
-    ReadsSubsets course subsets bits suffix × (length subsets ≡ n)
 
 -- the data of a message: whether they are compressed, their number of subsets, and their bits
 pub record Data : Type 0 where
@@ -127,16 +98,6 @@ each_subset n (together items) = subsets_from n 0 items
 abbrev pub items_kept : Values → ℕ
 items_kept (apart subsets) = 0
 items_kept (together items) = length items
-
--- These are the items of the data, and they take the first `used` bits.
--- rule: bits-left-over
-abbrev pub IsReading : Course → Data → Values → (used : ℕ) → Type 0
-IsReading course d (apart subsets) used =
-    (d.compressed ≡ false) × (used ≤ length d.bits)
-    × IsPlainReading d.subsets course subsets d.bits (drop used d.bits)
-IsReading course d (together items) used =
-    (d.compressed ≡ true) × (used ≤ length d.bits)
-    × IsPackedReading d.subsets course items d.bits (drop used d.bits)
 
 -- Why a reading stops: the walk refuses a step, or a field cannot be read. A `FieldFault` becomes a
 -- `DataFault` (with the descriptor); that or a `TurnRefusal` becomes a `WalkStop`; and that becomes

@@ -1,40 +1,46 @@
 //! Laws about the reading of data: each item is the field that comes next, and begins where the
 //! previous item ended.
-ghost use Rattle.std.specs.Prelude.{◌≡◌, ◌≤◌, ℕ, List, Bool, None, false, drop, is_some};
+ghost use Rattle.std.specs.Prelude.{◌≡◌, ◌≤◌, ℕ, List, Bool, false, length, drop, is_some};
 ghost use Rattle.bufr_tables.specs.Prelude.{IsLegal, Record, Row, AreRows, Tree, entry_of};
 ghost use Rattle.bufr_tables.specs.Expansion.{IsKnown};
 ghost use Rattle.bufr_walk.specs.KnownRows.{HasRows};
 ghost use Rattle.bufr_walk.specs.Course.{turns_of, counts_of};
 ghost use Rattle.bufr_walk.specs.Rules.{begin};
-ghost use Rattle.bufr_walk.specs.Prelude.{next_item, Data, Values, IsReading, Taken, FieldSpec, AreWithin, IsField, take_next, reading_of, read_pass, ReadsTo, plain, packed, would_be_many};
+ghost use Rattle.bufr_walk.specs.Prelude.{next_item, Data, Content, Taken, FieldSpec, AreWithin, IsField, take_next, reading_of, read_pass, DataPass, ReadsTo, plain, packed, would_be_many};
 
 /// Law: for every legal template and every Table B that can be read, a pass over any bits reads
 /// item by item. Each item is the field that comes next, and begins where the previous item ended.
-/// The pass ends with the template, or it stops because what comes next cannot be read. A reading
-/// completes if and only if its items can be read to the end of each subset, and then it consists
-/// of these items. So data have either one reading or one fault, never both. (WMO-No. 306, Volume
-/// I.2, FM 94: sections 3 and 4)
+/// The pass ends with the template, or it stops because what comes next cannot be read. No other
+/// pass does so: if items can be read to the end of the template and are not too many, the pass
+/// consists of these items. So data have either one reading or one fault, never both. The bits left
+/// after a reading are the last bits of the data. (WMO-No. 306, Volume I.2, FM 94: sections 3
+/// and 4)
 pub fn data_are_read_item_by_item()
     ensures plain { (records : List Record) (table : List Row) (template : Tree) (bits : List Bool)
         → AreRows records table → IsLegal template
         → ReadsTo plain (λ items. false) (next_item table template)
         (record { items = 0; left = bits })
         (read_pass plain (λ items. false) (next_item table template) bits) }
+    ensures only_plain { (records : List Record) (table : List Row) (template : Tree)
+        (bits : List Bool) (p : DataPass Content) → AreRows records table → IsLegal template
+        → ReadsTo plain (λ items. false) (next_item table template)
+        (record { items = 0; left = bits }) p
+        → read_pass plain (λ items. false) (next_item table template) bits ≡ p }
     ensures packed { (records : List Record) (table : List Row) (template : Tree) (n : ℕ)
         (bits : List Bool) → AreRows records table → IsLegal template → 1 ≤ n
         → ReadsTo (packed n) (would_be_many n) (next_item table template)
         (record { items = 0; left = bits })
         (read_pass (packed n) (would_be_many n) (next_item table template) bits) }
-    ensures read { (records : List Record) (table : List Row) (template : Tree) (d : Data)
+    ensures only_packed { (records : List Record) (table : List Row) (template : Tree) (n : ℕ)
+        (bits : List Bool) (p : DataPass (List Content)) → AreRows records table
+        → IsLegal template → 1 ≤ n
+        → ReadsTo (packed n) (would_be_many n) (next_item table template)
+        (record { items = 0; left = bits }) p
+        → read_pass (packed n) (would_be_many n) (next_item table template) bits ≡ p }
+    ensures left { (records : List Record) (table : List Row) (template : Tree) (d : Data)
         → AreRows records table → IsLegal template
-        → (v : Values) (used : ℕ) → IsReading (next_item table template) d v used
-        → let r = reading_of (next_item table template) d in
-        (r.stop ≡ None) × (r.values ≡ v) × (r.left ≡ drop used d.bits) }
-    ensures only_read { (records : List Record) (table : List Row) (template : Tree) (d : Data)
-        → AreRows records table → IsLegal template
-        → let r = reading_of (next_item table template) d in r.stop ≡ None
-        → (used : ℕ) × IsReading (next_item table template) d (r.values) used
-        × (r.left ≡ drop used d.bits) }
+        → (used : ℕ) × (used ≤ length d.bits)
+        × ((reading_of (next_item table template) d).left ≡ drop used d.bits) }
 {}
 
 /// Law: each field that comes next in a legal template has a valid spec, and its descriptor has 16

@@ -1,24 +1,31 @@
-use Rattle.std.proofs.Common.{ℕ, zero, suc, ◌≤◌, List, Bool, length, arith, false}
-use Rattle.bufr_walk.specs.Prelude.{next_item, plain, packed, would_be_many, read_pass, place_at, ReadsTo, Course}
+use Rattle.std.proofs.Common.{ℕ, zero, suc, ◌≤◌, List, arith, false}
+use Rattle.bufr_tables.specs.Prelude.{Record, Row, Tree, IsLegal, AreRows}
+use Rattle.bufr_walk.specs.Prelude.{next_item, plain, packed, would_be_many}
+use Rattle.bufr_walk.proofs.NextField.{table_read}
 use Rattle.bufr_walk.proofs.CourseLemmas.{IsSane, plain_forth, packed_forth}
-use Rattle.bufr_walk.proofs.PassLemmas.{legal_sane, reading_is, reads_so, pass_so}
+use Rattle.bufr_walk.proofs.PassLemmas.{GoesForth, legal_sane, pass_reads, pass_only, reading_left}
 use Rattle.bufr_walk.proofs.laws.data_are_read_item_by_item.Goals as goal
 
-pub returns-clause-plain : goal.returns-clause-plain
-returns-clause-plain c = λ records table template bits rows legal.
-    (pass_so plain (λ items. false) plain_forth (suc (length bits)) (next_item table template) 0 bits (legal_sane records table template rows legal (suc (length bits))) (omega arith)).0
+some_forth : (n : ℕ) → 1 ≤ n → GoesForth (packed n)
+some_forth zero some = absurd (omega (arith, some))
+some_forth (suc n) some = packed_forth n
 
-packed_so : (n : ℕ) (course : Course) (bits : List Bool) → IsSane (suc (length bits)) course → 1 ≤ n
-    → ReadsTo (packed n) (would_be_many n) course (place_at 0 bits) (read_pass (packed n) (would_be_many n) course bits)
-packed_so zero course bits sane some = absurd (omega (arith, some))
-packed_so (suc n) course bits sane some = (pass_so (packed (suc n)) (would_be_many (suc n)) (packed_forth n) (suc (length bits)) course 0 bits sane (omega arith)).0
+sane : (records : List Record) (table : List Row) (template : Tree) → AreRows records table → IsLegal template → (m : ℕ) → IsSane m (next_item table template)
+sane records table template rows legal = legal_sane table template (table_read records table rows) legal
+
+pub returns-clause-plain : goal.returns-clause-plain
+returns-clause-plain c = λ records table template bits rows legal. (pass_reads plain plain_forth (λ items. false) (next_item table template) (sane records table template rows legal) bits).0
+
+pub returns-clause-only_plain : goal.returns-clause-only_plain
+returns-clause-only_plain c = λ records table template bits p rows legal h. pass_only plain plain_forth (λ items. false) (next_item table template) (sane records table template rows legal) bits p h
 
 pub returns-clause-packed : goal.returns-clause-packed
-returns-clause-packed c = λ records table template n bits rows legal some. packed_so n (next_item table template) bits (legal_sane records table template rows legal (suc (length bits))) some
+returns-clause-packed c = λ records table template n bits rows legal some.
+    (pass_reads (packed n) (some_forth n some) (would_be_many n) (next_item table template) (sane records table template rows legal) bits).0
 
-pub returns-clause-read : goal.returns-clause-read
-returns-clause-read c = λ records table template d rows legal v used h.
-    let is = reading_is (next_item table template) (legal_sane records table template rows legal) d v used h in (is.none, is.items, is.left)
+pub returns-clause-only_packed : goal.returns-clause-only_packed
+returns-clause-only_packed c = λ records table template n bits p rows legal some h.
+    pass_only (packed n) (some_forth n some) (would_be_many n) (next_item table template) (sane records table template rows legal) bits p h
 
-pub returns-clause-only_read : goal.returns-clause-only_read
-returns-clause-only_read c = λ records table template d rows legal e. reads_so (next_item table template) (legal_sane records table template rows legal) d e
+pub returns-clause-left : goal.returns-clause-left
+returns-clause-left c = λ records table template d rows legal. reading_left (next_item table template) (sane records table template rows legal) d
