@@ -1,4 +1,4 @@
--- Bits as numbers and as octets: in parts, all ones, in windows, and as a writer pushes them.
+-- Bits as numbers and as octets: in parts, all ones, in windows, and as a writer appends them.
 use Rattle.std.proofs.lemmas.Grind.{common_steps}
 use Rattle.std.proofs.Common.{◌≡◌, ℕ, ◌⊎◌, inl, inr, zero, suc, min, max, ◌+◌, ◌-◌, ◌*◌, ◌/◌, ◌%◌, ◌^◌, ◌<◌, ◌≤◌, ◌==◌, Bool, true, false, if◌then◌else◌, List, [], ◌∷◌, ◌++◌, length, take, drop, get_or, refl, sym, ap, ◌∙◌, subst, arith, length-drop, take-append-drop, length-take-le, take-add, drop-drop, pow-add, pow_mono, ◌&&◌, eqb, replicate, append_assoc, mod-eq_of_lt, append-nil, length-append}
 use Rattle.std.proofs.lemmas.Nat.{shr_high, mod_low, shl_whole, mod-pow-add, shr_split, shr_le, mod_below, shr-shr, pow_pos, shr_below, be_bytes_8}
@@ -8,14 +8,14 @@ use Rattle.bufr_bits.specs.Prelude.{bits_of_octet, bits_of, number_after_bits, n
 use Rattle.std.specs.List.{list_all}
 use Rattle.std.specs.Int.{bytes_high_first, byte_at, from_be_bytes, w64}
 
--- a bit as a number
+-- the value of one bit
 abbrev pub bit : Bool → ℕ
 bit b = if b then 1 else 0
 
 shift_once : (n b p q r : ℕ) → q ≡ p * 2 → (2 * n + b) * p + r ≡ n * q + ((2 * 0 + b) * p + r)
 shift_once n b p q r e = rw e (omega arith)
 
--- bits after a number: the number moves up by as many places
+-- When bits follow a number, the number shifts left by as many places.
 pub number_after_bits-is : (n : ℕ) (xs : List Bool) → number_after_bits n xs ≡ n * 2 ^ length xs + number_of xs
 number_after_bits-is n [] = omega arith
 number_after_bits-is n (x ∷ xs) =
@@ -48,7 +48,7 @@ number_of-below (x ∷ xs) =
 pub bit_of_test : (n : ℕ) → bit (n % 2 == 1) ≡ n % 2
 bit_of_test n = grind arith
 
--- a number is twice its half and its last bit
+-- A number is twice its half plus its last bit.
 halved : (n h : ℕ) → h ≡ n / 2 → n ≡ 2 * h + bit (n % 2 == 1)
 halved n h e = let t = bit_of_test n in omega (arith, t)
 
@@ -56,17 +56,17 @@ eight_halves : (x q1 q2 q3 q4 q5 q6 q7 b0 b1 b2 b3 b4 b5 b6 b7 : ℕ) → x ≡ 
     → q7 ≡ 2 * 0 + b7 → 2 * (2 * (2 * (2 * (2 * (2 * (2 * (0 + b7) + b6) + b5) + b4) + b3) + b2) + b1) + b0 ≡ x
 eight_halves x q1 q2 q3 q4 q5 q6 q7 b0 b1 b2 b3 b4 b5 b6 b7 e0 e1 e2 e3 e4 e5 e6 e7 = omega arith
 
--- the eight bits of an octet write the octet
+-- The eight bits of an octet represent the octet.
 pub number-bits_of_octet : (x : ℕ) → x < 256 → number_of (bits_of_octet x) ≡ x
 number-bits_of_octet x h = grind (arith, common_steps, eight_halves, halved)
 
--- the middle of three parts of a number
+-- the middle one of three parts of a number
 middle_of : (a b c n w k : ℕ) → b < 2 ^ w → c < 2 ^ k → n ≡ a * 2 ^ (w + k) + (b * 2 ^ k + c) → n / 2 ^ k % 2 ^ w ≡ b
 middle_of a b c n w k hb hc e =
     let whole : n ≡ (a * 2 ^ w + b) * 2 ^ k + c = rw (e, pow-add) (omega arith) in
     ap (λ (m : ℕ). m / 2 ^ k % 2 ^ w) whole ∙ ap (λ (m : ℕ). m % 2 ^ w) (shr_high (a * 2 ^ w + b) k c hc) ∙ mod_low a w b hb
 
--- the middle of a list of bits writes the middle of the number that the list writes
+-- The middle bits of a list represent the middle part of the number that the list represents.
 pub number_of_middle : (xs : List Bool) (n from width : ℕ) → length xs ≡ n → from + width ≤ n → number_of (take width (drop from xs)) ≡ number_of xs / 2 ^ (n - from - width) % 2 ^ width
 number_of_middle xs n from width l h =
     let prefix = take from xs in
@@ -85,7 +85,7 @@ number_of_middle xs n from width l h =
     thirds ∙ ap (λ (m : ℕ). number_of prefix * 2 ^ m + number_of (drop from xs)) rest ∙ ap (λ (m : ℕ). number_of prefix * 2 ^ (width + k) + m) after in
     sym (middle_of (number_of prefix) (number_of mid) (number_of back) (number_of xs) width k below_mid below_back all)
 
--- the bits of octets, by octets
+-- the bits of a list of octets, octet by octet
 pub length-bits_of : (xs : List ℕ) → length (bits_of xs) ≡ 8 * length xs
 unfolding bits_of
 length-bits_of [] = refl
@@ -107,7 +107,7 @@ take-bits_of (suc i) (x ∷ xs) =
     let e : 8 * suc i ≡ 8 + 8 * i = omega arith in
     rw (e, take-add 8 (8 * i) (bits_of (x ∷ xs))) (ap (λ (ys : List Bool). bits_of_octet x ++ ys) (take-bits_of i xs))
 
--- some bits within one octet write a part of the octet
+-- Bits within one octet represent a part of this octet.
 pub number_of_part : (xs : List ℕ) (i from width : ℕ) → i < length xs → get_or xs i 0 < 256 → from + width ≤ 8
     → number_of (bits_at xs (8 * i + from) width) ≡ get_or xs i 0 / 2 ^ (8 - from - width) % 2 ^ width
 unfolding bits_of
@@ -121,20 +121,20 @@ number_of_part xs i from width h small fits =
     ap (λ (ys : List Bool). number_of (take width ys)) (there ∙ first ∙ within) ∙ ap number_of prefix ∙ number_of_middle bits 8 from width refl fits
     ∙ ap (λ (m : ℕ). m / 2 ^ (8 - from - width) % 2 ^ width) (number-bits_of_octet octet small)
 
--- so many bits are there, within the octets
+-- A field that lies inside the octets has its full width.
 pub length-bits_at : (xs : List ℕ) (at width : ℕ) → at + width ≤ 8 * length xs → length (bits_at xs at width) ≡ width
 length-bits_at xs at width h = length-take-le width (drop at (bits_of xs)) (omega (arith, length-drop at (bits_of xs), length-bits_of xs))
 
--- more bits, from where the others end
+-- A field in two parts: its number is that of the first bits, shifted, plus that of the others.
 pub number_of_more : (xs : List ℕ) (at done more : ℕ) → at + done + more ≤ 8 * length xs
     → number_of (bits_at xs at (done + more)) ≡ number_of (bits_at xs at done) * 2 ^ more + number_of (bits_at xs (at + done) more)
 number_of_more xs at done more h = grind (arith, common_steps, take-add, drop-drop, length-bits_at, number_of-append)
 
--- a number that bits write within the octets is below its power of two
+-- the upper bound of a number that is read from `width` bits
 pub bits_at-below : (xs : List ℕ) (at width : ℕ) → at + width ≤ 8 * length xs → number_of (bits_at xs at width) < 2 ^ width
 bits_at-below xs at width h = subst (λ (m : ℕ). number_of (bits_at xs at width) < 2 ^ m) (length-bits_at xs at width h) (number_of-below (bits_at xs at width))
 
--- bits and then some of one octet
+-- The number read so far, extended by bits of one more octet, is that of the longer field.
 pub next_part : (xs : List ℕ) (at width done taken value part : ℕ) → at + width ≤ 8 * length xs → width ≤ 63 → done < width → taken ≡ min (8 - (at + done) % 8) (width - done)
     → value ≡ number_of (bits_at xs at done) → get_or xs ((at + done) / 8) 0 < 256 → part ≡ get_or xs ((at + done) / 8) 0 / 2 ^ (8 - (at + done) % 8 - taken) % 2 ^ taken
     → value * 2 ^ taken % 18446744073709551616 + part ≡ number_of (bits_at xs at (done + taken))
@@ -156,25 +156,23 @@ fits_in_63 xs at width n inside short e = grind (arith, common_steps, bits_at-be
 pub below_width : (xs : List ℕ) (at width n : ℕ) → at + width ≤ 8 * length xs → n ≡ number_of (bits_at xs at width) → n < 2 ^ width
 below_width xs at width n inside e = subst (λ (m : ℕ). m < 2 ^ width) (sym e) (bits_at-below xs at width inside)
 
--- Bits that are all ones: of a list in parts, of the number that they write, and of whole octets.
+-- ---- Bits that are all ones: of a list in parts, of a number, and of whole octets.
 
 and_assoc : (a b c : Bool) → (a && (b && c)) ≡ (a && b && c)
 and_assoc true b c = refl
 and_assoc false b c = refl
 
--- all of two lists is all of each
 pub list_all-append : {X : Type 0} (p : X → Bool) (xs ys : List X) → list_all p (xs ++ ys) ≡ (list_all p xs && list_all p ys)
 list_all-append p [] ys = refl
 list_all-append p (x ∷ xs) ys = ap (λ (b : Bool). p x && b) (list_all-append p xs ys) ∙ and_assoc (p x) (list_all p xs) (list_all p ys)
 
--- whether a number in base two is the greatest, by its first digit
 greatest_ahead : (n p : ℕ) → n < p → eqb (1 * p + n) (p * 2 - 1) ≡ eqb n (p - 1)
 greatest_ahead n p h = grind arith
 
 greatest_not : (n p : ℕ) → n < p → eqb (0 * p + n) (p * 2 - 1) ≡ false
 greatest_not n p h = grind arith
 
--- bits are all ones where they write the greatest number of their width
+-- Bits are all ones if and only if they represent the greatest number of their width.
 pub are_all_ones-number : (xs : List Bool) → eqb (number_of xs) (2 ^ length xs - 1) ≡ are_all_ones xs
 are_all_ones-number [] = refl
 are_all_ones-number (true ∷ xs) =
@@ -182,7 +180,7 @@ are_all_ones-number (true ∷ xs) =
     ∙ greatest_ahead (number_of xs) (2 ^ length xs) (number_of-below xs) ∙ are_all_ones-number xs
 are_all_ones-number (false ∷ xs) = grind (arith, common_steps, eqb, number_after_bits-is, pow-suc, greatest_not, number_of-below)
 
--- octets are all ones where each is 255
+-- The bits of octets are all ones if and only if each octet is 255.
 pub are_all_ones-bits_of : (xs : List ℕ) → ((k : ℕ) → get_or xs k 0 < 256) → list_all (λ octet. octet == 255) xs ≡ are_all_ones (bits_of xs)
 unfolding bits_of
 are_all_ones-bits_of [] h = refl
@@ -192,15 +190,14 @@ are_all_ones-bits_of (x ∷ xs) h =
     ap (λ (b : Bool). b && list_all (λ octet. octet == 255) xs) here ∙ ap (λ (b : Bool). are_all_ones (bits_of_octet x) && b) rest
     ∙ sym (list_all-append (λ (b : Bool). b) (bits_of_octet x) (bits_of xs))
 
--- all of some bits, in parts
 pub are_all_ones-more : (xs : List ℕ) (at leading rest : ℕ) → are_all_ones (bits_at xs at (leading + rest)) ≡ (are_all_ones (bits_at xs at leading) && are_all_ones (bits_at xs (at + leading) rest))
 are_all_ones-more xs at leading rest = grind (arith, common_steps, drop-drop, take-add, list_all-append)
 
--- whether a number that was read is the greatest of its width
+-- A field is all ones if and only if its number is the greatest of its width.
 pub ones_in_number : (xs : List ℕ) (at width n most : ℕ) → at + width ≤ 8 * length xs → n ≡ number_of (bits_at xs at width) → most ≡ 2 ^ width - 1 → eqb n most ≡ are_all_ones (bits_at xs at width)
 ones_in_number xs at width n most h e m = grind (arith, common_steps, eqb, length-bits_at, are_all_ones-number)
 
--- the first bits decide, or the others
+-- The first bits, at most 56 of them, are compared as a number, then the others.
 pub ones_by_first : (xs : List ℕ) (at first width n : ℕ) → first ≡ min width 56 → at + width ≤ 8 * length xs → n ≡ number_of (bits_at xs at first)
     → are_all_ones (bits_at xs at width) ≡ (eqb n (1 * 2 ^ first % 18446744073709551616 - 1) && are_all_ones (bits_at xs (at + first) (width - first)))
 ones_by_first xs at first width n few inside e =
@@ -213,7 +210,7 @@ pub and_false : (a : Bool) → (a && false) ≡ false
 and_false true = refl
 and_false false = refl
 
--- ---- A number as bits, in parts and by octets.
+-- ---- The bits of a number, in parts and by octets.
 
 pub length-bits_in : (v w : ℕ) → length (bits_in v w) ≡ w
 unfolding bits_in
@@ -224,7 +221,7 @@ pub bits_in-none : (v : ℕ) → bits_in v 0 ≡ []
 unfolding bits_in
 bits_in-none v = refl
 
--- the high bits and the low bits
+-- the high bits, then the low bits
 pub bits_in-split : (v a b : ℕ) → bits_in v (a + b) ≡ bits_in (v / 2 ^ b) a ++ bits_in v b
 unfolding bits_in
 bits_in-split v zero b = ap (bits_in v) (omega arith)
@@ -240,7 +237,7 @@ quotient-above x v k =
     let whole : x * 2 ^ k + v ≡ (x + v / 2 ^ k) * 2 ^ k + v % 2 ^ k = omega arith in
     ap (λ (n : ℕ). n / 2 ^ k) whole ∙ shr_high (x + v / 2 ^ k) k (v % 2 ^ k) (mod_below v (2 ^ k) (pow_pos k))
 
--- bits in a width are those of the number without what is above its power of two
+-- The bits of a number in a width do not depend on what is above this width.
 pub bits_in-above : (a v w : ℕ) → bits_in (a * 2 ^ w + v) w ≡ bits_in v w
 unfolding bits_in
 bits_in-above a v zero = refl
@@ -251,11 +248,11 @@ bits_in-above a v (suc w) =
     let rest : bits_in (a * 2 ^ suc w + v) w ≡ bits_in v w = ap (λ (n : ℕ). bits_in n w) same ∙ bits_in-above (2 * a) v w in
     cc
 
--- two numbers as bits, one after the other
+-- the bits of two numbers, one after the other
 pub bits_in-join : (a v c w : ℕ) → v < 2 ^ w → bits_in a c ++ bits_in v w ≡ bits_in (a * 2 ^ w + v) (c + w)
 bits_in-join a v c w h = grind (arith, common_steps, bits_in-split, shr_high, bits_in-above)
 
--- no bits are written by 0
+-- The bits of 0 are all zeros.
 pub bits_in-zero : (w : ℕ) → bits_in 0 w ≡ replicate w false
 unfolding bits_in
 bits_in-zero zero = refl
@@ -264,7 +261,7 @@ bits_in-zero (suc w) =
     let rest = bits_in-zero w in
     ap (λ (n : ℕ). (n % 2 == 1) ∷ bits_in 0 w) none ∙ ap (λ (xs : List Bool). false ∷ xs) rest
 
--- an octet has eight bits
+-- Eight bits of a number are those of its last octet.
 pub bits_in-octet : (v : ℕ) → bits_in v 8 ≡ bits_of_octet (v % 256)
 unfolding bits_in
 bits_in-octet v =
@@ -289,7 +286,7 @@ byte_at-is : (k n : ℕ) → byte_at k n ≡ n / 2 ^ (8 * k) % 256
 byte_at-is zero n = omega arith
 byte_at-is (suc k) n = ap (λ (m : ℕ). n / m % 256) (power_of_octets (suc k))
 
--- the octets of a number, the highest first
+-- the octets of a number, most significant first
 pub bits_of-bytes : (k n : ℕ) → bits_of (bytes_high_first k n) ≡ bits_in n (8 * k)
 unfolding bits_of
 bits_of-bytes zero n = sym (bits_in-none n)
@@ -299,7 +296,7 @@ bits_of-bytes (suc k) n =
     let whole : bits_in n (8 * suc k) ≡ bits_in (n / 2 ^ (8 * k)) 8 ++ bits_in n (8 * k) = ap (bits_in n) e ∙ bits_in-split n 8 (8 * k) in
     ap (λ (xs : List Bool). xs ++ bits_of (bytes_high_first k n)) first ∙ ap (λ (xs : List Bool). bits_in (n / 2 ^ (8 * k)) 8 ++ xs) (bits_of-bytes k n) ∙ sym whole
 
--- the bits of a number in a width write the number
+-- The bits of a number in a width represent the number modulo a power of two.
 pub number_of-bits_in : (v w : ℕ) → number_of (bits_in v w) ≡ v % 2 ^ w
 unfolding bits_in
 number_of-bits_in v zero = omega arith
@@ -311,20 +308,20 @@ number_of-bits_in v (suc w) =
     after ∙ ap (λ (m : ℕ). m * 2 ^ length (bits_in v w) + number_of (bits_in v w)) (bit_of_test (v / 2 ^ w)) ∙ ap (λ (m : ℕ). first * 2 ^ m + number_of (bits_in v w)) (length-bits_in v w)
     ∙ ap (λ (m : ℕ). first * 2 ^ w + m) (number_of-bits_in v w) ∙ sym (mod-pow-add v 1 w) ∙ ap (λ (m : ℕ). v % 2 ^ m) (sym one)
 
--- bits among others are found at their place
+-- The bits of a number are found at their index among other bits.
 pub found_between : (before after : List Bool) (octets : List ℕ) (v w : ℕ) → v < 2 ^ w → bits_of octets ≡ before ++ bits_in v w ++ after → number_of (bits_at octets (length before) w) ≡ v
 found_between before after octets v w h e = grind (arith, common_steps, append_assoc, drop_at, take_at, length-bits_in, number_of-bits_in, mod-eq_of_lt)
 
 module _ (before after : List Bool) (among xs : List ℕ) (e : bits_of among ≡ before ++ bits_of xs ++ after) where
-  -- after the first bits
+  -- the bits after `before`
   there : drop (length before) (bits_of among) ≡ bits_of xs ++ after
   there = ap (drop (length before)) (e ∙ append_assoc before (bits_of xs) after) ∙ drop_at before (bits_of xs ++ after) (length before) refl
 
-  -- the bits of octets among others are found at their place
+  -- The bits of octets are found at their index among other bits.
   pub bits_between : bits_at among (length before) (8 * length xs) ≡ bits_of xs
   bits_between = ap (take (8 * length xs)) there ∙ take_at (bits_of xs) after (8 * length xs) (length-bits_of xs)
 
-  -- and so is each octet
+  -- Each octet is found there as well.
   pub octet_between : (k : ℕ) → k < length xs → get_or xs k 0 < 256 → number_of (bits_at among (length before + 8 * k) 8) ≡ get_or xs k 0
   unfolding bits_of
   octet_between k h small =
@@ -349,13 +346,13 @@ unfolding bits_of
 bits_of-append [] ys = refl
 bits_of-append (x ∷ xs) ys = ap (λ (bs : List Bool). bits_of_octet x ++ bs) (bits_of-append xs ys)
 
--- one octet, of any number
+-- the octet of the low eight bits of any number
 bits_of-one : (n : ℕ) → bits_of (n % 256 ∷ []) ≡ bits_in n 8
 unfolding bits_of
 bits_of-one n = sym (bits_in-octet n)
 
--- ---- the last bits, with zeros up to the next octet.
--- zeros after bits, and as many of all of these as end within the zeros
+-- ---- The pending bits, padded with zeros to the next octet.
+-- a prefix of a number that was shifted left, ending within the zeros after its bits
 zeros_after : (last count pad rest : ℕ) → take (count + pad) (bits_in (last * 2 ^ (pad + rest)) (count + (pad + rest))) ≡ bits_in last count ++ replicate pad false
 zeros_after last count pad rest =
     let free = pad + rest in
@@ -388,7 +385,7 @@ last_octets xs ys bytes last count some few low b e =
     sym (take-bits_of whole bytes) ∙ ap (λ (k : ℕ). take k (bits_of bytes)) filled ∙ ap (take (count + pad)) bits ∙ zeros_after last count pad rest in
     ap bits_of e ∙ bits_of-append xs (take whole bytes) ∙ ap (λ (bs : List Bool). bits_of xs ++ bs) first
 
--- where there are no last bits there is nothing to write
+-- If no bits are pending, there is nothing to write.
 pub no_octets : (xs : List ℕ) (last count : ℕ) → count ≤ 0 → bits_of xs ≡ bits_of xs ++ (bits_in last count ++ padding count)
 no_octets xs last count none = grind (arith, common_steps, bits_in-none, append-nil)
 
@@ -396,16 +393,16 @@ pub padded : (xs ys : List ℕ) (last count : ℕ) (bits : List Bool) → bits_o
     → bits_of ys ≡ bits ++ padding (length bits)
 padded xs ys last count bits e v = grind (arith, common_steps, length-written, append_assoc)
 
--- octets after whole octets
+-- octets appended after whole octets
 pub appended_whole : (xs ys zs octets : List ℕ) (last count : ℕ) (bits : List Bool) → count % 8 ≡ 0 → bits_of xs ++ bits_in last count ≡ bits
     → bits_of ys ≡ bits_of xs ++ (bits_in last count ++ padding count) → zs ≡ ys ++ octets → bits_of zs ++ bits_in 0 0 ≡ bits ++ bits_of octets
 appended_whole xs ys zs octets last count bits whole v y z = grind (arith, common_steps, append-nil, bits_in-none, bits_of-append)
 
--- ---- the number of the last bits and the new ones
+-- ---- The number formed by the pending bits and the new bits.
 small_sum : (last count value width : ℕ) → last < 2 ^ count → value < 2 ^ width → last * 2 ^ width + value < 2 ^ (count + width)
 small_sum last count value width hl hv = grind (arith, common_steps, mul-le-mul_right, pow-add)
 
--- few bits stay in the number
+-- If there are fewer than 64 bits, they all stay in the number.
 both_are : (last count value width : ℕ) → count + width < 64 → last < 2 ^ count → last * 2 ^ width % 18446744073709551616 + value ≡ last * 2 ^ width + value
 both_are last count value width few hl = ap (λ (m : ℕ). m + value) (shl_whole last count width 64 hl (omega arith))
 
@@ -424,7 +421,7 @@ both_bits xs last count value width few hl hv =
     ap (λ (m : ℕ). bits_of xs ++ bits_in m (count + width)) (both_are last count value width few hl) ∙ ap (λ (bs : List Bool). bits_of xs ++ bs) (sym (bits_in-join last value count width hv))
     ∙ sym (append_assoc (bits_of xs) (bits_in last count) (bits_in value width))
 
--- many bits: the first 64, and the bits after them
+-- 64 bits or more: the first 64 bits, and the bits after them
 two_powers : (last width shift kept value : ℕ) → width ≡ shift + kept → last * 2 ^ width + value ≡ last * 2 ^ shift * 2 ^ kept + value
 two_powers last width shift kept value e = ap (λ (k : ℕ). last * 2 ^ k + value) e ∙ ap (λ (p : ℕ). last * p + value) (pow-add 2 shift kept) ∙ omega arith
 
@@ -447,7 +444,7 @@ rest_above x v k =
 pub power_fits : (k : ℕ) → k < 64 → 1 * 2 ^ k % 18446744073709551616 ≡ 2 ^ k
 power_fits k few = shl_whole 1 1 k 64 (omega arith) (omega arith) ∙ omega arith
 
--- ---- bits written as octets and bits after them
+-- ---- Bits written as octets, and the bits that remain pending.
 pub bits_in-rest : (n k : ℕ) → bits_in (n % 2 ^ k) k ≡ bits_in n k
 bits_in-rest n k = sym (ap (λ (m : ℕ). bits_in m k) (sym (shr_split n k)) ∙ bits_in-above (n / 2 ^ k) (n % 2 ^ k) k)
 
@@ -457,7 +454,7 @@ pub written : (xs ys bytes : List ℕ) (last count value width head tail whole k
 written xs ys bytes last count value width head tail whole kept bits v hv total h t b e =
     grind (arith, common_steps, bits_of-bytes, bits_in-rest, bits_in-split, bits_in-join, bits_of-append, append_assoc)
 
--- eight octets go out
+-- Eight octets are written out.
 pub full_bits : (xs ys bytes : List ℕ) (last count value width shift kept : ℕ) → count + shift ≡ 64 → width ≡ shift + kept → kept < 63 → last < 2 ^ count → value < 2 ^ width
     → bytes ≡ bytes_high_first 8 (last * 2 ^ shift % 18446744073709551616 + value / 2 ^ kept) → ys ≡ xs ++ bytes
     → bits_of ys ++ bits_in (value % (1 * 2 ^ kept % 18446744073709551616)) kept ≡ bits_of xs ++ bits_in last count ++ bits_in value width
@@ -470,7 +467,7 @@ full_bits xs ys bytes last count value width shift kept all parts few hl hv b e 
     ap (λ (m : ℕ). value % m) (power_fits kept (omega arith)) ∙ sym (ap (λ (m : ℕ). m % 2 ^ kept) split ∙ rest_above (last * 2 ^ shift) value kept) in
     written xs ys bytes last count value width _ _ 8 kept (bits_of xs ++ bits_in last count) refl hv (omega arith) head tail b e
 
--- ---- octets after bits, one after another
+-- ---- Octets appended after bits, one after another.
 pub octet_after : (octets : List ℕ) (before bits more : List Bool) (i : ℕ) → i < length octets → get_or octets i 0 < 256 → bits ≡ before ++ bits_of (take i octets)
     → more ≡ bits ++ bits_in (get_or octets i 0) 8 → more ≡ before ++ bits_of (take (i + 1) octets)
 octet_after octets before bits more i inside small so_far e =
@@ -485,14 +482,14 @@ pub no_octet_after : (before : List Bool) → before ≡ before ++ bits_of []
 unfolding bits_of
 no_octet_after before = sym (append-nil before)
 
--- how many bits there are after more of them
+-- the number of bits after more bits are appended
 pub length-put : (before after : List Bool) (value width : ℕ) → after ≡ before ++ bits_in value width → length after ≡ length before + width
 length-put before after value width e = ap length e ∙ length-append before (bits_in value width) ∙ ap (λ (m : ℕ). length before + m) (length-bits_in value width)
 
 pub length-put_octets : (before after : List Bool) (octets : List ℕ) → after ≡ before ++ bits_of octets → length after ≡ length before + 8 * length octets
 length-put_octets before after octets e = ap length e ∙ length-append before (bits_of octets) ∙ ap (λ (m : ℕ). length before + m) (length-bits_of octets)
 
--- ---- Bits read by the number that eight octets write.
+-- ---- Bits that are read from the number that eight octets represent.
 
 take_small : (xs : List ℕ) (k i : ℕ) → ((j : ℕ) → get_or xs j 0 < 256) → get_or (take k xs) i 0 < 256
 take_small [] zero i h = h i
@@ -501,7 +498,7 @@ take_small (x ∷ xs) zero i h = omega arith
 take_small (x ∷ xs) (suc k) zero h = h 0
 take_small (x ∷ xs) (suc k) (suc i) h = take_small xs k i (λ j. h (suc j))
 
--- the first eight octets are a window
+-- The first eight octets are a window.
 pub window_is : (xs chunk : List ℕ) (n : ℕ) → 8 ≤ length xs → chunk ≡ take 8 xs → ((i : ℕ) → get_or xs i 0 < 256) → n < 2 ^ 64 → n ≡ from_be_bytes w64 chunk → IsWindow n 0 xs
 window_is xs chunk n h e small below value =
     let len : length chunk ≡ 8 = ap length e ∙ length-take-le 8 xs h in
@@ -512,7 +509,7 @@ window_is xs chunk n h e small below value =
       bits = ap bits_of (sym e ∙ sym (be_bytes_8 chunk n len each value)) ∙ bits_of-bytes 8 n;
     }
 
--- a window of the octets from a place on
+-- A window of the octets after `first` is a window of all octets.
 pub window_from : (xs : List ℕ) (first n : ℕ) → IsWindow n 0 (take (length xs - first) (drop first xs)) → IsWindow n first xs
 window_from xs first n w =
     let same : take (length xs - first) (drop first xs) ≡ drop first xs = take_rest xs first in
@@ -524,7 +521,7 @@ window_from xs first n w =
       bits = ap (λ (zs : List ℕ). bits_of (take 8 zs)) (sym same) ∙ w.bits;
     }
 
--- the bits from a place in a window on
+-- the bits that follow an index in a window
 bits_in_window : (xs : List ℕ) (first from n : ℕ) → IsWindow n first xs → drop (8 * first + from) (bits_of xs) ≡ drop from (bits_in n 64 ++ bits_of (drop 8 (drop first xs)))
 bits_in_window xs first from n h =
     let ys = drop first xs in
@@ -532,7 +529,7 @@ bits_in_window xs first from n h =
     ap bits_of (sym (take-append-drop 8 ys)) ∙ bits_of-append (take 8 ys) (drop 8 ys) ∙ ap (λ (bs : List Bool). bs ++ bits_of (drop 8 ys)) h.bits in
     sym (drop-drop from (8 * first) (bits_of xs)) ∙ ap (drop from) (drop-bits_of first xs ∙ parts)
 
--- the number of bits within a window
+-- the number that bits within a window represent
 pub number_of_window : (xs : List ℕ) (first from width n : ℕ) → IsWindow n first xs → from + width ≤ 64 → number_of (bits_at xs (8 * first + from) width) ≡ n / 2 ^ (64 - from - width) % 2 ^ width
 number_of_window xs first from width n h fits =
     let word = bits_in n 64 in
@@ -544,22 +541,22 @@ number_of_window xs first from width n h fits =
     ap (λ (bs : List Bool). number_of (take width bs)) (bits_in_window xs first from n h ∙ dropped) ∙ ap number_of taken ∙ number_of_middle word 64 from width long fits
     ∙ ap (λ (m : ℕ). m / 2 ^ (64 - from - width) % 2 ^ width) value
 
--- a field that lies in a window, which begins before it
+-- a field inside a window that begins at any octet
 pub field_in : (xs : List ℕ) (at first from width n : ℕ) → IsWindow n first xs → 8 * first + from ≡ at → from + width ≤ 64 → width ≤ 63
     → n / 2 ^ (64 - from - width) % (1 * 2 ^ width % 18446744073709551616) ≡ number_of (bits_at xs at width)
 field_in xs at first from width n h place fits few = grind (arith, common_steps, shl_whole, number_of_window)
 
--- a field that lies in the window of its first octet
+-- a field inside the window that begins at the field's first octet
 pub field_within : (xs : List ℕ) (at width n : ℕ) → IsWindow n (at / 8) xs → at % 8 + width ≤ 64 → width ≤ 63
     → n / 2 ^ (64 - at % 8 - width) % (1 * 2 ^ width % 18446744073709551616) ≡ number_of (bits_at xs at width)
 field_within xs at width n h fits few = field_in xs at (at / 8) (at % 8) width n h (omega arith) fits few
 
--- the room after octets that grew by their old capacity at most, or as requested
+-- upper bound of the free bits, if the octets grew by at most their old capacity, or as requested
 pub room_most : (len capacity capacity' count bits room written : ℕ) → capacity' ≤ len + max (bits / 8 + 16) capacity → room_after len capacity count ≡ room → written ≡ 8 * len + count
     → room_after len capacity' count ≤ max (bits + 128) (written + room)
 room_most len capacity capacity' count bits room written most old size = omega arith
 
--- the room after octets that grew by their old capacity at least
+-- lower bound of the free bits, if the octets did not grow, or grew by at least their old capacity
 pub room_grows : (len capacity capacity' count room written : ℕ) → (capacity' ≡ capacity) ⊎ (len + capacity ≤ capacity') → count < 64 → 8 * len + count ≤ 8 * capacity
     → room_after len capacity count ≡ room → written ≡ 8 * len + count
     → (room_after len capacity' count ≡ room) ⊎ (min (written + room) (2 ^ 63 - written) ≤ room_after len capacity' count + 64)

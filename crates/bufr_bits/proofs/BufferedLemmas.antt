@@ -1,10 +1,10 @@
--- What a read of octets that a buffered reader holds gives.
+-- What a read of a buffered reader consumes, if it copies buffered octets.
 use Rattle.std.proofs.Common.{◌≡◌, ◌∙◌, ◌≤◌, ℕ, Bool, true, false, List, ◌++◌, length, take, drop, Option, Some, None, if◌then◌else◌, arith, ap, sym, length-take}
 use Rattle.std.specs.Io.KnownBytes.{Consumes, prepend_known}
 use Rattle.std.specs.Io.BufRead.{DropsConsumable}
 use Rattle.std.proofs.lemmas.List.{take-append-drop, take-append-le, take-take}
 
--- they are the first that are left
+-- The copied octets are the first of the remaining input.
 parts : (n : ℕ) (buffer xs copied tail : List ℕ) → copied ≡ take n buffer → n ≤ length buffer → buffer ++ xs ≡ take n (copied ++ tail) ++ drop n (buffer ++ xs)
 parts n buffer xs copied tail same few =
     let long : n ≤ length copied = omega (arith, ap length same, length-take n buffer, few) in

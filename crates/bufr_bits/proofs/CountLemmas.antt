@@ -1,4 +1,4 @@
--- Counts that go up more than once.
+-- Counts that are raised more than once.
 use Rattle.std.proofs.Common.{◌≡◌, ℕ, zero, suc, ◌+◌, ◌-◌, ◌^◌, ◌<◌, ◌≤◌, List, Ok, Err, Bool, true, false, if◌then◌else◌, IsTrue, ◌↔◌, arith, nat_eq, length, refl, min, max, Result}
 use Rattle.bufr_bits.specs.Prelude.{counted, empty_writes_after, whole_writes_after}
 use Rattle.std.proofs.lemmas.Bool.Decides.{nat_tests}
@@ -7,18 +7,16 @@ use Rattle.std.proofs.lemmas.Grind.{common_steps}
 twice : (count a b most : ℕ) → max (max count (min (count + a) most)) (min (max count (min (count + a) most) + b) most) ≡ max count (min (count + (a + b)) most)
 twice count a b most = omega arith
 
--- a count that goes up twice
 pub counted-counted : (count a b : ℕ) → counted (counted count a) b ≡ counted count (a + b)
 counted-counted count a b = twice count a b (2 ^ 64 - 1)
 
 none : (count most : ℕ) → max count (min (count + 0) most) ≡ count
 none count most = omega arith
 
--- a count that stays
 pub counted-none : (count : ℕ) → counted count 0 ≡ count
 counted-none count = none count (2 ^ 64 - 1)
 
--- a write that took octets is no empty one
+-- A write that accepted octets is not an empty write.
 pub empty_writes_after-some : {E : Type 0} (count : ℕ) (octets : List ℕ) (r : Result ℕ E) (n : ℕ) → r ≡ Ok n → 0 < n → empty_writes_after {E = E} count octets r ≡ count
 empty_writes_after-some {E} count octets r n is some = rw is (at n some)
   where
@@ -29,18 +27,17 @@ empty_writes_after-some {E} count octets r n is some = rw is (at n some)
 more : (a b n count most : ℕ) → a ≤ b → count ≤ max a (min (a + n) most) → count ≤ max b (min (b + n) most)
 more a b n count most small is = omega arith
 
--- a count of at most so many more, from a count that is no less
+-- A greater initial count gives a greater upper bound.
 pub counted-from : (a b n count : ℕ) → a ≤ b → count ≤ counted a n → count ≤ counted b n
 counted-from a b n count small is = more a b n count (2 ^ 64 - 1) small is
 
 least : (count n most : ℕ) → count ≤ max count (min (count + n) most)
 least count n most = omega arith
 
--- a count does not go down
 pub counted-least : (count n : ℕ) → count ≤ counted count n
 counted-least count n = least count n (2 ^ 64 - 1)
 
--- a write adds at most one whole write
+-- A write adds at most one to the number of whole writes.
 pub whole_writes_after-most : {E : Type 0} (count : ℕ) (octets : List ℕ) (r : Result ℕ E) → whole_writes_after {E = E} count octets r ≤ counted count 1
 whole_writes_after-most count octets (Err e) = counted-least count 1
 whole_writes_after-most count octets (Ok n) = at (nat_eq n (length octets))
@@ -49,7 +46,7 @@ whole_writes_after-most count octets (Ok n) = at (nat_eq n (length octets))
     at true = omega arith
     at false = counted-least count 1
 
--- a write that left octets is no whole one
+-- A write that left octets over is not a whole write.
 pub whole_writes_after-part : {E : Type 0} (count : ℕ) (octets : List ℕ) (r : Result ℕ E) (n : ℕ) → r ≡ Ok n → n < length octets → whole_writes_after {E = E} count octets r ≡ count
 whole_writes_after-part {E} count octets r n is part = rw is (at (nat_eq n (length octets)) refl)
   where
@@ -60,13 +57,13 @@ whole_writes_after-part {E} count octets r n is part = rw is (at (nat_eq n (leng
 more-then : (a b c n m most : ℕ) → b ≤ max a (min (a + n) most) → c ≤ max b (min (b + m) most) → c ≤ max a (min (a + (n + m)) most)
 more-then a b c n m most first second = omega arith
 
--- a count of at most so many more, and then of others
+-- The bounds of two successive raises add up.
 pub counted-then : (a b c n m : ℕ) → b ≤ counted a n → c ≤ counted b m → c ≤ counted a (n + m)
 counted-then a b c n m first second = more-then a b c n m (2 ^ 64 - 1) first second
 
 up : (a b n m most : ℕ) → n ≤ m → b ≤ max a (min (a + n) most) → b ≤ max a (min (a + m) most)
 up a b n m most more is = omega arith
 
--- a count of at most so many more is one of at most even more
+-- A greater raise gives a greater upper bound.
 pub counted-up : (a b n m : ℕ) → n ≤ m → b ≤ counted a n → b ≤ counted a m
 counted-up a b n m more is = up a b n m (2 ^ 64 - 1) more is

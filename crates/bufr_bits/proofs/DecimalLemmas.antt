@@ -1,4 +1,4 @@
--- Decimal texts by their parts, at a scale, and read again.
+-- Decimal texts by their parts, at a scale, and read back.
 use Rattle.std.proofs.lemmas.Grind.{common_steps}
 use Rattle.std.proofs.Common.{◌≡◌, ℕ, zero, suc, min, ◌+◌, ◌-◌, ◌*◌, ◌^◌, ◌<◌, ◌≤◌, ◌==◌, ◌&&◌, Bool, true, if◌then◌else◌, List, [], ◌∷◌, ◌++◌, length, take, get_or, Ok, Err, refl, sym, ap, ◌∙◌, subst, ⊎_elim, rules, arith, false, drop, Result, ℤ, length-drop, length-take-le, take-append-drop, nat_lt, nat_le, replicate, pos, negsuc, length-append, drop-drop, lt-ltb, le-leb, append-nil, length-take, append_assoc, is_some, unsigned_abs}
 use Rattle.std.specs.List.{list_all, position, position_or_len}
@@ -19,7 +19,7 @@ use lib.Signed.{mag}
 use Rattle.std.specs.Fmt.{decimal}
 use Rattle.std.proofs.lemmas.Fmt.{decimal_is_IsNumeral_wide}
 
--- digits after a number: the number moves up by as many places
+-- When digits follow a number, the number moves up by as many decimal places.
 move_up : (n d p q r : ℕ) → q ≡ p * 10 → (n * 10 + d) * p + r ≡ n * q + ((0 * 10 + d) * p + r)
 move_up n d p q r e = rw e (omega arith)
 
@@ -40,18 +40,18 @@ value-append xs ys = value_after-append 0 xs ys ∙ value_after-is (digits_value
 digits_hold : IsDigitsTest (λ ds. all_digits ds ≡ true)
 digits_hold = search rules
 
--- digits write less than the power of ten of their count
+-- Lists of digits and their values form a numeral model of std.
 pub own : IsNumeralModel (λ ds. all_digits ds ≡ true) (digits_value 10)
 own = numerals_by_value (λ ds. all_digits ds ≡ true) digits_hold
 
 pub value-below : (ds : List ℕ) → all_digits ds ≡ true → digits_value 10 ds < 10 ^ length ds
 value-below ds h = digits_value_short own ds (length ds) h (omega arith)
 
--- a whole quotient, by what is left over
+-- a whole quotient, given its remainder
 pub quotient_is : (n d q r : ℕ) → n ≡ q * d + r → r < d → whole_quotient n d ≡ (if r == 0 then Ok q else Err Inexact)
 quotient_is n d q r e h = grind (arith, common_steps)
 
--- ten multiplies: digits after the point come before it, and zeros after them
+-- At a positive scale, the point moves right past digits of the fraction, then past zeros.
 up_product : (a c d p q u : ℕ) → (a * (p * q) + (c * p + d)) * (u * q) ≡ (a * q + c) * u * (p * q) + d * (u * q)
 up_product a c d p q u = omega arith
 
@@ -66,11 +66,10 @@ pub sum_zero : (b p d : ℕ) → 0 < p → (b * p + d == 0) ≡ ((b == 0) && (d 
 sum_zero zero p d h = let none : 0 * p + d ≡ d = omega arith in ap (λ (m : ℕ). m == 0) none
 sum_zero (suc b) p d h = let some : 0 < suc b * p + d = omega arith in grind (arith, nat_tests, some)
 
--- ten to two powers that make a third
 pub ten_split : (m i j : ℕ) → m ≡ i + j → 10 ^ m ≡ 10 ^ i * 10 ^ j
 ten_split m i j e = ap (λ (k : ℕ). 10 ^ k) e ∙ pow-add 10 i j
 
--- what is left over is small: digits are left over only where no zeros are put after
+-- The remainder is small: digits remain after the point only if no zeros are appended.
 left_small : (d f k up : ℕ) → k ≡ min up f → d < 10 ^ (f - k) → d * 10 ^ up < 10 ^ f
 left_small d f k up e h =
     ⊎_elim
@@ -122,7 +121,7 @@ exact_down a b d w m f hb hd ha =
     ap (λ (n : ℕ). whole_quotient n (10 ^ (f + (w + m)))) product ∙ quotient_is _ (10 ^ (f + (w + m))) a rest refl small
     ∙ ap (λ (t : Bool). if t then Ok a else Err Inexact) (sum_zero b (10 ^ f) d (ten_pos f))
 
--- digits that write 0 are zeros
+-- Digits represent 0 if and only if they are all zeros.
 pub zero_value : (ds : List ℕ) → all_digits ds ≡ true → (digits_value 10 ds == 0) ≡ list_all (λ d. d == 48) ds
 zero_value [] h = refl
 zero_value (d ∷ ds) h =
@@ -146,8 +145,7 @@ capped_ten a b value product ha hp hb = omega arith
 pub ten_more : (n i : ℕ) → n * 10 ^ (i + 1) ≡ n * 10 ^ i * 10
 ten_more n i = let e : 10 ^ (i + 1) ≡ 10 ^ i * 10 ^ 1 = ten_split (i + 1) i 1 refl in rw e (omega arith)
 
--- The number of a decimal text at a scale, by the digits that are kept and those that ten divides
--- away.
+-- The number of a decimal text at a scale, by the digits that are kept and those that are removed.
 
 pub and_first : (a b : Bool) → (a && b) ≡ true → a ≡ true
 and_first true b h = refl
@@ -163,7 +161,7 @@ all_digits-take n ds h = and_first (all_digits (take n ds)) (all_digits (drop n 
 pub all_digits-drop : (n : ℕ) (ds : List ℕ) → all_digits ds ≡ true → all_digits (drop n ds) ≡ true
 all_digits-drop n ds h = and_second (all_digits (take n ds)) (all_digits (drop n ds)) (sym (list_all-append is_ascii_digit (take n ds) (drop n ds)) ∙ ap all_digits (take-append-drop n ds) ∙ h)
 
--- digits cut in two, as numbers
+-- the number of digits that are cut in two
 pub value_cut : (n : ℕ) (ds : List ℕ) → digits_value 10 ds ≡ digits_value 10 (take n ds) * 10 ^ (length ds - n) + digits_value 10 (drop n ds)
 value_cut n ds = ap (digits_value 10) (sym (take-append-drop n ds)) ∙ value-append (take n ds) (drop n ds)
     ∙ ap (λ (k : ℕ). digits_value 10 (take n ds) * 10 ^ k + digits_value 10 (drop n ds)) (length-drop n ds)
@@ -171,12 +169,12 @@ value_cut n ds = ap (digits_value 10) (sym (take-append-drop n ds)) ∙ value-ap
 below_cut : (n : ℕ) (ds : List ℕ) → all_digits ds ≡ true → digits_value 10 (drop n ds) < 10 ^ (length ds - n)
 below_cut n ds h = subst (λ (k : ℕ). digits_value 10 (drop n ds) < 10 ^ k) (length-drop n ds) (value-below (drop n ds) (all_digits-drop n ds h))
 
--- what is answered by the digits that are kept and those that go
+-- the number of the kept digits, or `Inexact` unless all removed digits are zeros
 abbrev pub kept_or_inexact : (kept cut moved left : List ℕ) (zeros : ℕ) → Result ℕ NumberFault
 kept_or_inexact kept cut moved left zeros =
     if list_all (λ d. d == 48) cut && list_all (λ d. d == 48) left then Ok (digits_value_after 10 (digits_value 10 kept) moved * 10 ^ zeros) else Err Inexact
 
--- the same of a text and the powers of ten
+-- the same, from the parts of a text and two powers of ten
 abbrev pub kept_of : (whole fraction : List ℕ) (up down : ℕ) → Result ℕ NumberFault
 kept_of whole fraction up down = kept_or_inexact (take (length whole - down) whole) (drop (length whole - down) whole) (take (min up (length fraction)) fraction)
     (drop (min up (length fraction)) fraction) (up - min up (length fraction))
@@ -233,7 +231,7 @@ scaled_by_parts whole fraction up zero hw hf h = scaled_up whole fraction up hw 
 scaled_by_parts whole fraction up (suc less) hw hf h = subst (λ (m : ℕ). whole_quotient (digits_value 10 (whole ++ fraction) * 10 ^ m) (10 ^ (length fraction + suc less))
     ≡ kept_of whole fraction m (suc less)) (sym (h (omega arith))) (scaled_down whole fraction (suc less) hw hf)
 
--- the parts of a text as the code has them
+-- the parts of a text, as the code computes them
 pub record AreKept (whole fraction : List ℕ) (up down : ℕ) (kept cut moved left : List ℕ) : Type 0 where
   pub kept_is : kept ≡ take (length whole - down) whole
   pub cut_is : cut ≡ drop (length whole - down) whole
@@ -279,7 +277,7 @@ capped_found : (q : Result ℕ NumberFault) (n : ℕ) → Ok n ≡ capped_ok q �
 capped_found (Ok m) n e = (m, refl, cc)
 capped_found (Err f) n e = absurd cc
 
--- what reading a text answers, by what was found
+-- the result of reading a text, by what the code found
 pub read_syntax : (text body : List ℕ) (scale : ℤ) → body ≡ unsigned_part text → is_unsigned body ≡ false → Err Syntax ≡ decimal_value_of text scale
 unfolding decimal_value_of
 read_syntax text body scale b h = grind (arith, common_steps)
@@ -289,7 +287,7 @@ value_by_parts : (text body whole fraction : List ℕ) (scale : ℤ) → body �
 unfolding decimal_value_of
 value_by_parts text body whole fraction scale b h = grind (arith, common_steps)
 
--- the quotient by the powers that the code has
+-- the quotient by the powers of ten that the code uses
 abbrev quotient_of : (whole fraction : List ℕ) (up down : ℕ) → Result ℕ NumberFault
 quotient_of whole fraction up down = whole_quotient (digits_value 10 (whole ++ fraction) * 10 ^ up) (10 ^ (length fraction + down))
 
@@ -315,16 +313,16 @@ read_found text body whole fraction scale up down n negative r b h hu hd hn e re
     let whole_value = value ∙ ap (λ (q : Result ℕ NumberFault). (q >>= (signed (starts_with_minus text)))) found.1 in
     result found.0 found.2 ∙ ap (λ (s : Bool). signed s found.0) hn ∙ sym whole_value
 
--- ---- Decimal text that is read again with the same scale.
+-- ---- A decimal text is read back at the same scale.
 
--- a digit is no point and no minus
+-- A digit is neither a point nor a minus sign.
 digit_no_point : (c : ℕ) → is_ascii_digit c ≡ true → (c == 46) ≡ false
 digit_no_point c h = grind arith
 
 digit_no_minus : (c : ℕ) → is_ascii_digit c ≡ true → (c == 45) ≡ false
 digit_no_minus c h = grind arith
 
--- the first place of a point
+-- the index of the first point
 pub point_after : (whole fraction : List ℕ) → all_digits whole ≡ true → position_or_len (λ c. c == 46) (whole ++ 46 ∷ fraction) ≡ length whole
 point_after [] fraction h = refl
 point_after (d ∷ whole) fraction h =
@@ -357,7 +355,7 @@ fraction_with_point whole fraction h =
     ap (λ (k : ℕ). drop (k + 1) (whole ++ 46 ∷ fraction)) (point_after whole fraction h) ∙ sym (drop-drop 1 (length whole) (whole ++ 46 ∷ fraction))
     ∙ ap (drop 1) (drop_at whole (46 ∷ fraction) (length whole) refl)
 
--- the parts of digits alone
+-- the parts of a text of digits only
 pub whole_alone : (whole : List ℕ) → all_digits whole ≡ true → whole_part whole ≡ whole
 whole_alone whole h = ap (λ (k : ℕ). take k whole) (point_nowhere whole h) ∙ take_all (length whole) whole (omega arith)
 
@@ -373,14 +371,13 @@ position_somewhere text i e h = grind (arith, common_steps)
 position_none : (text : List ℕ) → position_or_len (λ c. c == 46) text ≡ length text → is_some (position (λ c. c == 46) text) ≡ false
 position_none text e = grind (arith, common_steps)
 
--- which texts are of the form of a number
+-- texts that have the form of a number
 pub form_with_point : (whole fraction : List ℕ) → 0 < length whole → 0 < length fraction → all_digits whole ≡ true → all_digits fraction ≡ true → is_unsigned (whole ++ 46 ∷ fraction) ≡ true
 form_with_point whole fraction sw sf hw hf = grind (arith, common_steps, whole_with_point, fraction_with_point, position_somewhere, point_after, length-append, is_digits_true)
 
 pub form_alone : (whole : List ℕ) → 0 < length whole → all_digits whole ≡ true → is_unsigned whole ≡ true
 form_alone whole sw hw = grind (arith, common_steps, position_none, point_nowhere, whole_alone, is_digits_true)
 
--- a quotient of powers of ten that is whole
 exact_quotient : (n k m : ℕ) → m ≡ k → whole_quotient (n * 10 ^ k) (10 ^ m) ≡ Ok n
 exact_quotient n k m e = quotient_is (n * 10 ^ k) (10 ^ m) n 0 (rw e (omega arith)) (ten_pos m)
 
@@ -388,7 +385,7 @@ first_digit : (ds more : List ℕ) → 0 < length ds → all_digits ds ≡ true 
 first_digit [] more h all = absurd (omega arith)
 first_digit (d ∷ ds) more h all = and_first (is_ascii_digit d) (all_digits ds) all
 
--- an unsigned text, by the number that its digits write and how many follow the point
+-- an unsigned text, by the number that its digits represent and the number of decimal places
 pub record IsDecimalOf (text : List ℕ) (n places : ℕ) : Type 0 where
   pub form : is_unsigned text ≡ true
   pub value : digits_value 10 (whole_part text ++ fraction_part text) ≡ n
@@ -445,7 +442,7 @@ pointed_is_decimal n places h =
     decimal_with_point (take w padded) (drop w padded) n (suc places) (omega (arith, length-take w padded)) (omega (arith, length-drop w padded)) (all_digits-take w padded all)
     (all_digits-drop w padded all) (omega (arith, length-drop w padded)) both
 
--- the text of a number, read at the scale that it has
+-- The text of a number is read as this number, with as many decimal places as its scale.
 pub unsigned_is_decimal : (n places : ℕ) → n < 10 ^ 64 → IsDecimalOf (unsigned_text n (pos places)) n places
 unfolding unsigned_text
 unsigned_is_decimal n zero h = decimal_alone (decimal n) n (decimal_some n h) (decimal_digits n h) (decimal_value n h)
@@ -464,11 +461,11 @@ zeros_are_decimal (suc n) less h =
 no_sign : (text : List ℕ) → is_ascii_digit (get_or text 0 0) ≡ true → starts_with_minus text ≡ false
 no_sign text h = digit_no_minus (get_or text 0 0) h
 
--- what reading digits at a scale answers
+-- the number that digits represent at a scale, or a fault
 abbrev pub number_at : (negative : Bool) (n places : ℕ) (scale : ℤ) → Result ℤ NumberFault
 number_at negative n places scale = ((whole_quotient (n * 10 ^ positive_scale scale) (10 ^ (places + negative_scale scale))) >>= (signed negative))
 
--- a text is read as its digits, alone or after a sign
+-- A text is read as its digits, with or without a minus sign.
 pub read_after_minus : (text : List ℕ) (n places : ℕ) (scale : ℤ) → IsDecimalOf text n places → decimal_value_of (45 ∷ text) scale ≡ number_at true n places scale
 unfolding decimal_value_of
 read_after_minus text n places scale h = rw (h.form, h.value, h.after) refl
@@ -477,7 +474,7 @@ pub read_alone : (text : List ℕ) (n places : ℕ) (scale : ℤ) → IsDecimalO
 unfolding decimal_value_of
 read_alone text n places scale h = rw (no_sign text h.first, h.form, h.value, h.after) refl
 
--- at its own scale it is its digits
+-- At its own scale, the number is that of its digits.
 pub number_at_own : (negative : Bool) (n places : ℕ) → number_at negative n places (pos places) ≡ signed negative n
 number_at_own negative n places = ap (λ (r : Result ℕ NumberFault). (r >>= (signed negative))) (exact_quotient n places (places + 0) (omega arith))
 
@@ -493,7 +490,7 @@ fits_signed n h = let small : nat_lt n (2 ^ 127) ≡ true = lt-ltb n (2 ^ 127) h
 fits_minus : (n : ℕ) → n < 2 ^ 127 → signed true (suc n) ≡ Ok (negsuc n)
 fits_minus n h = let small : nat_le (suc n) (2 ^ 127) ≡ true = le-leb (suc n) (2 ^ 127) h in rw small refl
 
--- the law
+-- A written decimal text is read back as the same number.
 pub reads_back : (v scale : ℤ) → mag v < 2 ^ 127 → decimal_value_of (decimal_text_of v scale) scale ≡ Ok v
 unfolding decimal_text_of
 reads_back (pos n) (pos places) h = read_alone (unsigned_text n (pos places)) n places (pos places) (unsigned_is_decimal n places (omega arith)) ∙ number_at_own false n places ∙ fits_signed n h
@@ -504,9 +501,9 @@ reads_back (negsuc n) (pos places) h = read_after_minus (unsigned_text (suc n) (
 reads_back (negsuc n) (negsuc less) h = read_after_minus (unsigned_text (suc n) (negsuc less)) (suc n * 10 ^ suc less) 0 (negsuc less) (zeros_are_decimal (suc n) less (omega arith))
     ∙ number_at_zeros true (suc n) less ∙ fits_minus n h
 
--- ---- Decimal text by its parts.
+-- ---- Decimal text, as it is written in parts.
 
--- after a sign, with a point
+-- the text after the sign, with a point
 unsigned_pointed : (n : ℕ) (scale : ℤ) (places : ℕ) → 0 < places → places ≡ positive_scale scale → pointed places (decimal n) ≡ unsigned_text n scale
 unfolding unsigned_text
 unsigned_pointed n (pos zero) places h e = absurd (omega arith)
@@ -516,7 +513,7 @@ unsigned_pointed n (negsuc m) places h e = absurd (omega arith)
 not_zero : (n : ℕ) → (suc n == 0) ≡ false
 not_zero n = grind arith
 
--- the zeros that follow a number, which none do after 0
+-- the zeros that follow a number; 0 has none
 pub some_zeros : (size power : ℕ) → 0 < size → power ≡ (if size == 0 then 0 else power)
 some_zeros zero power h = absurd (omega arith)
 some_zeros (suc n) power h = rw (not_zero n) refl
@@ -525,7 +522,7 @@ pub no_zeros : (size power : ℕ) → size ≤ 0 → 0 ≡ (if size == 0 then 0 
 no_zeros zero power h = refl
 no_zeros (suc n) power h = absurd (omega arith)
 
--- after a sign, with zeros
+-- the text after the sign, without a point, and with zeros after its digits
 unsigned_plain : (n : ℕ) (scale : ℤ) (places power count : ℕ) → places ≤ 0 → places ≡ positive_scale scale → power ≡ negative_scale scale → count ≡ (if n == 0 then 0 else power)
     → decimal n ++ replicate count 48 ≡ unsigned_text n scale
 unfolding unsigned_text

@@ -1,10 +1,9 @@
--- The worked examples, computed from the definitions.
+-- Worked examples, computed from the definitions.
 use Rattle.std.proofs.Common.{◌≡◌, true, false, Ok, Err, pos, negsuc, [], ◌∷◌, ◌++◌, refl, replicate, codes}
 use Rattle.std.specs.Fmt.{digits}
 use Rattle.bufr_bits.specs.Prelude.{decimal_text_of, unsigned_text, decimal_value_of, bits_of, bits_in, bits_at, number_of, are_all_ones, padding}
 use Rattle.bufr_bits.specs.declared.decimal.NumberFault.TheVariants.{Syntax, Inexact, Large}
 
--- -0.05, 28800, 0.00, 0
 -- rule: decimal-sign, decimal-zeros-after, decimal-point
 texts :
     (decimal_text_of (negsuc 4) (pos 2) ≡ codes "-0.05")
@@ -27,14 +26,14 @@ values :
     × (decimal_value_of (codes ".5") (pos 1) ≡ Err Syntax)
     × (decimal_value_of (codes "-0") (pos 0) ≡ Ok (pos 0))
     × (decimal_value_of (replicate 40 57) (pos 0) ≡ Err Large)
-    -- not whole goes before too large
+    -- An inexact number is reported before one that is too large.
     × (decimal_value_of (replicate 400 57) (negsuc 0) ≡ Err Inexact)
-    -- digits that a low scale drops do not count for the size
+    -- Digits that a low scale removes do not make a number too large.
     × (decimal_value_of (49 ∷ replicate 300 48) (negsuc 299) ≡ Ok (pos 1))
 unfolding decimal_value_of
 values = (refl, refl, refl, refl, refl, refl, refl, refl, refl, refl, refl, refl)
 
--- an optional minus sign, one digit or more, and after a point one or more again
+-- an optional minus sign and at least one digit, then optionally a point and at least one digit
 -- rule: decimal-form
 forms :
     (decimal_value_of (codes "0") (pos 0) ≡ Ok (pos 0))
@@ -52,7 +51,7 @@ forms :
 unfolding decimal_value_of
 forms = (refl, refl, refl, refl, refl, refl, refl, refl, refl, refl, refl, refl)
 
--- the number times ten to the scale is whole, or it is not
+-- A number that is not whole at the scale is inexact.
 whole-or-inexact :
     (decimal_value_of (codes "0.5") (pos 1) ≡ Ok (pos 5))
     × (decimal_value_of (codes "0.50") (pos 1) ≡ Ok (pos 5))
@@ -64,7 +63,7 @@ whole-or-inexact :
 unfolding decimal_value_of
 whole-or-inexact = (refl, refl, refl, refl, refl, refl, refl)
 
--- from -2^127 to 2^127 - 1
+-- The range is from -2^127 to 2^127 - 1.
 greatest-numbers :
     (decimal_value_of (codes "170141183460469231731687303715884105727") (pos 0) ≡ Ok (pos 170141183460469231731687303715884105727))
     × (decimal_value_of (codes "170141183460469231731687303715884105728") (pos 0) ≡ Err Large)
@@ -73,7 +72,7 @@ greatest-numbers :
 unfolding decimal_value_of
 greatest-numbers = (refl, refl, refl, refl)
 
--- of two faults: the syntax, then a number that is not whole, then one that is too large
+-- Of two faults, the syntax is reported first, then an inexact number, then one that is too large.
 -- rule: decimal-form, inexact-before-too-large
 order-of-number-faults :
     (decimal_value_of (codes "0.5x") (pos 0) ≡ Err Syntax)

@@ -18,7 +18,7 @@ use Rattle.std.specs.Fmt.{decimal}
 use Rattle.std.proofs.lemmas.Fmt.{decimal-digits_value}
 use Rattle.bufr_bits.specs.declared.decimal.NumberFault.{NumberFault}
 
--- one more first digit
+-- one more digit
 digit_range : (c : ℕ) → is_ascii_digit c ≡ true → IsInRange 48 57 c
 digit_range c h = (grind (arith, nat_tests), grind (arith, nat_tests))
 
@@ -29,11 +29,11 @@ pub prefix_more : (n : ℕ) (ds : List ℕ) (i : ℕ) → i < length ds → is_a
     → digits_value_after 10 n (take (i + 1) ds) ≡ digits_value_after 10 n (take i ds) * 10 + (get_or ds i 0 - 48)
 prefix_more n ds i lt d = grind (arith, common_steps, digit_value_digit, digit_range, take_more, value_after-append)
 
--- a number with digits after it stays below the next one with as many places
+-- A number with digits after it stays below the next number with as many digits after it.
 pub value_after-below : (n : ℕ) (ds : List ℕ) → all_digits ds ≡ true → digits_value_after 10 n ds < (n + 1) * 10 ^ length ds
 value_after-below n ds h = let moved = value_after-is n ds in let below = value-below ds h in omega (arith, moved, below)
 
--- a digit more still fits
+-- The number with one more digit fits.
 digit_fits_product : (n value p q ten d most : ℕ) → ten ≡ p * 10 → ten * (n + 1) ≤ q * (n + 1) → value < (n + 1) * p → (n + 1) * q ≤ most → d ≤ 9 → value * 10 + d < most
 digit_fits_product n value p q ten d most e product below fits few = omega (arith, subst (λ (m : ℕ). m * (n + 1) ≤ q * (n + 1)) e product, below, fits, few)
 
@@ -52,7 +52,7 @@ prefix_fits n value i d ds h e lt fits few =
 pub digit_few : (c : ℕ) → is_ascii_digit c ≡ true → (48 ≤ c) × (c - 48 ≤ 9)
 digit_few c h = let range = digit_range c h in (range.0, omega (arith, range.1))
 
--- a quotient by ten and then by the other tens
+-- A division by a power of ten is done one ten at a time.
 if_both : {A : Type 0} (a b : Bool) (x y : A) → (if a && b then x else y) ≡ (if b then (if a then x else y) else y)
 if_both true true x y = refl
 if_both true false x y = refl
@@ -86,7 +86,7 @@ quotient_goes_on v i times lt e = grind (arith, common_steps, quotient_next)
 pub quotient_stops : (v i times : ℕ) → i < times → 0 < v % 10 → whole_quotient v (10 ^ (times - i)) ≡ Err Inexact
 quotient_stops v i times lt some = grind (arith, common_steps, nat_tests, quotient_next)
 
--- ten multiplies more often than it divides, or less often
+-- Powers of ten in both directions cancel, and leave a multiplication or a division.
 pub scaled_by_times : (n up less : ℕ) → less ≤ up → Ok (n * 10 ^ (up - less)) ≡ whole_quotient (n * 10 ^ up) (10 ^ less)
 scaled_by_times n up less le =
     let split : 10 ^ up ≡ 10 ^ (up - less) * 10 ^ less = ten_split up (up - less) less (omega arith) in
@@ -110,7 +110,7 @@ scaled_by_quotient n up less lt =
     let parts = product_parts n q p r u (10 ^ less) (div-add-mod' n p) split in
     sym (quotient_is (n * u) (10 ^ less) q (r * u) parts small ∙ ap (λ (b : Bool). if b then Ok q else Err Inexact) (product_zero r u some))
 
--- what is read after the point fits, and what ten multiplies
+-- The number fits after digits of the fraction are added, because a text has at most 19 octets.
 pub fraction_fits : (text fraction : List ℕ) (count m : ℕ) → length text ≤ 19 → count < length text → fraction ≡ drop (count + 1) text → all_digits (take count text) ≡ true
     → m ≡ digits_value_after 10 0 (take count text) → (m + 1) * 10 ^ length fraction ≤ 2 ^ 64
 fraction_fits text fraction count m few lt f h e =
@@ -126,13 +126,11 @@ fraction_fits text fraction count m few lt f h e =
     let literal : 10 ^ 19 ≤ 2 ^ 64 = omega arith in
     omega (arith, product, split, most, literal)
 
--- all that follows a place
 pub rest_is : (text : List ℕ) (i : ℕ) → take (length text - i) (drop i text) ≡ drop i text
 rest_is text i = take_all (length text - i) (drop i text) (omega (arith, length-drop i text))
 
--- ---- The text of a short decimal: the digits that write it, and its number at a scale.
+-- ---- The text of a short decimal: its digits, and its number at a scale.
 
--- digits are octets of a decimal text
 digit_octet : (c : ℕ) → is_ascii_digit c ≡ true → is_decimal_octet c ≡ true
 digit_octet c h = rw h refl
 
@@ -141,7 +139,7 @@ digits_octets [] h = refl
 digits_octets (d ∷ ds) h =
     rw (digit_octet d (and_first (is_ascii_digit d) (all_digits ds) h)) (digits_octets ds (and_second (is_ascii_digit d) (all_digits ds) h))
 
--- digits are the digits of their number, with zeros before
+-- Digits are the digits of their number, after leading zeros.
 more_zeros : (k len : ℕ) (xs ds : List ℕ) → k ≤ len → replicate (len - k) 48 ++ xs ≡ ds → replicate (suc len - k) 48 ++ xs ≡ 48 ∷ ds
 more_zeros k len xs ds le h = grind (arith, common_steps)
 
@@ -198,7 +196,7 @@ padded_is ds k h some le first small = by (get_or ds 0 0 == 48) refl
         let none : k - length ds ≡ 0 = omega arith in
         rw same (rw none refl)
 
--- digits alone
+-- a number without a point
 pub plain_alone : (ds : List ℕ) (n : ℕ) → all_digits ds ≡ true → 0 < length ds → (get_or ds 0 0 ≡ 48 → length ds ≡ 1) → n ≡ digits_value_after 10 0 ds → n < 2 ^ 64 → IsPlainDecimal ds n 0
 unfolding unsigned_text
 plain_alone ds n h some first value small =
@@ -208,7 +206,7 @@ plain_alone ds n h some first value small =
       octets = digits_octets ds h;
     }
 
--- digits with a point
+-- a number with a point
 pointed_is : (ds whole fraction : List ℕ) (places : ℕ) (digits : List ℕ) → replicate (places + 1 - length digits) 48 ++ digits ≡ ds → ds ≡ whole ++ fraction → length fraction ≡ places
     → whole ++ 46 ∷ fraction ≡ pointed places digits
 pointed_is ds whole fraction places digits padded e len = grind (arith, common_steps)
@@ -235,14 +233,14 @@ plain_pointed whole fraction m n (suc p) hw hf sw sf len first hm hn small =
 zero_number : (places : ℕ) (scale : ℤ) → number_at false 0 places scale ≡ number_at true 0 places scale
 zero_number places scale = grind (arith, common_steps)
 
--- the text of a number is read as its digits
+-- The text of a number is read as its digits.
 short_number_at : (negative : Bool) (n places : ℕ) (scale : ℤ) → n < 10 ^ 64 → decimal_value_of (decimal_text_of (signed_number negative n) (pos places)) scale ≡ number_at negative n places scale
 unfolding decimal_text_of
 short_number_at false n places scale h = read_alone (unsigned_text n (pos places)) n places scale (unsigned_is_decimal n places h)
 short_number_at true zero places scale h = read_alone (unsigned_text 0 (pos places)) 0 places scale (unsigned_is_decimal 0 places h) ∙ zero_number places scale
 short_number_at true (suc n) places scale h = read_after_minus (unsigned_text (suc n) (pos places)) (suc n) places scale (unsigned_is_decimal (suc n) places h)
 
--- what reading its text gives: its digits at its own scale, else they are multiplied or divided
+-- the number of its text at a scale: its digits at its own scale, otherwise multiplied or divided
 abbrev value_at : (negative : Bool) (n places : ℕ) (scale : ℤ) → Result ℤ NumberFault
 value_at negative n places scale = decimal_value_of (decimal_text_of (signed_number negative n) (pos places)) scale
 
@@ -264,7 +262,8 @@ module _ (negative : Bool) (n places : ℕ) (scale : ℤ) (small : n < 2 ^ 128) 
   value_down up down q u d lt e =
       ap (λ (r : Result ℕ NumberFault). (r >>= (signed negative))) (e ∙ scaled_by_quotient n up (places + down) lt) ∙ rw (u, d) (sym value_is)
 
--- the first digits of a window of a text, of which none or one is a zero at its start
+-- Digits at the start of a window are those at the start of the text. A zero that comes first is
+-- the only digit before the point.
 pub take_window : (text : List ℕ) (most count : ℕ) → count ≤ most → take count (take most text) ≡ take count text
 take_window text zero zero le = refl
 take_window text (suc most) zero le = refl
@@ -277,7 +276,7 @@ first_taken text zero h = absurd (omega arith)
 first_taken [] (suc count) h = refl
 first_taken (c ∷ text) (suc count) h = refl
 
--- the number of so few digits
+-- A number of at most 19 digits fits.
 small_value : (n : ℕ) (ds : List ℕ) → all_digits ds ≡ true → n ≡ digits_value_after 10 0 ds → length ds ≤ 19 → n < 2 ^ 64
 small_value n ds h e few = grind (arith, common_steps, value-below, pow-le-pow_right)
 
@@ -320,7 +319,7 @@ prefix_pointed text fraction most count places m n few lt some first point f sf 
         let n : suc count + 1 + places ≡ suc (count + 1 + places) = omega arith in
         rw n (ap (λ (t : List ℕ). x ∷ t) (take_both xs ys count places (omega arith)))
 
--- a text with its sign, by the text after it
+-- a text with a minus sign, given the text after it
 minus_then : (text body : List ℕ) (count : ℕ) → true ≡ starts_with_minus text → body ≡ unsigned_part text → take (count + 1) text ≡ 45 ∷ take count body
 minus_then [] body count h e = absurd cc
 minus_then (c ∷ text) body count h e = grind (arith, common_steps)
@@ -336,7 +335,7 @@ pub plain_text : (text body : List ℕ) (count n places : ℕ) → false ≡ sta
 unfolding decimal_text_of
 plain_text text body count n places h e d = grind (arith, common_steps)
 
--- an octet of a text, read in the part of it that is searched
+-- An octet of the text is the one in the window that is searched.
 window_octet : (text : List ℕ) (most i : ℕ) → (most < length text → i < most) → get_or (take most text) i 0 ≡ get_or text i 0
 window_octet text most i h = by (nat_le (length text) most) refl
   where
@@ -344,14 +343,14 @@ window_octet text most i h = by (nat_le (length text) most) refl
     by true q = ap (λ (t : List ℕ). get_or t i 0) (take_all most text (grind (arith, nat_tests)))
     by false q = get_or-take most text i 0 (h (grind (arith, nat_tests)))
 
--- a number without a point ends before an octet that is no digit and no point
+-- A number without a point ends before an octet that is neither a digit nor a point.
 pub alone_ends : (text : List ℕ) (most count : ℕ) → (most < length text → most ≡ 19) → is_ascii_digit (get_or (take most text) count 0) ≡ false
     → (get_or (take most text) count 0 ≡ 46 → ⊥) → count < 19 → continues_number 0 (get_or text count 0) ≡ false
 alone_ends text most count few digit point lt =
     let same = window_octet text most count (λ long. omega (arith, few long)) in
     grind (arith, common_steps, nat_tests)
 
--- a number with a point ends before an octet that is no digit
+-- A number with a point ends before an octet that is not a digit.
 pub pointed_ends : (text fraction : List ℕ) (most count places : ℕ) → (most < length text → most ≡ 19) → fraction ≡ drop (count + 1) (take most text)
     → is_ascii_digit (get_or fraction places 0) ≡ false → 0 < places → count + 1 + places < 19 → continues_number places (get_or text (count + 1 + places) 0) ≡ false
 pointed_ends text fraction most count places few f digit some lt =

@@ -47,7 +47,7 @@ moved-long n line long = ap (λ b. if b then [] else (take 7 line ++ decimal n) 
 pub moved-none : (n : ℕ) (line : List ℕ) → length line < 8 → moved n line ≡ []
 moved-none n line few = ap (λ b. if b then [] else (take 7 line ++ decimal n) ++ drop 8 line) (below (length line) 8 few)
 
--- the slices of the code
+-- the slices that the code takes
 pub moved-parts : (n : ℕ) (line : List ℕ) → 8 ≤ length line → (take 7 line ++ decimal n) ++ take (length line - 8) (drop 8 line) ≡ moved n line
 moved-parts n line long = ap (λ l. (take 7 line ++ decimal n) ++ l) (take_rest line 8) ∙ sym (moved-long n line long)
 
@@ -63,7 +63,7 @@ moved-fault n report = moved-word n 111 102 102 115 101 116 32 _
 moved-line : (n : ℕ) (s : Sections) → moved n (ls_line 0 s) ≡ ls_line n s
 moved-line n s = moved-word n 111 102 102 115 101 116 61 _
 
--- The piece q is p with another offset in its lines.
+-- Piece q is piece p with another offset in its lines.
 pub record IsMoved (n : ℕ) (p q : Piece) : Type 0 where
   pub output : moved n (output_of p) ≡ output_of q
   pub errors : moved n (errors_of p) ≡ errors_of q
@@ -77,7 +77,7 @@ listed-by n (Err fault) = record { output = refl; errors = moved-fault n (sectio
 pub listed : (n : ℕ) (octets : List ℕ) → IsMoved n (ls_piece (FrameAt 0 octets)) (ls_piece (FrameAt n octets))
 listed n octets = listed-by n (sections_of octets)
 
--- The piece q is p with another offset in its fault line.
+-- Piece q is piece p with another offset in its fault line.
 pub record HasMovedFault (n : ℕ) (p q : Piece) : Type 0 where
   pub output : output_of p ≡ output_of q
   pub errors : moved n (errors_of p) ≡ errors_of q
@@ -92,7 +92,7 @@ dumped n b d octets = text-moved n (dump_or_report b d (sections_of octets))
 
 -- ---- A run over the octets of one message.
 
--- What a run wrote that began with nothing.
+-- What a run wrote, if nothing was written before.
 pub record WritesPiece (p : Piece) (tally : Tally) (output errors : List ℕ) : Type 0 where
   pub output_is : output ≡ output_of p
   pub errors_is : errors ≡ errors_of p
@@ -132,7 +132,7 @@ pub stray-by : (command : Command) (offset : ℕ) (cause : Cause) → OnErrors (
 stray-by commands.List offset cause = refl
 stray-by (commands.Dump b d) offset cause = refl
 
--- the text of a message, by the piece that a run wrote for it alone
+-- the text of a message, from the piece that a run wrote for the message alone
 pub message-text : {X : Type 0} (r : Result X RunFault) (text : EventText) (offset : ℕ) (p q : Piece) (tally : Tally) (output errors new : List ℕ) → WritesPiece p tally output errors
     → text.output.octets.items ≡ output_of q → moved offset (errors_of p) ≡ errors_of q → is_accepted p ≡ is_accepted q
     → Writes (Some []) (Some new) (moved offset errors) r → text.errors.octets.items ≡ new → text.accepted ≡ nat_lt 0 tally.accepted
@@ -177,11 +177,11 @@ no-end m n here states whole least ends =
     let d : has_word_at (codes "7777") (stated_length m - 4) m ≡ false = ap (λ k. has_word_at (codes "7777") (k - 4) m) (sym states) ∙ ends in
     record { event = λ offset. rw (here, a, b, c, d) refl; moves = rw (here, a, b, c, d) refl; within = four-long m here }
 
--- the comparison of the code
+-- the comparison, as the code makes it
 pub starts_with-word : (m : List ℕ) (k : ℕ) → starts_with eqb (drop k m) (codes "7777") ≡ has_word_at (codes "7777") k m
 starts_with-word m k = search rules
 
--- the tests of a message, as they are made
+-- the tests that a message passes, one by one
 tests : (m : List ℕ) (n : ℕ) → IsMessage m n
     → (has_word_at (codes "BUFR") 0 m ≡ true) × (nat_lt (length m) 8 ≡ false) × (nat_lt (length m) (stated_length m) ≡ false) × (nat_lt (stated_length m) 12 ≡ false)
     × (has_word_at (codes "7777") (stated_length m - 4) m ≡ true)
@@ -193,14 +193,14 @@ tests m n is = (
   ap (λ k. has_word_at (codes "7777") (k - 4) m) (sym is.states) ∙ is.ends,
 )
 
--- what begins where a message does
+-- the event at the start of a message
 pub message-here : (m : List ℕ) (n : ℕ) → IsMessage m n → (offset : ℕ) → stream_event offset m (classify m) ≡ FrameAt offset (take (stated_length m) m) ∷ []
 message-here m n is offset = let (a, b, c, d, e) = tests m n is in rw (a, b, c, d, e) refl
 
 pub message-moves : (m : List ℕ) (n : ℕ) → IsMessage m n → candidate_len m (classify m) ≡ stated_length m
 message-moves m n is = let (a, b, c, d, e) = tests m n is in rw (a, b, c, d, e) refl
 
--- its octets alone are a message too
+-- The octets of a message are also a message on their own.
 alone : (f t : List ℕ) (n : ℕ) → length f ≡ n → IsMessage (f ++ t) n → IsMessage f n
 alone f t n long is =
     let least = is.least in
@@ -212,7 +212,7 @@ alone f t n long is =
       ends = sym (holds-prefix (codes "7777") (n - 4) f t (omega (arith, long, least))) ∙ is.ends;
     }
 
--- octets that are one message
+-- octets that are exactly one message
 one-message : (f : List ℕ) → IsMessage f (length f) → scan f ≡ FrameAt 0 f ∷ []
 one-message f is =
     let size : stated_length f ≡ length f = sym is.states in
@@ -232,7 +232,7 @@ message-alone m n is =
     let whole : IsMessage (f ++ drop n m) n = subst (λ l. IsMessage l n) (sym (take-append-drop n m)) is in
     one-message f (subst (λ k. IsMessage f k) (sym long) (alone f (drop n m) n long whole))
 
--- ---- The events of a stream from a place on.
+-- ---- The events of a stream from an index on.
 
 pub events-found : (octets : List ℕ) (at place moves : ℕ) (event : StreamEvent) → FindsNeedle (drop at octets) (codes "BUFR") 0 (Some place)
     → stream_event (at + place) (drop (at + place) octets) (classify (drop (at + place) octets)) ≡ event ∷ []
@@ -250,14 +250,14 @@ events-found octets at place moves event finds here is some within =
 pub events-none : (octets : List ℕ) (at : ℕ) → FindsNeedle (drop at octets) (codes "BUFR") 0 None → events_from at octets ≡ []
 events-none octets at finds = scan_from-found (drop at octets) None finds at
 
--- the same, of the slice of the code
+-- the same, for the slice that the code takes
 pub events-absent : (octets rest word : List ℕ) (at : ℕ) → rest ≡ drop at octets → word ≡ codes "BUFR" → FindsNeedle rest word 0 None → events_from at octets ≡ []
 events-absent octets rest word at rest_is word_is finds = events-none octets at (rw (rest_is, word_is) at finds)
 
 pub events-end : (octets : List ℕ) (at : ℕ) → length octets ≤ at → events_from at octets ≡ []
 events-end octets at past = ap (scan_from 0 at) (drop_of_length-le octets past) ∙ scan_from-nil 0 at
 
--- the same, of the slices of the code
+-- the same, for the slices that the code takes
 pub starts-there : (octets rest m word : List ℕ) (at place : ℕ) → rest ≡ drop at octets → m ≡ drop (at + place) octets → word ≡ codes "BUFR" → FindsNeedle rest word 0 (Some place) → StartsWithBufr m
 starts-there octets rest m word at place rest_is m_is word_is finds =
     let here = rw (rest_is, word_is) at finds in
@@ -286,7 +286,7 @@ pub reached-none : (octets : List ℕ) (from : ℕ) → Reached octets from [] f
 reached-none octets from = record { events = refl; within = λ h. h; past = λ _. refl; ends = refl }
 
 module _ (octets : List ℕ) (from : ℕ) (passed : List StreamEvent) (at : ℕ) (so : Reached octets from passed at) where
-  -- one more event
+  -- Another event was passed.
   pub reached-next : (Is : StreamEvent → Type 0) (m : List ℕ) (begin moves at' : ℕ) (w : FindsEvent Is begin m moves) → m ≡ drop begin octets
       → events_from at octets ≡ w.event ∷ events_from (begin + moves) octets → at' ≡ begin + moves → Reached octets from (passed ++ w.event ∷ []) at'
   reached-next Is m begin moves at' w m_is next is = record {
@@ -299,7 +299,7 @@ module _ (octets : List ℕ) (from : ℕ) (passed : List StreamEvent) (at : ℕ)
   pub reached-same : (at' : ℕ) → at' ≡ at → Reached octets from passed at'
   reached-same at' is = subst (λ n. Reached octets from passed n) (sym is) so
 
-  -- no event is left
+  -- There are no more events.
   pub over-end : (at' : ℕ) → events_from at octets ≡ [] → length octets ≤ at' → (from ≤ length octets → at' ≤ length octets)
       → (length octets < from → at' ≡ from) → PassesOver octets from passed at' (pos 0)
   over-end at' none past within stays =
@@ -313,24 +313,24 @@ module _ (octets : List ℕ) (from : ℕ) (passed : List StreamEvent) (at : ℕ)
         stopped = λ no. absurd (no refl);
       }
 
-  -- the call stopped before
+  -- The call stopped before the end.
   pub over-stopped : (status : ℤ) → IsRunStatus status → ¬ (status ≡ pos 0) → PassesOver octets from passed at status
   over-stopped status ran other = record { ran = ran; events = so.events; within = so.within; past = λ h. so.past (omega (arith, h)); done = λ is. absurd (other is); stopped = λ _. so.ends }
 
--- ---- The caller's buffers after what was written.
+-- ---- The caller's buffers, after the elements that were written.
 
--- what is unchanged after n elements is so after more of them
+-- If everything after n elements is unchanged, so is everything after more elements.
 rest-after : {X : Type 0} (old mid new : List X) (n m : ℕ) → n ≤ m → drop n mid ≡ drop n old → drop m new ≡ drop m mid → drop m new ≡ drop m old
 rest-after old mid new n m few first more =
     let at : n + (m - n) ≡ m = omega (arith, few) in
     more ∙ (sym (ap (λ k. drop k mid) at) ∙ (sym (drop-drop (m - n) n mid) ∙ (ap (drop (m - n)) first ∙ (drop-drop (m - n) n old ∙ ap (λ k. drop k old) at))))
 
--- more elements are written than before
+-- No fewer elements are written than before.
 pub written-more : {X : Type 0} (n m : ℕ) (before after more : List X) → n ≤ length before → m ≤ length after → take m after ≡ take n before ++ more → n ≤ m
 written-more n m before after more fits fits' written =
     omega (arith, ap length written, length-append (take n before) more, length-take-le n before fits, length-take-le m after fits')
 
--- what the code writes into a part
+-- the elements after a part of a buffer into which the code writes
 pub put-rest : {X : Type 0} (at n : ℕ) (to part : List X) → length part ≡ n → at + n ≤ length to → drop (at + n) (take at to ++ (part ++ drop (at + n - at) (drop at to))) ≡ drop (at + n) to
 put-rest at n to part long room =
     let rest = drop (at + n - at) (drop at to) in
@@ -338,7 +338,7 @@ put-rest at n to part long room =
     ap (drop (at + n)) (sym (append_assoc (take at to) part rest)) ∙ (drop_at (take at to ++ part) rest (at + n) ends
     ∙ (drop-drop (at + n - at) at to ∙ ap (λ m. drop m to) (omega arith)))
 
--- after one more part
+-- the same, after another part
 pub rest-next : {X : Type 0} (old before after more : List X) (n m : ℕ) → n ≤ length before → m ≤ length after → take m after ≡ take n before ++ more → drop n before ≡ drop n old
     → drop m after ≡ drop m before → drop m after ≡ drop m old
 rest-next old before after more n m fits fits' written first rest = rest-after old before after n m (written-more n m before after more fits fits' written) first rest
@@ -350,7 +350,7 @@ pub record SoFar (piece : StreamEvent → Piece) (octets : List ℕ) (from : ℕ
   pub leaves : Leaves output errors texts (map piece passed)
   pub few : texts.accepted + texts.refused ≤ texts.at
 
--- a text more
+-- another text
 flat-next : (f : Piece → List ℕ) (piece : StreamEvent → Piece) (passed : List StreamEvent) (event : StreamEvent)
     → flat_map f (map piece (passed ++ event ∷ [])) ≡ flat_map f (map piece passed) ++ f (piece event)
 flat-next f piece passed event = grind (arith, common_steps)
@@ -368,7 +368,7 @@ one-counted : (b : Bool) → from_bool b + from_bool (not b) ≡ 1
 one-counted true = refl
 one-counted false = refl
 
--- the statuses are apart
+-- The statuses differ from each other.
 same-numbers : (a b : ℕ) → pos a ≡ pos b → a ≡ b
 same-numbers a b is = cc
 
@@ -422,7 +422,7 @@ module _ (piece : StreamEvent → Piece) (octets : List ℕ) (from : ℕ) (outpu
     few = omega (arith, so.few, at, accepted, refused);
   }
 
-  -- the text of the next event was put
+  -- The text of the next event was put into the buffers.
   pub so-far-put : (place moves : ℕ) (m : List ℕ) (text : EventText) (mid texts' : Texts) (output' errors' : List ℕ) → (w : WritesEvent piece (texts.at + place) m moves text)
       → m ≡ drop (texts.at + place) octets → events_from texts.at octets ≡ w.event ∷ events_from (texts.at + place + moves) octets → HasPut text texts output errors mid output' errors'
       → texts'.at ≡ texts.at + place + moves → texts'.output_length ≡ mid.output_length → texts'.errors_length ≡ mid.errors_length
@@ -437,7 +437,7 @@ module _ (piece : StreamEvent → Piece) (octets : List ℕ) (from : ℕ) (outpu
       (accepted ∙ ap (λ n. n + from_bool text.accepted) put.accepted ∙ ap (λ b. texts.accepted + from_bool b) w.is.accepted)
       (refused ∙ ap (λ n. n + from_bool (not text.accepted)) put.refused ∙ ap (λ b. texts.refused + from_bool (not b)) w.is.accepted)
 
-  -- no event is left
+  -- There are no more events.
   pub so-far-done : length octets ≤ texts.at → Passes piece octets from output errors texts (pos 0)
   so-far-done past = record {
     passed = so.passed;
@@ -446,7 +446,7 @@ module _ (piece : StreamEvent → Piece) (octets : List ℕ) (from : ℕ) (outpu
     stops = λ is. absurd (apart-0-74 is);
   }
 
-  -- after the last event the search is at the end
+  -- After the last event, the search is at the end.
   pub so-far-ended : (texts' : Texts) → texts.at < length octets → events_from texts.at octets ≡ [] → texts'.at ≡ length octets → texts'.output_length ≡ texts.output_length
       → texts'.errors_length ≡ texts.errors_length
       → texts'.accepted ≡ texts.accepted → texts'.refused ≡ texts.refused → Passes piece octets from output errors texts' (pos 0)
@@ -473,7 +473,7 @@ module _ (piece : StreamEvent → Piece) (octets : List ℕ) (from : ℕ) (outpu
     stops = λ is. absurd (apart-73-74 is);
   }
 
-  -- there is no room for the next event
+  -- There is no room for the next event.
   pub so-far-full : (event : StreamEvent) (more : List StreamEvent) → events_from texts.at octets ≡ event ∷ more → LacksRoom output errors texts (output_of (piece event)) (errors_of (piece event))
       → Passes piece octets from output errors texts (pos 74)
   so-far-full event more next lacks = record {
@@ -483,7 +483,7 @@ module _ (piece : StreamEvent → Piece) (octets : List ℕ) (from : ℕ) (outpu
     stops = λ is. subst (λ es. StopsBefore piece output errors texts es) (sym next) lacks;
   }
 
--- the text of the next event has no room
+-- There is no room for the text of the next event.
 pub so-far-no-room : (piece : StreamEvent → Piece) (octets : List ℕ) (from : ℕ) (output errors : List ℕ) (texts texts' : Texts) (place moves : ℕ) (m : List ℕ) (text : EventText)
     (output' errors' : List ℕ)
     → SoFar piece octets from output errors texts → (w : WritesEvent piece (texts.at + place) m moves text) → events_from texts.at octets ≡ w.event ∷ events_from (texts.at + place + moves) octets
@@ -504,7 +504,7 @@ pub record TextsLoop (piece : StreamEvent → Piece) (octets : List ℕ) (from :
   pub rest : LeavesRest old_output old_errors texts output errors
   pub reserved : texts.reserved ≡ 0
 
--- the text of one more event was put
+-- The text of another event was put into the buffers.
 pub rest-put : (old_output old_errors output errors : List ℕ) (texts : Texts) (text : EventText) (mid texts' : Texts) (output' errors' : List ℕ) → texts.output_length ≤ length output
     → texts.errors_length ≤ length errors → LeavesRest old_output old_errors texts output errors → HasPut text texts output errors mid output' errors'
     → texts'.output_length ≡ mid.output_length → texts'.errors_length ≡ mid.errors_length → LeavesRest old_output old_errors texts' output' errors'
@@ -515,13 +515,13 @@ rest-put old_output old_errors output errors texts text mid texts' output' error
       put.rest.errors_rest);
 }
 
--- there was no room for it
+-- There was no room for the text.
 pub rest-no-room : (old_output old_errors output errors : List ℕ) (texts : Texts) (text : EventText) (texts' : Texts) (output' errors' : List ℕ) → LeavesRest old_output old_errors texts output errors
     → HasNoRoom text texts output errors texts' output' errors' → LeavesRest old_output old_errors texts' output' errors'
 rest-no-room old_output old_errors output errors texts text texts' output' errors' rest none =
     record { output_rest = rw (none.output_length, none.same_output) rest.output_rest; errors_rest = rw (none.errors_length, none.same_errors) rest.errors_rest }
 
--- nothing was written
+-- Nothing was written.
 pub so-far-none : (piece : StreamEvent → Piece) (octets : List ℕ) (output errors : List ℕ) (texts : Texts) → texts.output_length ≡ 0 → texts.errors_length ≡ 0 → texts.accepted ≡ 0 → texts.refused ≡ 0
     → SoFar piece octets texts.at output errors texts
 so-far-none piece octets output errors texts output_length errors_length accepted refused = record {
@@ -540,7 +540,7 @@ so-far-none piece octets output errors texts output_length errors_length accepte
 
 -- ---- A call that reads tables.
 
--- nothing was written
+-- Nothing was written.
 pub wrote_none : (from : ℕ) (output errors : List ℕ) (texts : Texts) → texts.at ≡ from → texts.output_length ≡ 0 → texts.errors_length ≡ 0 → texts.accepted ≡ 0 → texts.refused ≡ 0
     → WritesNone from output errors texts output errors
 wrote_none from output errors texts at output_length errors_length accepted refused =
@@ -552,7 +552,7 @@ pub unread : {A : Type 0} (from : ℕ) (output errors : List ℕ) (texts : Texts
 unread from output errors texts status at output_length errors_length accepted refused stopped =
     inr (stopped, wrote_none from output errors texts at output_length errors_length accepted refused)
 
--- both tables were read
+-- Both tables were read.
 pub by_both_tables : (table_b table_d : List ℕ) (b : List Row) (d : List Sequence) (status : ℤ) (Holds : List Row → List Sequence → Type 0) (Otherwise : Type 0)
     → table_b_of (records_of table_b) ≡ Ok b → table_d_of (records_of table_d) ≡ Ok d → Holds b d → ByTables table_b table_d status Holds Otherwise
 by_both_tables table_b table_d b d status Holds Otherwise is_b is_d holds = inl (record { b = b; d = d; is_b = is_b; is_d = is_d; holds = holds })
@@ -574,7 +574,7 @@ all-values : {A : Type 0} (r : Result A TableFault) (P : A → Type 0) → ((a :
 all-values (Ok a) P all = all a
 all-values (Err fault) P all = tt
 
--- memory ran out before the tables were read
+-- Memory ran out before the tables were read.
 pub memory_status : (table_b table_d : List ℕ) → CallStatus table_b table_d (pos 73)
 memory_status table_b table_d = record {
   read = all-values (table_b_of (records_of table_b)) (λ b. IfOk (table_d_of (records_of table_d)) (λ d. IsRunStatus (pos 73) ⊎ IsCycleStatus d (pos 73)))
@@ -587,7 +587,7 @@ memory_status table_b table_d = record {
 zero-first : (n : ℕ) → n ≡ 0 + n
 zero-first n = omega arith
 
--- Table B cannot be read
+-- Table B cannot be read.
 pub table_b_status : (table_b table_d : List ℕ) (fault : TableFault) (status : ℤ) → table_b_of (records_of table_b) ≡ Err fault → status ≡ pos (table_report fault).0
     → CallStatus table_b table_d status
 table_b_status table_b table_d fault status is number =
@@ -637,7 +637,7 @@ table_d_status table_b table_d b fault status is reads some number =
 
 -- ---- The text of all documents.
 
--- the slice of the code
+-- the slice that the code takes
 pub rest_from : (octets : List ℕ) (at from : ℕ) → from ≡ min at (length octets) → take (length octets - from) (drop from octets) ≡ drop at octets
 rest_from octets at from is = take_rest octets from ∙ (ap (λ n. drop n octets) is ∙ drop_min at octets)
 
@@ -650,14 +650,14 @@ all_encoded pieces before after text tally (writes, tallies) b_output b_errors a
 no-start : (n : ℕ) (l : List ℕ) → n ≡ 0 → take n l ≡ []
 no-start n l is = ap (λ k. take k l) is
 
--- the text from a place on
+-- the text from an index on
 pub rest-encoded : (form : Form) (b : List Row) (d : List Sequence) (rest rest' : List ℕ) (text : EventText) (tally : Tally) → rest ≡ rest'
     → IsTextOfAll (encode_pieces form b d (documents_of rest)) text tally → IsTextOfAll (encode_pieces form b d (documents_of rest')) text tally
 rest-encoded form b d rest rest' text tally same made = subst (λ l. IsTextOfAll (encode_pieces form b d (documents_of l)) text tally) same made
 
 module _ (pieces : List Piece) (octets : List ℕ) (from : ℕ) (output errors output' errors' : List ℕ) (old mid texts : Texts) (text : EventText) (tally : Tally)
     (is : IsTextOfAll pieces text tally) (none : WritesNone from output errors old output errors) where
-  -- there is room
+  -- There is room for the text.
   pub encodes_all : HasPut text old output errors mid output' errors' → texts.output_length ≡ mid.output_length → texts.errors_length ≡ mid.errors_length → texts.at ≡ length octets
       → texts.accepted ≡ tally.accepted → texts.refused ≡ tally.refused → Encodes pieces octets from output errors texts output' errors' (pos 0)
   encodes_all put output_length errors_length at accepted refused = record {
@@ -676,7 +676,7 @@ module _ (pieces : List Piece) (octets : List ℕ) (from : ℕ) (output errors o
     stops = λ no. absurd (apart-0-74 no);
   }
 
-  -- there is none
+  -- There is no room for the text.
   pub encodes_none : HasNoRoom text old output errors texts output' errors' → Encodes pieces octets from output errors texts output' errors' (pos 74)
   encodes_none full = record {
     ran = inr refl;
@@ -701,7 +701,7 @@ module _ (pieces : List Piece) (octets : List ℕ) (from : ℕ) (output errors o
 
 -- ---- The clauses of the calls.
 
--- a call that read its stream by these tables
+-- a call that read its stream with these tables
 pub dump_read : (table_b table_d : List ℕ) (b : List Row) (d : List Sequence) (octets : List ℕ) (from from' : ℕ) (output errors : List ℕ) (texts : Texts) (status : ℤ) (Otherwise : Type 0)
     → table_b_of (records_of table_b) ≡ Ok b → table_d_of (records_of table_d) ≡ Ok d → from' ≡ from → Passes (dump_piece b d) octets from' output errors texts status
     → ByTables table_b table_d status (λ b d. Passes (dump_piece b d) octets from output errors texts status) Otherwise
@@ -709,7 +709,7 @@ dump_read table_b table_d b d octets from from' output errors texts status Other
     by_both_tables table_b table_d b d status (λ b d. Passes (dump_piece b d) octets from output errors texts status) Otherwise is_b is_d
     (subst (λ n. Passes (dump_piece b d) octets n output errors texts status) at passes)
 
--- what holds of a form that is known
+-- a property of a form that is known
 if-known : {X : Type 0} (o : Option X) (x : X) (Holds : X → Type 0) → Some x ≡ o → Holds x → IfSome o Holds
 if-known o x Holds is holds = subst (λ o'. IfSome o' Holds) is holds
 
@@ -741,7 +741,7 @@ encode_unread number form table_b table_d octets from output errors texts status
     (λ b d. Encodes (encode_pieces form b d (documents_of (drop from octets))) octets from output errors texts output errors status) (WritesNone from output errors texts output errors)) known
     (unread from output errors texts status at output_length errors_length accepted refused stopped)
 
--- a call that read its text by these tables
+-- a call that read its text with these tables
 pub encode_read : (number : ℕ) (form : Form) (table_b table_d : List ℕ) (b : List Row) (d : List Sequence) (octets : List ℕ) (from : ℕ) (output errors : List ℕ) (texts : Texts)
     (output' errors' : List ℕ) (status : ℤ) → Some form ≡ form_by number → table_b_of (records_of table_b) ≡ Ok b → table_d_of (records_of table_d) ≡ Ok d
     → Encodes (encode_pieces form b d (documents_of (drop from octets))) octets from output errors texts output' errors' status

@@ -13,13 +13,13 @@ use Rattle.bufr_c.specs.Leaving.{ByTables, HasRun, events_from}
 use Rattle.bufr_c.specs.Rows.{HasNoRowRoom, HasPutRows, LacksRowRoom, LeavesRows, LeavesRowsRest, PassesRows, Put, PutsCall, RowPlace, Rows, SameBuffers, StopsBeforeRows, data_fault, data_put, is_wanted, join_rows, message_fault, message_put, no_rows, WritesNoRows, place_after, row_place, rows_after, rows_at, rows_of, template_fault, template_put, three, with_calls, with_number, with_value}
 use Rattle.bufr_c.proofs.EventLemmas.{Reached, apart-0-74, apart-73-0, apart-73-74, apart-74-0, events-end, over-end, over-stopped, reached-none, reached-same, rest-next, by_both_tables}
 
--- ---- The calls of a showing.
+-- ---- The calls that show what was read.
 
 calls_put : (E : Type 0) (p : Put) (calls : List Timed) (turns : ℕ) (q : Put) (steps : ℕ) → Shows {E = E} PutsCall p calls turns (Ok tt) q steps → q ≡ with_calls p calls
 calls_put E p [] turns q steps (same, made) = same
 calls_put E p (t ∷ calls) turns q steps (mid, one, more) = calls_put E mid calls turns q steps more ∙ ap (λ m. with_calls m calls) one
 
--- a number was added
+-- A number was added.
 pub number-put : (E : Type 0) (r : Result (Unit {0}) E) (p q : Put) (v : View) (fxy : ℕ) (n scale : ℤ) → fxy ≡ v.fxy → v.value ≡ shown_number n scale → is_wanted p.wanted fxy ≡ true
     → OnOk r (q ≡ with_number p fxy scale n) → PutsCall p (item_call v) r q
 number-put E (Ok u) p q v fxy n scale same value wanted is =
@@ -40,7 +40,7 @@ put_by_tree b d s p t tree = sym (ap (λ x. template_put b s p x) tree)
 fault_by_tree : (b : List Row) (d : List Sequence) (s : Sections) (t : Result Tree TemplateFault) → tree_of (tables_of b d) s.descriptors ≡ t → template_fault b s t ≡ message_fault b d s
 fault_by_tree b d s t tree = sym (ap (λ x. template_fault b s x) tree)
 
--- data that were read have no fault
+-- Data that were read have no fault.
 no_fault : (b : List Row) (t : Tree) (s : Sections) (r : Read) (steps : ℕ) → AnswersReading b t (data_of s) (Ok r) steps → fault_of (data_of s) (reading_of (next_item b t) (data_of s)) ≡ None
 no_fault b t s r steps (table, template, source, rest) =
     ap (λ st. option_map (λ why. fault_at why (reading_of (next_item b t) (data_of s)).subset (length (data_of s).bits - length (reading_of (next_item b t) (data_of s)).left)) st) rest.0
@@ -58,7 +58,7 @@ pub message_done_fault : (b : List Row) (d : List Sequence) (s : Sections) (t : 
 message_done_fault b d s t r steps tree answers =
     sym (ap data_fault (no_fault b t s r steps answers)) ∙ fault_by_tree b d s (Ok t) tree
 
--- the fault of a reading that was refused for another reason than memory
+-- the fault of data that were refused for any reason other than memory
 its_fault : (b : List Row) (s : Sections) (t : Tree) (why : WalkFault) (steps : ℕ) → AnswersReading b t (data_of s) (Err why) steps → why ≢ fault.Memory
     → fault_of (data_of s) (reading_of (next_item b t) (data_of s)) ≡ Some why
 its_fault b s t why steps (inl (is, made)) other = is
@@ -82,14 +82,14 @@ template_refused_fault b d s why tree = fault_by_tree b d s (Err why) tree
 
 -- ---- The rows of events.
 
--- the rows of one more event
+-- the rows after another event
 after-next : (b : List Row) (d : List Sequence) (wanted : List ℕ) (before : Rows) (events : List StreamEvent) (event : StreamEvent)
     → rows_after b d wanted before (events ++ event ∷ [])
     ≡ join_rows (rows_after b d wanted before events) (rows_of b d wanted (place_after (rows_after b d wanted before events)) event)
 after-next b d wanted before [] event = refl
 after-next b d wanted before (first ∷ events) event = after-next b d wanted (join_rows before (rows_of b d wanted (place_after before) first)) events event
 
--- where the next rows go, by the rows that the buffers begin with
+-- the place of the next rows, from the rows at the start of the buffers
 place-left : (room : Rows) (counts : Counts) (rows : Rows) → LeavesRows room counts rows → place_after rows ≡ row_place counts
 place-left room counts rows left =
     let m : length rows.messages ≡ counts.messages = sym (ap length left.messages) ∙ length-take-le counts.messages room.messages left.messages_fit in
@@ -110,7 +110,7 @@ module _ (b : List Row) (d : List Sequence) (wanted octets : List ℕ) (from : �
   before-is : three (take counts.items room.items) (take counts.octets room.octets) (take counts.messages room.messages) ≡ rows
   before-is = rw (so.leaves.items, so.leaves.octets, so.leaves.messages) refl
 
-  -- the rows of the next event were put
+  -- The rows of the next event were put into the buffers.
   pub rows-put : (event : StreamEvent) (made : Rows) (mid counts' : Counts) (room' : Rows) → Reached octets from (so.passed ++ event ∷ []) counts'.at
       → made ≡ rows_of b d wanted (row_place counts) event → HasPutRows made counts room mid room'
       → counts'.items ≡ mid.items → counts'.octets ≡ mid.octets → counts'.messages ≡ mid.messages → RowsSoFar b d wanted octets from room' counts'
@@ -134,7 +134,7 @@ module _ (b : List Row) (d : List Sequence) (wanted octets : List ℕ) (from : �
         };
       }
 
-  -- no event is left
+  -- There are no more events.
   pub rows-done : length octets ≤ counts.at → PassesRows b d wanted octets from room counts (pos 0)
   rows-done past = record {
     passed = so.passed;
@@ -151,7 +151,7 @@ module _ (b : List Row) (d : List Sequence) (wanted octets : List ℕ) (from : �
     stops = λ is. absurd (apart-73-74 is);
   }
 
-  -- after the last event the search is at the end
+  -- After the last event, the search is at the end.
   pub rows-ended : (counts' : Counts) → counts.at < length octets → events_from counts.at octets ≡ [] → counts'.at ≡ length octets → counts'.items ≡ counts.items → counts'.octets ≡ counts.octets
       → counts'.messages ≡ counts.messages → PassesRows b d wanted octets from room counts' (pos 0)
   rows-ended counts' inside none at items octets' messages = record {
@@ -169,7 +169,7 @@ module _ (b : List Row) (d : List Sequence) (wanted octets : List ℕ) (from : �
     stops = λ is. absurd (apart-0-74 is);
   }
 
-  -- there is no room for the next event
+  -- There is no room for the next event.
   pub rows-full : (event : StreamEvent) (more : List StreamEvent) (made : Rows) (counts' : Counts) (room' : Rows) → events_from counts.at octets ≡ event ∷ more
       → made ≡ rows_of b d wanted (row_place counts) event → HasNoRowRoom made counts room counts' room' → PassesRows b d wanted octets from room' counts' (pos 74)
   rows-full event more made counts' room' next is none =
@@ -191,7 +191,7 @@ module _ (b : List Row) (d : List Sequence) (wanted octets : List ℕ) (from : �
         stops = λ _. subst (λ es. StopsBeforeRows b d wanted room counts' es) (sym there) (rw none.same at lacks);
       })
 
--- nothing was written
+-- Nothing was written.
 pub rows-none : (b : List Row) (d : List Sequence) (wanted octets : List ℕ) (room : Rows) (counts : Counts) → counts.items ≡ 0 → counts.octets ≡ 0 → counts.messages ≡ 0
     → RowsSoFar b d wanted octets counts.at room counts
 rows-none b d wanted octets room counts items octets' messages = record {
@@ -207,7 +207,7 @@ rows-none b d wanted octets room counts items octets' messages = record {
   };
 }
 
--- buffers that stay where they are
+-- buffers that do not move
 pub buffers_here : (buffers : RowBuffers) → SameBuffers buffers buffers
 buffers_here buffers = record { items = refl; texts = refl; messages = refl; reserved = refl }
 
@@ -219,7 +219,7 @@ buffers-still old mid new first then' = record {
   reserved = then'.reserved ∙ first.reserved;
 }
 
--- the rows of one more event were put
+-- The rows of another event were put into the buffers.
 pub rows-rest-put : (old before : Rows) (counts : Counts) (made : Rows) (mid counts' : Counts) (after rows : Rows) → LeavesRows before counts rows → LeavesRowsRest old counts before
     → HasPutRows made counts before mid after → counts'.items ≡ mid.items → counts'.octets ≡ mid.octets → counts'.messages ≡ mid.messages → LeavesRowsRest old counts' after
 rows-rest-put old before counts made mid counts' after rows left rest put items octets' messages = record {
@@ -230,7 +230,7 @@ rows-rest-put old before counts made mid counts' after rows left rest put items 
       rest.messages_rest put.rest.messages_rest);
 }
 
--- there was no room for them
+-- There was no room for the rows.
 pub rows-rest-full : (old before : Rows) (counts : Counts) (made : Rows) (counts' : Counts) (after : Rows) → LeavesRowsRest old counts before → HasNoRowRoom made counts before counts' after
     → LeavesRowsRest old counts' after
 rows-rest-full old before counts made counts' after rest none =
@@ -240,7 +240,8 @@ rows-rest-full old before counts made counts' after rest none =
       messages_rest = rw none.messages rest.messages_rest;
     })
 
--- The same in a loop, in which the tables, the wanted descriptors and the places of the buffers stay.
+-- The same in a loop, in which the tables, the wanted descriptors and the places of the buffers do
+-- not change.
 pub record RowsLoop (b : List Row) (d : List Sequence) (wanted octets : List ℕ) (from : ℕ) (old new : RowBuffers) (counts : Counts) (b' : List Row) (d' : List Sequence) (wanted' : List ℕ)
     : Type 0 where
   pub so : RowsSoFar b d wanted octets from (rows_at new) counts
@@ -263,7 +264,7 @@ pub unread_rows : {A : Type 0} (from : ℕ) (room : Rows) (counts : Counts) (sta
     → A ⊎ ((¬ HasRun status) × WritesNoRows from room counts room)
 unread_rows from room counts status at items octets' messages stopped = inr (stopped, record { at = at; items = items; octets = octets'; messages = messages; same = refl })
 
--- a call that read its stream by these tables
+-- a call that read its stream with these tables
 pub items_read : (table_b table_d : List ℕ) (b b' : List Row) (d d' : List Sequence) (wanted wanted' octets : List ℕ) (from from' : ℕ) (room : Rows) (counts : Counts) (status : ℤ)
     (Otherwise : Type 0) → table_b_of (records_of table_b) ≡ Ok b → table_d_of (records_of table_d) ≡ Ok d → b' ≡ b → d' ≡ d → wanted' ≡ wanted → from' ≡ from
     → PassesRows b' d' wanted' octets from' room counts status → ByTables table_b table_d status (λ b d. PassesRows b d wanted octets from room counts status) Otherwise

@@ -1,4 +1,4 @@
--- What `dump` writes for a message, from what its calls answer.
+-- What `dump` writes for a message, given the results of its calls.
 use Rattle.std.proofs.Common.{◌≡◌, ◌∙◌, ◌-◌, ℕ, List, [], length, Option, Some, None, option_map, Result, Ok, Err, refl, sym, subst, ap, append-nil, inl, inr}
 use Rattle.std.specs.Io.KnownBytes.{Appends}
 use Rattle.std.proofs.KnownBytes.{Appends-nil}
@@ -16,15 +16,15 @@ use Rattle.bufr_text.specs.Prelude.{dump_text_of, WritesPrefix, GrowsByPrefix, W
 use Rattle.bufr_cli.specs.Prelude.{text_or_fault, dump_or_report, Piece, OnOutput, OnErrors, fault_line, LeavesPiece, Verdict, Writers}
 use Rattle.bufr_cli.specs.declared.outcome.Verdict.TheVariants.{Accepted, Refused}
 
--- of a text nothing was written
+-- Nothing of the text was written.
 grows-none : (w : Option (List ℕ)) (text : List ℕ) → GrowsByPrefix w w text
 grows-none w text = record { prefix = []; back = text; parts = refl; gains = Appends-nil w }
 
--- a call that was given up before anything was written
+-- a call that stopped before it wrote anything
 pub nothing-written : (w : Writers) (piece : Piece) (r : Result Verdict RunFault) (f : RunFault) → r ≡ Err f → LeavesPiece w w piece r
 nothing-written w piece r f is = rw is (record { output = grows-none w.output.taken _; errors = grows-none w.errors.taken _ })
 
--- a text was written on the output, or a prefix of it
+-- A text was written to the output, or a prefix of it.
 output-reported : (before after : Writers) (text : List ℕ) (piece : Piece) → piece ≡ OnOutput text → Appends before.output.taken after.output.taken text → after.errors ≡ before.errors
     → LeavesPiece before after piece (Ok Accepted)
 output-reported before after text piece is writes same =
@@ -35,7 +35,7 @@ pub output-stopped : (before after : Writers) (text : List ℕ) (piece : Piece) 
 output-stopped before after text piece f is writes same =
     rw is (record { output = rw (append-nil text) writes; errors = rw same (grows-none before.errors.taken []) })
 
--- a line was written on the errors, or a prefix of it
+-- A line was written to the errors, or a prefix of it.
 pub errors-reported : (before after : Writers) (text : List ℕ) (piece : Piece) → piece ≡ OnErrors text → Appends before.errors.taken after.errors.taken text → after.output ≡ before.output
     → LeavesPiece before after piece (Ok Refused)
 errors-reported before after text piece is writes same =
@@ -46,22 +46,22 @@ errors-stopped : (before after : Writers) (text : List ℕ) (piece : Piece) (f :
 errors-stopped before after text piece f is writes same =
     rw is (record { output = rw same (grows-none before.output.taken []); errors = rw (append-nil text) writes })
 
--- a text, or the report of the fault of its data
+-- a text, or the report of the fault in its data
 abbrev pub data_or_report : Option WalkFault → (text : List ℕ) → Result (List ℕ) (ℕ × List (List ℕ))
 data_or_report fault text = option_map_or (λ why. Err (data_report why)) fault (Ok text)
 
--- what is written for a message whose data are read by a template
+-- the piece of a message whose data are read with a template
 abbrev pub data_piece : List Row → ℕ → Sections → Tree → Piece
 data_piece table offset s template =
     let r = reading_of (next_item table template) (data_of s) in
     text_or_fault offset (data_or_report (fault_of (data_of s) r) (dump_text_of s (dump_items table s.subsets r.values)))
 
--- what is written for a message, by the template of its descriptors, or by the fault of these
+-- the piece of a message, from the template of its descriptors, or from their fault
 abbrev pub template_piece : List Row → ℕ → Sections → Result Tree TemplateFault → Piece
 template_piece table offset s (Ok template) = data_piece table offset s template
 template_piece table offset s (Err fault) = OnErrors (fault_line offset (template_report fault))
 
--- what is written for a message whose descriptors were expanded, or not
+-- the same, as the definition gives it
 abbrev piece_by : List Row → ℕ → Sections → Result Tree TemplateFault → Piece
 piece_by b offset s made = text_or_fault offset (map_err template_report made >>= λ template.
     let r = reading_of (next_item b template) (data_of s) in data_or_report (fault_of (data_of s) r) (dump_text_of s (dump_items b s.subsets r.values)))
@@ -74,14 +74,14 @@ pub piece-by-template : (b : List Row) (d : List Sequence) (offset : ℕ) (s : S
     → text_or_fault offset (dump_or_report b d (Ok s)) ≡ template_piece b offset s (tree_of (tables_of b d) s.descriptors)
 piece-by-template b d offset s = piece-by b offset s (tree_of (tables_of b d) s.descriptors)
 
--- the piece of data that were read is their text
+-- If the data can be read, the piece is their text.
 pub read-piece : (table : List Row) (offset : ℕ) (s : Sections) (template : Tree) → (reading_of (next_item table template) (data_of s)).stop ≡ None
     → data_piece table offset s template ≡ OnOutput (dump_text_of s (dump_items table s.subsets (reading_of (next_item table template) (data_of s)).values))
 read-piece table offset s template none =
     let r = reading_of (next_item table template) (data_of s) in
     ap (λ o. text_or_fault offset (data_or_report (option_map (λ why. fault_at why r.subset (length (data_of s).bits - length r.left)) o) (dump_text_of s (dump_items table s.subsets r.values)))) none
 
--- the same as the reading says it itself
+-- the same, in terms of what was read
 text-piece : (table : List Row) (offset : ℕ) (s : Sections) (template : Tree) (r : Read) (steps : ℕ) → AnswersReading table template (data_of s) (Ok r) steps
     → data_piece table offset s template ≡ OnOutput (dump_text_of s (dump_items r.table r.source.subsets (values_read r)))
 text-piece table offset s template r steps (is_table, is_template, is_source, reads) =
@@ -90,7 +90,7 @@ text-piece table offset s template r steps (is_table, is_template, is_source, re
     ∙ ap (λ t. OnOutput (dump_text_of s (dump_items r.table s.subsets (reading_of (next_item r.table t) (data_of s)).values))) (sym is_template)
     ∙ ap (λ (d : Data). OnOutput (dump_text_of s (dump_items r.table d.subsets (reading_of (next_item r.table r.template) d).values))) (sym is_source)
 
--- the text of a reading was written, or a prefix of it
+-- The text of what was read was written, or a prefix of it.
 pub reading-reported : (table : List Row) (offset : ℕ) (s : Sections) (template : Tree) (r : Read) (steps : ℕ) (before after : Writers) → AnswersReading table template (data_of s) (Ok r) steps
     → Appends before.output.taken after.output.taken (dump_text_of s (dump_items r.table r.source.subsets (values_read r))) → after.errors ≡ before.errors
     → (piece : Piece) → piece ≡ data_piece table offset s template → LeavesPiece before after piece (Ok Accepted)
@@ -105,14 +105,14 @@ reading-stopped {X = X} table offset s template r steps before after first f res
     let text = dump_text_of s (dump_items r.table r.source.subsets (values_read r)) in
     rw is' (output-stopped before after text piece f (is ∙ text-piece table offset s template r steps so) (rw fails at writes) same)
 
--- a prefix of a fault line was written
+-- A prefix of a fault line was written.
 pub line-stopped : {X : Type 0} (before after : Writers) (text : List ℕ) (first : Result X RunFault) (f : RunFault) (result : Result Verdict RunFault) (piece : Piece) → piece ≡ OnErrors text
     → Writes before.errors.taken after.errors.taken text first → after.output ≡ before.output → first ≡ Err f → result ≡ Err f
     → LeavesPiece before after piece result
 line-stopped {X = X} before after text first f result piece is writes same fails is' =
     rw is' (errors-stopped before after text piece f is (rw fails at writes).1 same)
 
--- the line of data that were refused
+-- the fault line of data that are refused
 pub refused-line : (specs table : List Row) (offset : ℕ) (s : Sections) (template : Tree) (why : WalkFault) (steps : ℕ) → specs ≡ table → (why ≡ walk.Memory → ⊥)
     → AnswersReading specs template (data_of s) (Err why) steps
     → (piece : Piece) → piece ≡ data_piece table offset s template → piece ≡ OnErrors (fault_line offset (data_report why))
@@ -123,7 +123,7 @@ refused-line specs table offset s template why steps cached some so piece is =
     elim reads as (λ _. fault_of (data_of s) (reading_of course (data_of s)) ≡ Some why) [ inl x ↦ x.0 | inr y ↦ absurd (some y.0) ] in
     is ∙ ap (λ o. text_or_fault offset (data_or_report o (dump_text_of s (dump_items table s.subsets (reading_of course (data_of s)).values)))) fault
 
--- what is written for a message by the template that its descriptors make
+-- the piece of a message, from the template that its descriptors define
 pub data-of : (table : List Row) (d : List Sequence) (offset : ℕ) (s : Sections) (template : Tree) → tree_of (tables_of table d) s.descriptors ≡ Ok template
     → text_or_fault offset (dump_or_report table d (Ok s)) ≡ data_piece table offset s template
 data-of table d offset s template is = piece-by-template table d offset s ∙ ap (template_piece table offset s) is

@@ -1,4 +1,4 @@
--- What a run of `encode` has written, and what comes next.
+-- What a run of `encode` has written, and what follows.
 use Rattle.bufr_text.proofs.LineLemmas.{lines-cons, lines-none}
 use Rattle.std.proofs.Common.{◌≡◌, ◌≢◌, ◌∙◌, ℕ, ◌+◌, ◌-◌, ◌*◌, ◌==◌, ◌≤◌, ◌<◌, ◌^◌, Bool, false, if◌then◌else◌, length-append, List, [], ◌∷◌, ◌++◌, length, None, arith, append_assoc, append-nil, Option, Result, Ok, Err, refl, sym, ap, subst, inl, inr, true, Some, map, count_by}
 use Rattle.std.specs.Io.KnownBytes.{Consumes}
@@ -24,19 +24,19 @@ use Rattle.bufr_text.specs.declared.fault.DocumentFault.TheVariants as document
 use Rattle.bufr_text.specs.Prelude.{IsDocumentRefusal}
 use Rattle.std.specs.List.{onto_first}
 
--- a document is refused, unless memory ran out
+-- A document is refused, unless memory ran out.
 pub is-refused : {A : Type 0} (why : DocumentFault) (defined : Result A DocumentFault) → why ≢ document.Memory → IsDocumentRefusal why defined → defined ≡ Err why
 is-refused why defined some (inl out) = absurd (some out)
 is-refused why defined some (inr is) = is
 
--- what a fault of the text reports
+-- the report of a fault in the text
 pub read-refusal : (fault : ReadFault) → ((run : RunFault) → fault ≡ Run run → ⊥) → (line : ℕ) × (why : TextLineFault) × (parse_results (Err fault) ≡ Refused line why ∷ [])
 read-refusal (Line line why) some = (line, why, refl)
 read-refusal (Run run) some = absurd (some run refl)
 
--- ---- Pieces of which none ends the run.
+-- ---- Pieces, none of which ends the run.
 
--- those after them count
+-- The pieces after them count as well.
 up-to-more : (pieces more : List Piece) → count_by is_refused pieces ≡ 0 → up_to_refused (pieces ++ more) ≡ pieces ++ up_to_refused more
 unfolding up_to_refused
 up-to-more [] more none = refl
@@ -51,25 +51,25 @@ up-to-all : (pieces : List Piece) → count_by is_refused pieces ≡ 0 → up_to
 unfolding up_to_refused
 up-to-all pieces none = ap up_to_refused (sym (append-nil pieces)) ∙ up-to-more pieces [] none ∙ append-nil pieces
 
--- after the piece of a refusal nothing counts
+-- Nothing counts after the piece of a refusal.
 up-to-refusal : (pieces more : List Piece) (p : Piece) → count_by is_refused pieces ≡ 0 → counted_refused verdict.Refused ≡ count_by is_refused (p ∷ [])
     → up_to_refused (pieces ++ p ∷ more) ≡ pieces ++ p ∷ []
 unfolding up_to_refused
 up-to-refusal pieces more (OnOutput text) none one = absurd (omega (arith, one))
 up-to-refusal pieces more (OnErrors text) none one = up-to-more pieces (OnErrors text ∷ more) none
 
--- the next piece is the first of those that are left
+-- The next piece is the first of the remaining pieces.
 next-piece : (p : Piece) (more : List Piece) → (rest : List Piece) × (up_to_refused (p ∷ more) ≡ p ∷ rest)
 unfolding up_to_refused
 next-piece (OnOutput text) more = (up_to_refused more, refl)
 next-piece (OnErrors text) more = ([], refl)
 
--- so many documents are in so many octets
+-- an upper bound of the number of documents in a text
 onto-few : (c : ℕ) (lines : List (List ℕ)) → length (onto_first c lines) ≤ length lines + 1
 onto-few c [] = omega arith
 onto-few c (line ∷ more) = omega arith
 
--- a line feed begins a line, and another octet goes to the first one
+-- A line feed begins a line. Any other octet is added to the first line.
 line-more : (c : ℕ) (more : List ℕ) (feed : Bool) (lines : List (List ℕ)) → length lines ≤ length more → length (if feed then [] ∷ lines else onto_first c lines) ≤ length (c ∷ more)
 line-more c more true lines few = omega (arith, few)
 line-more c more false lines few = omega (arith, few, onto-few c lines)
@@ -81,9 +81,9 @@ lines-few (c ∷ more) = subst (λ (ls : List (List ℕ)). length ls ≤ length 
 documents-few : (text : List ℕ) → length (documents_of text) ≤ length text + 1
 documents-few text = omega (arith, spelled-few (lines_of text) 1 between, lines-few text)
 
--- ---- How far a run has come.
+-- ---- The progress of a run.
 
--- what the octets that were read spell
+-- the documents in the octets that were read
 abbrev read_documents : (ended : Bool) → List ℕ → List ParseResult
 read_documents true bs = documents_of bs
 read_documents false bs = open_documents_of bs
@@ -92,7 +92,7 @@ read-pieces : (form : Form) (b : List Row) (d : List Sequence) (ended : Bool) (b
 read-pieces form b d true bs = refl
 read-pieces form b d false bs = refl
 
--- what was reported is the first of what was read
+-- The results so far are a prefix of those of the octets that were read.
 read-prefix : (left left' : Option (List ℕ)) (s : ReaderModel) (results : List ParseResult) (bs : List ℕ) → ReadsLines left left' new_reader s results bs
     → (more : List ParseResult) × (read_documents s.ended bs ≡ results ++ more)
 read-prefix left left' s results bs call = by s.ended refl
@@ -101,7 +101,7 @@ read-prefix left left' s results bs call = by s.ended refl
     by true is = (parse (position_of s) [], ap documents_of (sym (append-nil bs)) ∙ reported-first left left' s results bs [] call (λ ended. refl))
     by false is = (parse_open (position_of s) [], ap open_documents_of (sym (append-nil bs)) ∙ reported-first-openly left left' s results bs [] call is)
 
--- nothing was read and written yet
+-- Nothing was read or written yet.
 pub no-documents : (piece : ParseResult → Piece) (left : Option (List ℕ)) (s : ReaderModel) → s ≡ new_reader → WritesDocuments piece s (no_progress left)
 no-documents piece left s is =
     rw is (record {
@@ -114,12 +114,12 @@ no-documents piece left s is =
       each = λ going. omega arith;
     })
 
--- what is not at its end was not there before
+-- What is not at its end now was not at its end before.
 going-before : (before after : Bool) → (before ≡ true → after ≡ true) → after ≡ false → before ≡ false
 going-before false after kept going = refl
 going-before true after kept going = absurd (false≢true (sym going ∙ kept refl))
 
--- a read that gave some octets
+-- a read that returned octets
 more-octets : (bs : List ℕ) (reads reads' : ℕ) (octets : List ℕ) → reads ≤ length octets → reads' ≡ reads + 1 → (bs ≡ [] → ⊥) → reads' ≤ length (octets ++ bs)
 more-octets [] reads reads' octets each made some = absurd (some refl)
 more-octets (c ∷ bs) reads reads' octets each made some = omega (arith, each, made, length-append octets (c ∷ bs))
@@ -135,7 +135,7 @@ module _ (form : Form) (b : List Row) (d : List Sequence) (s : ReaderModel) (so 
   pieces-of : (results more : List ParseResult) → up_to_refused (map piece (results ++ more)) ≡ up_to_refused (map piece results ++ map piece more)
   pieces-of results more = ap up_to_refused (map-append piece results more)
 
-  -- the lines that were taken report more
+  -- The lines that were taken give further results.
   lines-taken : (s' : ReaderModel) (results : List ParseResult) (bs : List ℕ) → ReadsLines so.left so.left s s' results bs → bs ≡ []
       → ReadsLines so.from so.left new_reader s' (wrote.results ++ results) so.octets
   lines-taken s' results bs reads none =
@@ -145,7 +145,7 @@ module _ (form : Form) (b : List Row) (d : List Sequence) (s : ReaderModel) (so 
   none-refused : count_by is_refused (map piece wrote.results) ≡ 0
   none-refused = ap (count_by is_refused) (sym wrote.pieces) ∙ wrote.accepted
 
-  -- a read is needed
+  -- A read is needed.
   module _ (s1 : ReaderModel) (needs : NeedsLine s s1) (same : s1.reads ≡ s.reads) where
     held : ReadsLines so.from so.left new_reader s1 wrote.results so.octets
     held = rw (append-nil wrote.results) at (lines-taken s1 [] [] (needs.passes so.left) refl)
@@ -170,7 +170,7 @@ module _ (form : Form) (b : List Row) (d : List Sequence) (s : ReaderModel) (so 
           accepted = λ _. wrote.accepted;
         }
 
-  -- the end
+  -- the end of the text
   pub text-done : (s' : ReaderModel) → GivesHeldDocument s s' (Some (Ok None)) → s'.reads ≡ s.reads → IsDone (document_pieces form b d) so
   text-done s' gives same =
       let given = gives so.left so.left s [] (call-none so.left s) (inl refl) in
@@ -188,12 +188,12 @@ module _ (form : Form) (b : List Row) (d : List Sequence) (s : ReaderModel) (so 
         whole = λ t none. ap (λ bs. encode_pieces form b d (documents_of (so.octets ++ bs))) (none refl) ∙ ap (λ bs. encode_pieces form b d (documents_of bs)) (append-nil so.octets) ∙ pieces;
       }
 
-  -- something is given of what is held
+  -- The buffered octets give a result.
   module _ (s' : ReaderModel) (next : Result (Option Document) ReadFault) (gives : GivesHeldDocument s s' (Some next)) (same : s'.reads ≡ s.reads) where
     given : ReturnsNextDocument so.left so.left s s' next
     given = gives so.left so.left s [] (call-none so.left s) (inl refl)
 
-    -- memory is wanted to read it
+    -- There is not enough memory to read it.
     pub text-wants : (w : Writers) → IsCut (document_pieces form b d) so w w
     text-wants w =
         let more = read-prefix so.from so.left s wrote.results so.octets wrote.reads in
@@ -210,7 +210,7 @@ module _ (form : Form) (b : List Row) (d : List Sequence) (s : ReaderModel) (so 
           some = λ going. absurd (false≢true (sym going));
         }
 
-    -- a document, or a line that is refused
+    -- The result is a document, or a line that is refused.
     module _ (x : ParseResult) (is : parse_results next ≡ x ∷ []) where
       abbrev pub results : List ParseResult
       results = wrote.results ++ x ∷ []
@@ -231,7 +231,7 @@ module _ (form : Form) (b : List Row) (d : List Sequence) (s : ReaderModel) (so 
           by (Err (Line line why)) is bs reads = taken bs _ is reads
           by (Err (Run run)) is bs reads = absurd (omega (arith, ap length is))
 
-      -- the end was not reached before either
+      -- The end was not reached before, either.
       going : s'.ended ≡ false → s.ended ≡ false
       going open' = by next is given.octets given.reads
         where
@@ -247,11 +247,11 @@ module _ (form : Form) (b : List Row) (d : List Sequence) (s : ReaderModel) (so 
       next-pieces : so.pieces ++ p ∷ [] ≡ map piece results
       next-pieces = ap (λ l. l ++ p ∷ []) wrote.pieces ∙ sym (map-append piece wrote.results (x ∷ []))
 
-      -- what is read begins with it
+      -- Its piece comes next, after the pieces so far.
       begins : (more : List ParseResult) → map piece (results ++ more) ≡ so.pieces ++ p ∷ map piece more
       begins more = map-append piece results more ∙ ap (λ l. l ++ map piece more) (sym next-pieces) ∙ append_assoc so.pieces (p ∷ []) (map piece more)
 
-      -- so many pieces are few
+      -- There are fewer than 2^63 pieces.
       pub document-few : length so.pieces + 1 < 2 ^ 63
       document-few =
           let all : documents_of so.octets ≡ results ++ parse (position_of s') [] =
@@ -269,7 +269,7 @@ module _ (form : Form) (b : List Row) (d : List Sequence) (s : ReaderModel) (so 
             same,
           )
 
-      -- it was accepted
+      -- The document was accepted.
       pub document-accepted : s'.fault ≡ None → counted_refused verdict.Accepted ≡ count_by is_refused (p ∷ []) → WritesDocuments piece s' (with_piece so p)
       document-accepted sound none = record {
         results = results;
@@ -281,7 +281,7 @@ module _ (form : Form) (b : List Row) (d : List Sequence) (s : ReaderModel) (so 
         each = λ open'. omega (arith, same, wrote.each (going open'));
       }
 
-      -- it was refused, which ends the run
+      -- The document was refused, which ends the run.
       pub document-refused : counted_refused verdict.Refused ≡ count_by is_refused (p ∷ []) → IsDone (document_pieces form b d) (with_piece so p)
       document-refused one =
           let ends : (all more : List ParseResult) → all ≡ results ++ more → encode_pieces form b d all ≡ so.pieces ++ p ∷ [] = λ all more parts.
@@ -296,12 +296,12 @@ module _ (form : Form) (b : List Row) (d : List Sequence) (s : ReaderModel) (so 
             whole = λ t none. ends (documents_of (so.octets ++ t)) (parse (position_of s') t) (reported-first so.from so.left s' results so.octets t call none);
           }
 
-      -- its piece was written
+      -- Its piece was written.
       pub document-written : (before after : Writers) (v : Verdict) → LeavesPiece before after p (Ok v) → (v ≡ verdict.Accepted → s'.fault ≡ None) → EncodesDocuments form b d v s' (with_piece so p)
       document-written before after verdict.Accepted leaves sound = document-accepted (sound refl) leaves.2
       document-written before after verdict.Refused leaves sound = document-refused leaves.2
 
-      -- its piece was cut
+      -- A prefix of its piece was written.
       pub document-cut : (before after : Writers) → WritesPrefixes before after (p ∷ []) → IsCut (document_pieces form b d) so before after
       document-cut before after cut =
           let prefix = read-prefix so.from so.left s' results so.octets call in
@@ -319,7 +319,7 @@ module _ (form : Form) (b : List Row) (d : List Sequence) (s : ReaderModel) (so 
             some = λ going. absurd (false≢true (sym going));
           }
 
-  -- octets were read
+  -- Octets were read.
   pub text-read : (s' : ReaderModel) (left' : Option (List ℕ)) (bs : List ℕ) → NeedsText verdict.Accepted s → FillsBuffer so.left left' s s' (Ok tt) bs → s'.reads ≤ max_reads
       → WritesDocuments piece s' (with_octets so bs left')
   text-read s' left' bs needs filled most =
@@ -334,7 +334,7 @@ module _ (form : Form) (b : List Row) (d : List Sequence) (s : ReaderModel) (so 
         each = λ open'. more-octets bs s.reads s'.reads so.octets (wrote.each needs.going) filled.0.fills.ends.0 (λ none. false≢true (sym open' ∙ filled.0.fills.ends.2 none));
       }
 
-  -- no octets came by a fault
+  -- A fault occurred, and no octets were read.
   pub text-unread : (s' : ReaderModel) (left' : Option (List ℕ)) (f : RunFault) (bs : List ℕ) → NeedsText verdict.Accepted s → FillsBuffer so.left left' s s' (Err (Run f)) bs
       → ReadsOctets (λ _. ⊥) so left' (Err f)
   text-unread s' left' f bs needs (x, reads, is, short) = (subst (λ octets. Consumes so.left left' octets) reads.fills.ends.0 reads.fills.read, by f reads.fills.ends)
@@ -345,25 +345,25 @@ module _ (form : Form) (b : List Row) (d : List Sequence) (s : ReaderModel) (so 
       by InputTooLong ends long = omega (arith, wrote.each needs.going, ends.2.0, ends.2.1)
       by Memory ends long = cc
 
--- what is not refused is accepted
+-- A verdict other than `Refused` is `Accepted`.
 pub accepted-else : (v : Verdict) → (v ≡ verdict.Refused → ⊥) → v ≡ verdict.Accepted
 accepted-else verdict.Accepted some = refl
 accepted-else verdict.Refused some = absurd (some refl)
 
--- what is held gives no fault of a write
+-- Buffered octets never give the fault `Write`.
 pub no-write-fault : (s s' : ReaderModel) (f : RunFault) → GivesHeldDocument s s' (Some (Err (Run f))) → f ≡ Write → ⊥
 no-write-fault s s' f gives is =
     let G : RunFault → Type 0 = λ g. GivesHeldDocument s s' (Some (Err (Run g))) in
     (subst G is gives None None s [] (call-none None s) (inl refl)).ends
 
--- so no writer is blamed
+-- Therefore, no writer is blamed.
 pub blames-none : (w : Writers) (f : RunFault) → (f ≡ Write → ⊥) → BlamesWriter {X = RunStep} w w (Err f)
 blames-none w Read none = ((refl, refl), (refl, refl))
 blames-none w Write none = absurd (none refl)
 blames-none w InputTooLong none = ((refl, refl), (refl, refl))
 blames-none w Memory none = ((refl, refl), (refl, refl))
 
--- how many reads were made by one
+-- the number of reads after one read
 pub text-counted : (left left' : Option (List ℕ)) (s s' : ReaderModel) (f : RunFault) (bs : List ℕ) → FillsBuffer left left' s s' (Err (Run f)) bs → CountsRead s.reads s'.reads (Err f)
 text-counted left left' s s' f bs (x, reads, is, short) = let C : ℕ → Type 0 = λ n. CountsRead s.reads n (Err f) in subst C (sym (ap (λ m. m.reads) is)) (by f reads.fills.ends)
   where

@@ -1,4 +1,4 @@
--- Last lines and exit statuses, and ends of runs that are refused, computed.
+-- Last lines, exit statuses, and endings that the contracts exclude, computed on worked examples.
 use Rattle.std.proofs.Common.{if◌then◌else◌, ◌==◌, ◌≡◌, ◌∙◌, None, true, false, ◌∷◌, ℕ, List, [], map, refl, ap, codes, Option, Some, Result, Ok, Err, sym, subst, arith, inl, inr}
 use Rattle.std.specs.Borrow.{Bor}
 use Rattle.std.specs.Fmt.{digits}
@@ -17,29 +17,29 @@ use Rattle.bufr_frame.specs.declared.fault.RunFault.{RunFault}
 use Rattle.std.specs.List.{concat}
 use Rattle.bufr_tables.specs.declared.fault.TableFault.TheVariants as table
 
--- ---- The last line and the exit status of each outcome computed on worked examples.
+-- ---- The last line and the exit status of each outcome, computed on worked examples.
 
--- a run that went through has no last line
+-- A run that completed has no last line.
 ran-line : (tally : Tally) → last_line (Ran tally) ≡ []
 ran-line tally = refl
 
 statuses : map status_of (Ran (record { accepted = 3; refused = 0 }) ∷ Ran (record { accepted = 3; refused = 1 }) ∷ Run Read ∷ TableB table.Header ∷ []) ≡ 0 ∷ 1 ∷ 2 ∷ 2 ∷ []
 statuses = refl
 
--- a fault that ended a run
+-- faults that end a run
 run-lines : map last_line (Run Read ∷ Run Write ∷ Run InputTooLong ∷ Run Memory ∷ [])
     ≡ codes "bufr: 70 read failed\n" ∷ codes "bufr: 71 write failed\n" ∷ codes "bufr: 72 input too long\n" ∷ codes "bufr: 73 out of memory\n" ∷ []
 unfolding digits
 run-lines = refl
 
--- a line that was not understood, and a file that cannot be opened
+-- a command line that is invalid, and a file that cannot be opened
 usage-line : (text : Bor (List ℕ)) → text.now ≡ codes "error: no command\n" → (last_line (Usage text) ≡ codes "error: no command\n") × (status_of (Usage text) ≡ 2)
 usage-line text is = (is, refl)
 
 closed-line : (name : Bor (List ℕ)) → name.now ≡ codes "a.bufr" → (last_line (CannotOpen name) ≡ codes "bufr: cannot open a.bufr\n") × (status_of (CannotOpen name) ≡ 2)
 closed-line name is = (ap (λ octets. concat (codes "bufr: cannot open " ∷ octets ∷ codes "\n" ∷ [])) is, refl)
 
--- a table at fault
+-- invalid tables
 -- rule: status-of-table, fault-73, table-not-read
 table-lines : map last_line (TableB table.Header ∷ TableB (table.Row 2) ∷ TableB (table.Duplicate 257) ∷ TableD (table.Cycle 49153) ∷ TableD table.TableSize ∷ TableB table.Csv ∷ TableD table.Memory
     ∷ [])
@@ -54,7 +54,7 @@ table-lines : map last_line (TableB table.Header ∷ TableB (table.Row 2) ∷ Ta
 unfolding digits
 table-lines = refl
 
--- what a result is
+-- The run completed.
 IsOk : Result Tally RunFault → Type 0
 IsOk (Ok tally) = Unit {0}
 IsOk (Err fault) = ⊥
@@ -63,13 +63,13 @@ ok-is-no-fault : (tally : Tally) (fault : RunFault) → Ok tally ≡ Err fault �
 unfolding IsOk
 ok-is-no-fault tally fault is = subst IsOk is tt
 
--- a listing of one stray word ends with status 1, and so never with 0
+-- A listing of a single stray ends with status 1, and therefore never with 0.
 a-stray-is-refused : (from to : Input) (before after : Writers) (tally : Tally) → from.left ≡ Some (codes "BUFR") → EndsRun (event_pieces ls_piece) from to before after (Ok tally)
     → status_of (Ran tally) ≡ 1
 unfolding scan_from sections_of section_end min_section_1
 a-stray-is-refused from to before after tally known ends = ap (λ n. if n == 0 then 0 else 1) (rw known at ends.leaves.whole).1.refused
 
--- writers that counted no failure and no empty write are at no fault of a write
+-- Writers that counted neither a failure nor an empty write exclude the fault `Write`.
 abbrev idle : Writers
 idle = holding (Some []) (Some [])
 
@@ -90,16 +90,16 @@ idle-writers-do-not-fail between output errors blames =
 no-write-fault : (pieces : RunPieces) (from to : Input) → EndsRun pieces from to idle idle (Err Write) → ⊥
 no-write-fault pieces from to ends = idle-writers-do-not-fail ends.between ends.rest ends.errors ends.leaves.writers
 
--- ---- What is refused of a call of the program.
+-- ---- Calls of the program that the contracts exclude.
 
--- an input that counted nothing, and inputs of such types
+-- an input without reads and failures, and inputs that consist of such inputs
 abbrev quiet : Input
 quiet = record { left = Some (codes "BUFR"); reads = 0; failures = 0 }
 
 abbrev quiet_inputs : Known (Unit {0}) (Unit {0})
 quiet_inputs = known (Some (codes "BUFR")) (λ name. Some (codes "BUFR")) (λ input. quiet) (λ file. quiet)
 
--- the faults that a reader's counts show
+-- the faults that show in the counts of a reader
 abbrev IsOfReads : RunFault → Type 0
 IsOfReads Read = Unit {0}
 IsOfReads Write = ⊥
@@ -109,7 +109,7 @@ IsOfReads Memory = ⊥
 few-are-not-most : ◌≡◌ {A = ℕ} 0 (counted 0 max_reads) → ⊥
 few-are-not-most is = omega arith
 
--- no read of it failed, nor were 2^32 made
+-- On this input, no read failed, and fewer than 2^32 reads were made.
 shows-neither : {X : Type 0} (fault : RunFault) → IsOfReads fault → quiet.failures ≡ read_failures_after {X = X} quiet.failures (Err fault)
     → ReadsAtMost {X = X} quiet.reads quiet.reads (Err fault) → ⊥
 shows-neither Read of failures reads = zero-is-not-one failures
@@ -123,7 +123,7 @@ no-read-fault pieces before after fault f of is ends =
     shows-neither fault of (rw same at ends.leaves.failures) (rw same at ends.leaves.reads)
 
 module _ (pieces : RunPieces) (before after : Writers) where
-  -- so a run over it answers neither 70 nor 72
+  -- Therefore, a run over it ends with neither fault 70 nor fault 72.
   run-is-not-70 : (fault : RunFault) → IsOfReads fault → (file : Option (Bor (List ℕ))) → RunOutcome pieces quiet_inputs file before after (Run fault) → ⊥
   run-is-not-70 fault of file (IsNotOpened name some (inl closed) same) = let is = closed.0 in absurd cc
   run-is-not-70 fault of file (IsNotOpened name some (inr is) same) = let memory : fault ≡ Memory = cc in subst IsOfReads memory of
@@ -132,7 +132,7 @@ module _ (pieces : RunPieces) (before after : Writers) where
   run-is-not-70 fault of None (Runs (Err f) is (from, to, left, ends)) = no-read-fault pieces before after fault f of is ends
   run-is-not-70 fault of (Some name) (Runs (Err f) is (from, to, left, ends)) = no-read-fault pieces before after fault f of is ends
 
-  -- a run that went through has handed its output on
+  -- A run that completed has flushed its output.
   run-is-handed-on : {Standard File : Type 0} (inputs : Known Standard File) (file : Option (Bor (List ℕ))) (tally : Tally) → RunOutcome pieces inputs file before after (Ran tally)
       → after.output.all_flushed ≡ true
   run-is-handed-on inputs file tally (IsNotOpened name some (inl closed) same) = let is = closed.0 in absurd cc
@@ -142,11 +142,11 @@ module _ (pieces : RunPieces) (before after : Writers) where
   run-is-handed-on inputs None tally (Runs (Ok tally') is (from, to, left, ends)) = ap (λ w. w.all_flushed) ends.rest ∙ ends.leaves.flushed.0
   run-is-handed-on inputs (Some name) tally (Runs (Ok tally') is (from, to, left, ends)) = ap (λ w. w.all_flushed) ends.rest ∙ ends.leaves.flushed.0
 
--- status 0 is refused where the output holds an octet back
+-- A run cannot complete if an octet of its output is not flushed.
 held-back : (pieces : RunPieces) (before after : Writers) (tally : Tally) → after.output.all_flushed ≡ false → RunOutcome pieces quiet_inputs None before after (Ran tally) → ⊥
 held-back pieces before after tally held comes = false≢true (sym held ∙ run-is-handed-on pieces before after quiet_inputs None tally comes)
 
--- so is a call of the program that ends with status 0: its output is handed on
+-- The same holds for a call of the program with status 0: its output is flushed.
 tables-are-read : {File : Type 0} (state_of : File → Input) (named : List ℕ → Option (List ℕ)) (tables : TableNames) (opens : List InputName → Type 0) (tally : Tally)
     → AreUnread state_of named tables opens (Ran tally) → ⊥
 tables-are-read state_of named tables opens tally (NoTableB opened (inl (inl (inl closed)))) = let is = closed.0 in absurd cc
@@ -184,7 +184,7 @@ status-0-is-handed-on words inputs opened opened' before after (Answers (line.He
 status-0-is-handed-on words inputs opened opened' before after (Answers (line.Usage text) why opens (same, wrote, status)) = absurd (zero-is-not-two inputs before after status)
 status-0-is-handed-on words inputs opened opened' before after (Answers line.Memory why opens (same, wrote, status)) = absurd (zero-is-not-two inputs before after status)
 
--- nor is a table of such a file answered by 70 or 72
+-- Reading a table from such a file does not end with fault 70 or 72, either.
 table-is-not-70 : (fault : RunFault) → IsOfReads fault → (named : List ℕ → Option (List ℕ)) (tables : TableNames) (opens : List InputName → Type 0)
     → AreUnread (λ (file : Unit {0}). quiet) named tables opens (Run fault) → ⊥
 table-is-not-70 fault of named tables opens (NoTableB opened (inl (inl (inl closed)))) = let is = closed.0 in absurd cc

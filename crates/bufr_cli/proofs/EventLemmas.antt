@@ -1,4 +1,4 @@
--- What a run over the events of a stream has written, and what comes next.
+-- What a run over the events of a stream has written, and what follows.
 use Rattle.bufr_frame.specs.Prelude.{Advances, FinderModel, NeedsRead, ReadsAndPasses, ReadsMore, ReturnsNextEvent, StreamEvent, events_of, new_finder, open_scan, scan, scan_from}
 use Rattle.std.proofs.Common.{◌≡◌, ◌∙◌, ◌≤◌, ◌<◌, ◌^◌, ℕ, ◌+◌, ◌-◌, Bool, true, false, List, [], ◌∷◌, ◌++◌, length, length-append, length-drop, refl, sym, ap, subst, arith, Option, Some, None, Result, Ok, Err, append-nil, append_assoc, map}
 use Rattle.std.specs.List.{concat}
@@ -14,7 +14,7 @@ use Rattle.bufr_frame.proofs.FinderLemmas.{read-step, events-are-open, Advances-
 use Rattle.bufr_cli.specs.Prelude.{CountsRead, IsCut, IsDone, IsOpen, NeedsOctets, Piece, Progress, ReadsOctets, Writers, WritesEvents, WritesPrefixes, event_pieces, no_progress, read_pieces, with_piece}
 use Rattle.bufr_cli.proofs.RunLemmas.{map-append}
 
--- nothing was read and written yet
+-- Nothing was read or written yet.
 pub no-events : (piece : StreamEvent → Piece) (left : Option (List ℕ)) (s : FinderModel) → s ≡ new_finder → WritesEvents piece s (no_progress left)
 no-events piece left s is =
     rw is (record {
@@ -32,7 +32,7 @@ no-events piece left s is =
       near = omega arith;
     })
 
--- a count that stays is of no read
+-- If a count is unchanged, no read was made.
 none-counted : (a b : ℕ) → a ≤ b → 0 ≡ counted 0 (b - a) → b ≡ a
 none-counted a b order made = omega (arith, order, made)
 
@@ -40,7 +40,7 @@ no-lists : (given : List (List ℕ)) → length given ≡ 0 → concat given ≡
 no-lists [] none = refl
 no-lists (octets ∷ more) none = absurd (omega (arith, none))
 
--- what holds of a stream of every beginning without a read is of what was held
+-- The event is returned without a read, whatever the remaining input and the number of reads are.
 abbrev Gives : (s s' : FinderModel) → Event → Type 0
 Gives s s' event = (left : Option (List ℕ)) (reads : ℕ) → ReturnsNextEvent left left reads reads s s' (Ok event)
 
@@ -48,7 +48,7 @@ pub held-reads : (s s' : FinderModel) (event : Event) → Gives s s' event → s
 held-reads s s' event gives = let next = gives None 0 in none-counted s.reads s'.reads next.counts.order next.counts.made
 
 module _ (piece : StreamEvent → Piece) (s : FinderModel) (so : Progress) (wrote : WritesEvents piece s so) where
-  -- a read is needed
+  -- A read is needed.
   module _ (s1 : FinderModel) (needs : NeedsRead s s1) where
     passed : ReadsAndPasses so.from so.left new_finder s1 so.octets wrote.events
     passed =
@@ -75,7 +75,7 @@ module _ (piece : StreamEvent → Piece) (s : FinderModel) (so : Progress) (wrot
       accepted = λ stops. absurd (false≢true stops);
     }
 
-  -- an event is given
+  -- An event is returned.
   module _ (s' : FinderModel) (event : Event) (gives : Gives s s' event) where
     abbrev given : ReturnsNextEvent so.left so.left 0 0 s s' (Ok event)
     given = gives so.left 0
@@ -96,7 +96,7 @@ module _ (piece : StreamEvent → Piece) (s : FinderModel) (so : Progress) (wrot
     at-end = passes.end (λ end. absurd (false≢true end))
 
     module _ (here : StreamEvent) (is : events_of event ≡ here ∷ []) where
-      -- its piece was written
+      -- The piece of the event was written.
       pub event-written : s'.fault ≡ None → s.at < s'.at → WritesEvents piece s' (with_piece so (piece here)) × (length so.pieces + 1 < 2 ^ 63)
       event-written sound on = (
         record {
@@ -110,7 +110,7 @@ module _ (piece : StreamEvent → Piece) (s : FinderModel) (so : Progress) (wrot
         omega (arith, wrote.few, on, given.near),
       )
 
-      -- its piece was cut
+      -- A prefix of the piece was written.
       pub event-cut : (before after : Writers) → WritesPrefixes before after (piece here ∷ []) → IsCut (event_pieces piece) so before after
       event-cut before after prefix =
           let more = read-prefix s'.ended so.octets s'.rest (wrote.events ++ here ∷ []) s'.at (rw is at passes.advances) in
@@ -138,7 +138,7 @@ module _ (piece : StreamEvent → Piece) (s : FinderModel) (so : Progress) (wrot
           read-pieces true bs = refl
           read-pieces false bs = refl
 
-          -- the events so far are the first of what was read
+          -- The events so far are a prefix of the events of the octets that were read.
           read-prefix : (ended : Bool) (octets rest : List ℕ) (events : List StreamEvent) (at : ℕ) → Advances ended 0 octets events at rest
               → (more : List StreamEvent) × (read_events ended octets ≡ events ++ more)
           read-prefix true octets rest events at advances = (scan_from 0 at rest, whole-scan true octets rest events at advances)
@@ -147,7 +147,7 @@ module _ (piece : StreamEvent → Piece) (s : FinderModel) (so : Progress) (wrot
           some-none : (p : Piece) → Some p ≡ None → ⊥
           some-none p none = cc
 
-  -- nothing comes any more
+  -- There are no more events.
   pub events-done : (s' : FinderModel) → Gives s s' Done → IsDone (event_pieces piece) so
   events-done s' gives =
       let on = passes s' Done gives in
@@ -164,7 +164,7 @@ module _ (piece : StreamEvent → Piece) (s : FinderModel) (so : Progress) (wrot
         whole = λ t none. ap (λ bs. map piece (scan (so.octets ++ bs))) (none refl) ∙ ap (λ bs. map piece (scan bs)) (append-nil so.octets) ∙ pieces;
       }
 
-  -- octets were read, or a fault stopped the read
+  -- Octets were read, or a fault stopped the read.
   pub events-read : (s' : FinderModel) (left' : Option (List ℕ)) (r : Result (Unit {0}) RunFault) (bs : List ℕ) → NeedsOctets s → ReadsMore so.left left' s s' r bs
       → ReadsOctets (WritesEvents piece s') so left' r
   events-read s' left' (Ok tt) bs needs more = (
@@ -196,7 +196,7 @@ module _ (piece : StreamEvent → Piece) (s : FinderModel) (so : Progress) (wrot
         ),
   )
 
--- how many reads were made by one
+-- the number of reads after one read
 pub read-counted : (s s' : FinderModel) (left left' : Option (List ℕ)) (r : Result (Unit {0}) RunFault) (bs : List ℕ) → ReadsMore left left' s s' r bs → CountsRead s.reads s'.reads r
 read-counted s s' left left' (Ok tt) bs more = more.fills.ends.0
 read-counted s s' left left' (Err Read) bs more = tt

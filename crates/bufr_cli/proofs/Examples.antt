@@ -1,4 +1,4 @@
--- The lines computed on worked examples.
+-- Listing lines and fault lines, computed on worked examples.
 use Rattle.std.proofs.Common.{◌≡◌, ℕ, List, [], ◌∷◌, ◌++◌, refl, codes, map, slice_set}
 use Rattle.std.specs.Fmt.{digits}
 use Rattle.bufr_frame.specs.Prelude.{min_section_1, scan, scan_from, sections_of, section_end, cause_report, section_report}
@@ -26,19 +26,19 @@ one_block_number = 0x42 ∷ 0x55 ∷ 0x46 ∷ 0x52 ∷ 0x00 ∷ 0x00 ∷ 0x30 �
     0x00 ∷ 0x00 ∷ 0x05 ∷ 0x00 ∷ 0x14 ∷
     0x37 ∷ 0x37 ∷ 0x37 ∷ 0x37 ∷ []
 
--- its line
+-- the line of this message in a listing
 one-listed : map ls_piece (scan one_block_number) ≡ OnOutput (codes "offset=0 length=48 edition=4 centre=98/0 update=0 category=0/0/0 tables=0/14/0 time=2024-01-02T03:04:05 subsets=1 observed=1 compressed=0 optional=0 descriptors=1\n") ∷ []
 unfolding scan_from sections_of section_end min_section_1 digits
 one-listed = refl
 
--- the fault lines of stray words
+-- the fault lines of strays
 -- rule: stream-fault-line, fault-1, fault-2, fault-3
 stray-lines : map (λ cause. fault_line 12 (cause_report cause)) (Cut ∷ ShortLength ∷ NoEnd ∷ [])
     ≡ codes "offset 12: 1 cut\n" ∷ codes "offset 12: 2 short length\n" ∷ codes "offset 12: 3 no end\n" ∷ []
 unfolding digits
 stray-lines = refl
 
--- of sections
+-- the fault lines of sections
 -- rule: fault-10, fault-11, fault-12, fault-13, fault-14
 section-lines : map (λ fault. fault_line 0 (section_report fault)) (Edition 2 ∷ SectionShort 1 ∷ SectionPast 4 ∷ SectionsEnd ∷ Edition3Long ∷ [])
     ≡ codes "offset 0: 10 edition 2\n"
@@ -50,7 +50,7 @@ section-lines : map (λ fault. fault_line 0 (section_report fault)) (Edition 2 �
 unfolding digits
 section-lines = refl
 
--- of templates
+-- the fault lines of templates
 -- rule: fault-20, fault-21, fault-22, fault-23, fault-24, fault-25, fault-26, fault-27, fault-28
 template-lines : map (λ fault. fault_line 48 (template_report fault))
     (template.UnknownElement 16383 ∷ template.UnknownSequence 64705 ∷ template.Operator 33800 ∷ template.GroupShape 16386 ∷ template.NoFactor 16640 ∷ template.EmptyGroup 0 ∷ template.Depth 16641
@@ -68,7 +68,7 @@ template-lines : map (λ fault. fault_line 48 (template_report fault))
 unfolding digits
 template-lines = refl
 
--- of the data: the subset, the descriptor and the bits before the item, each in its place
+-- the fault lines of data: the subset, the descriptor and the number of bits before the item
 -- rule: stream-fault-place, fault-30, fault-31, fault-32, fault-33, fault-34, fault-35
 data-lines : map (λ fault. fault_line 0 (data_report fault)) (walk.DataEnd (spot 1 257 22) ∷ walk.Width (spot 2 257 0) ∷ walk.Defining (spot 1 271 0) ∷ walk.UnequalFactor (spot 0 7937 0)
     ∷ walk.Increment (spot 0 257 0) ∷ walk.TooManyValues (spot 0 257 14336) ∷ [])
@@ -82,21 +82,21 @@ data-lines : map (λ fault. fault_line 0 (data_report fault)) (walk.DataEnd (spo
 unfolding digits
 data-lines = refl
 
--- of the lines of a text
+-- the fault lines of refused lines of a text
 -- rule: fault-lines-of-reading
 refused-lines : map (λ fault. document_line 26 (line_report fault)) (NotAllowed ∷ SubsetCount ∷ HeaderRange ∷ [])
     ≡ codes "line 26: 50 line\n" ∷ codes "line 26: 57 subset count\n" ∷ codes "line 26: 61 header range\n" ∷ []
 unfolding digits
 refused-lines = refl
 
--- of documents
+-- the fault lines of documents
 -- rule: fault-lines-of-encoding
 document-lines : map refusal_line (document.Template 24 (template.EmptyGroup 0x8100) ∷ document.TooLong 24 ∷ [])
     ≡ codes "line 24: 56 template 25 empty group 201000\n" ∷ codes "line 24: 60 too long\n" ∷ []
 unfolding digits
 document-lines = refl
 
--- of their items
+-- the fault lines of items in documents
 -- rule: fault-lines-of-encoding
 item-lines : map (λ why. refusal_line (document.Item 24 why)) (wrong.WrongDescriptor (expected.Item 0x0101) ∷ wrong.WrongDescriptor (expected.Reference 0x0C65) ∷ item_too_many
     ∷ wrong.Number ∷ wrong.OutOfRange ∷ wrong.TextLong ∷ wrong.MissingForbidden ∷ wrong.UnequalFactor ∷ wrong.Increment
@@ -117,13 +117,13 @@ item-lines : map (λ why. refusal_line (document.Item 24 why)) (wrong.WrongDescr
 unfolding digits
 item-lines = refl
 
--- the same octets said to be of edition 3: the versions of tables and the year are taken for the
+-- the same octets, declared to be edition 3: the table versions and the year are taken for the
 -- month, the day, the hour and the minute
 edition-3-listed : map ls_piece (scan (slice_set one_block_number 7 3)) ≡ OnOutput (codes "offset=0 length=48 edition=3 centre=98/0 update=0 category=0/0/0 tables=0/0/0 time=0000-14-00T07:232:00 subsets=1 observed=1 compressed=0 optional=0 descriptors=1\n") ∷ []
 unfolding scan_from sections_of section_end min_section_1 digits
 edition-3-listed = refl
 
--- a message of edition 3 with one block number, 46 octets
+-- an edition 3 message with one block number, 46 octets
 abbrev pub edition_3 : List ℕ
 edition_3 = 0x42 ∷ 0x55 ∷ 0x46 ∷ 0x52 ∷ 0x00 ∷ 0x00 ∷ 0x2E ∷ 0x03 ∷
     0x00 ∷ 0x00 ∷ 0x12 ∷ 0x00 ∷ 0x00 ∷ 0x62 ∷ 0x00 ∷ 0x00 ∷ 0x00 ∷ 0x00 ∷ 0x0E ∷ 0x00 ∷ 0x18 ∷ 0x01 ∷ 0x02 ∷ 0x03 ∷ 0x04 ∷ 0x00 ∷
@@ -136,13 +136,13 @@ edition-3-line : map ls_piece (scan edition_3) ≡ OnOutput (codes "offset=0 len
 unfolding scan_from sections_of section_end min_section_1 digits
 edition-3-line = refl
 
--- a stray word first, and another edition first
+-- a stray, and then a message of another edition
 -- rule: one-fault-a-message
 stray-listed : map ls_piece (scan (codes "BUFR" ++ 0 ∷ 0 ∷ 64 ∷ 4 ∷ (slice_set one_block_number 7 2 ++ 0 ∷ 0 ∷ 0 ∷ 0 ∷ 0 ∷ 0 ∷ 0 ∷ 0 ∷ []))) ≡ OnErrors (codes "offset 0: 3 no end\n") ∷ OnErrors (codes "offset 8: 10 edition 2\n") ∷ []
 unfolding scan_from sections_of section_end min_section_1 digits
 stray-listed = refl
 
--- after the first fault nothing is written
+-- Nothing is written after the first fault.
 -- rule: first-refusal-ends
 first-fault : up_to_refused (OnOutput (1 ∷ []) ∷ OnErrors (2 ∷ []) ∷ OnOutput (3 ∷ []) ∷ OnErrors (4 ∷ []) ∷ []) ≡ OnOutput (1 ∷ []) ∷ OnErrors (2 ∷ []) ∷ []
 unfolding up_to_refused

@@ -1,4 +1,4 @@
--- What clap's rules make of worked command lines.
+-- Worked examples of command lines, under clap's rules.
 use lib.Utf8.{encode}
 use Rattle.std.proofs.Common.{◌≡◌, ℕ, List, [], ◌∷◌, map, Option, None, Some, length, refl, ap, arith, codes, option_map}
 use Rattle.std.specs.Str.{chars}
@@ -12,41 +12,41 @@ use Rattle.bufr_text.specs.declared.encode.Form.TheVariants.{AsWritten, Plain, C
 use Rattle.bufr_cli.specs.Prelude.{bufr_app, no_job_text, word_of}
 use Rattle.bufr_cli.specs.declared.job.NoJob.TheVariants.{UnknownForm}
 
--- what clap's rules say of a line of `bufr`
+-- the faults of a command line of `bufr` under clap's rules
 abbrev fault_of_words : List Text → List ErrorKind
 fault_of_words words = fault_of bufr_app (codes "bufr" ∷ words)
 
--- lines that are understood
+-- valid command lines
 understood : map fault_of_words ((codes "ls" ∷ []) ∷ (codes "ls" ∷ codes "a.bufr" ∷ []) ∷ (codes "dump" ∷ codes "-B" ∷ codes "b.csv" ∷ codes "-D" ∷ codes "d.csv" ∷ []) ∷ (codes "encode" ∷ codes "a.txt" ∷ codes "-Dd.csv" ∷ codes "-B=b.csv" ∷ []) ∷ (codes "encode" ∷ codes "-B" ∷ codes "b" ∷ codes "-D" ∷ codes "d" ∷ codes "--form" ∷ codes "plain" ∷ []) ∷ [])
     ≡ [] ∷ [] ∷ [] ∷ [] ∷ [] ∷ []
 unfolding walk_fault walked defaults_fault flags_fault bundle_met chars encode
 understood = refl
 
--- lines that ask for help or the version
+-- command lines that ask for help or the version
 -- rule: help, version
 asks-help : map fault_of_words ((codes "--help" ∷ []) ∷ (codes "dump" ∷ codes "-h" ∷ []) ∷ (codes "--version" ∷ []) ∷ [])
     ≡ (DisplayHelp ∷ []) ∷ (DisplayHelp ∷ []) ∷ (DisplayVersion ∷ []) ∷ []
 unfolding walk_fault walked defaults_fault flags_fault bundle_met chars encode
 asks-help = refl
 
--- a line without a command
+-- a command line without a subcommand
 -- rule: usage
 no-command : fault_of_words [] ≡ MissingSubcommand ∷ []
 unfolding walk_fault walked defaults_fault flags_fault bundle_met chars encode
 no-command = refl
 
--- lines that are refused
+-- invalid command lines
 -- rule: usage, one-file
 refused : map fault_of_words ((codes "dump" ∷ codes "-B" ∷ codes "b.csv" ∷ []) ∷ (codes "ls" ∷ codes "a" ∷ codes "b" ∷ []) ∷ (codes "ls" ∷ codes "-B" ∷ codes "b.csv" ∷ []) ∷ (codes "dump" ∷ codes "-B" ∷ codes "b" ∷ codes "-D" ∷ codes "d" ∷ codes "-B" ∷ codes "c" ∷ []) ∷ (codes "encode" ∷ codes "-B" ∷ codes "b" ∷ codes "-D" ∷ codes "d" ∷ codes "--form" ∷ []) ∷ (codes "dump" ∷ codes "-B" ∷ codes "b" ∷ codes "-D" ∷ codes "d" ∷ codes "--form" ∷ codes "plain" ∷ []) ∷ (codes "encode" ∷ codes "-B" ∷ codes "b" ∷ codes "-D" ∷ codes "d" ∷ codes "--form" ∷ codes "plain" ∷ codes "--form" ∷ codes "plain" ∷ []) ∷ [])
     ≡ (MissingRequiredArgument ∷ []) ∷ (UnknownArgument ∷ []) ∷ (UnknownArgument ∷ []) ∷ (ArgumentConflict ∷ []) ∷ (InvalidValue ∷ []) ∷ (UnknownArgument ∷ []) ∷ (ArgumentConflict ∷ []) ∷ []
 unfolding walk_fault walked defaults_fault flags_fault bundle_met chars encode
 refused = refl
 
--- the word of `--form` that a line of `encode` has
+-- the value of `--form` on a command line of `encode`
 abbrev form_in : List Text → Option (Option Text)
 form_in words = option_map (λ met. first_of (codes "form") met.1) (subcommand_of bufr_app (codes "bufr" ∷ codes "encode" ∷ codes "-B" ∷ codes "b" ∷ codes "-D" ∷ codes "d" ∷ words))
 
--- none, the two forms, and a word that is no form, which is met and has no job
+-- no form, the two forms, and an unknown one, which is found but has no job
 forms : map form_in ([] ∷ (codes "--form" ∷ codes "plain" ∷ []) ∷ (codes "--form=compressed" ∷ []) ∷ (codes "--form" ∷ codes "packed" ∷ []) ∷ [])
     ≡ Some (word_of AsWritten) ∷ Some (word_of Plain) ∷ Some (word_of Compressed) ∷ Some (Some (codes "packed")) ∷ []
 unfolding walk_fault walked defaults_fault flags_fault bundle_met chars encode

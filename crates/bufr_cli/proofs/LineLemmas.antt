@@ -1,4 +1,4 @@
--- What clap leaves of the rules of a command, and which words give no job.
+-- Which subcommands have no job, and what an error of clap reports.
 use Rattle.std.proofs.Common.{◌≡◌, ◌≢◌, ◌∙◌, List, Some, ◌∷◌, inl, inr, Option, None, codes, sym, subst, ◌⊎◌, IfNone}
 use Rattle.clap.specs.Words.{HasKind, IsAmong, Kinds, Row, Text}
 use Rattle.clap.specs.Values.{kind_of}
@@ -14,14 +14,13 @@ use Rattle.bufr_cli.specs.declared.job.Subcommand.TheVariants.{Ls, Dump, Encode}
 use Rattle.bufr_cli.specs.declared.job.LineFault.{LineFault}
 use Rattle.bufr_cli.specs.declared.job.LineFault.TheVariants.{Help, Usage, Memory}
 
--- ---- What a call of clap's builder leaves of the rules of an option or a command.
+-- ---- Optional values.
 
--- what holds, holds where there is no value
+-- What holds in any case holds if there is no value.
 pub if-none : {A : Type 0} (o : Option A) (P : Type 0) → P → IfNone o P
 if-none None P p = p
 if-none (Some x) P p = tt
 
--- something is not nothing
 pub no-some : {A : Type 0} (x : A) → Some x ≡ None → ⊥
 no-some {A} x same =
     let P : Option A → Type 0 = λ o. IsThere o in
@@ -31,7 +30,7 @@ no-some {A} x same =
     IsThere None = ⊥
     IsThere (Some y) = Unit {0}
 
--- what distinguishes the names of the commands
+-- properties that distinguish the names of the subcommands
 abbrev HasThreeLetters : Text → Type 0
 HasThreeLetters (a ∷ b ∷ c ∷ rest) = Unit {0}
 HasThreeLetters _ = ⊥
@@ -40,16 +39,16 @@ abbrev HasFiveLetters : Text → Type 0
 HasFiveLetters (a ∷ b ∷ c ∷ d ∷ e ∷ rest) = Unit {0}
 HasFiveLetters _ = ⊥
 
--- a command that reads tables is not `ls`
+-- A subcommand that reads tables is not `ls`.
 not-ls : (name : Text) → (name ≡ codes "dump") ⊎ (name ≡ codes "encode") → name ≡ codes "ls" → ⊥
 not-ls name (inl dump) ls = subst HasThreeLetters (sym dump ∙ ls) tt
 not-ls name (inr encode) ls = subst HasThreeLetters (sym encode ∙ ls) tt
 
--- no job is that of the subcommand that was met
+-- No job belongs to the subcommand on the command line.
 abbrev pub HasNoJob : Option (Text × List Row) → Type 0
 HasNoJob subcommand = (job : Job) → ¬ IsJobOf subcommand job
 
--- a look-up that failed leaves no job
+-- If a look-up failed, there is no job.
 pub why-no-job : (name : Text) (rows : List Row) (why : NoJob) → IsWhyNoJob name rows why → HasNoJob (Some (name, rows))
 why-no-job name rows UnknownCommand lacks job is = lacks job.command is.0
 why-no-job name rows MissingTable (named, lacks) job is = no-tables job.command is.0 is.1
@@ -65,12 +64,12 @@ why-no-job name rows UnknownForm (named, lacks) job is = no-form job.command is.
     no-form (Dump tables) is-dump has = subst HasFiveLetters (sym named ∙ is-dump) tt
     no-form (Encode tables form) is-encode has = lacks form has.1
 
--- nor do words of which a usage text of our own is written
+-- If a usage text of our own is written, there is no job.
 pub no-job : (subcommand : Option (Text × List Row)) (text : Text) → GivesNoJob subcommand text → HasNoJob subcommand
 no-job None text gives = λ job is. is
 no-job (Some (name, rows)) text gives = why-no-job name rows gives.0 gives.1
 
--- want of memory is no request
+-- Running out of memory is not a request for help or the version.
 abbrev IsShown : ErrorKind → Type 0
 IsShown DisplayHelp = Unit {0}
 IsShown DisplayVersion = Unit {0}
@@ -79,13 +78,13 @@ IsShown _ = ⊥
 not-shown : (k : ErrorKind) {kind : ErrorKind} → kind ≡ k → kind ≡ OutOfMemory → IsShown k → ⊥
 not-shown k shown memory is = subst IsShown memory (subst IsShown (sym shown) is)
 
--- the fault that an error of this kind means; its text takes memory
+-- the fault that an error of this kind may cause; without memory for its text, that is `Memory`
 abbrev pub ReportsKind : ErrorKind → LineFault → Type 0
 ReportsKind kind (Help text) = (kind ≡ DisplayHelp) ⊎ (kind ≡ DisplayVersion)
 ReportsKind kind (Usage text) = (kind ≢ OutOfMemory) × (kind ≢ DisplayHelp) × (kind ≢ DisplayVersion)
 ReportsKind kind Memory = Unit {0}
 
--- what an error of clap says of the line
+-- what an error of clap reports about the command line
 pub reported-why : (kinds : Kinds) (e : Error) (met : Option (Text × List Row)) (fault : LineFault) → HasKind kinds e → ReportsKind (kind_of e) fault → SaysWhy kinds met fault
 reported-why kinds e met (Help text) (inl memory) (inl shown) = absurd (not-shown DisplayHelp shown memory tt)
 reported-why kinds e met (Help text) (inl memory) (inr shown) = absurd (not-shown DisplayVersion shown memory tt)

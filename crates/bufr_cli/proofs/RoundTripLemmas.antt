@@ -1,4 +1,5 @@
--- What `dump` writes for a stream, or a text by hand, is encoded to messages with that text.
+-- The text that `dump` writes for a stream, or a text written by hand, is encoded to messages with
+-- this text.
 use Rattle.std.proofs.Common.{subst, ◌-◌, None, option_map, ◌≡◌, ◌∙◌, ◌⊎◌, ℕ, suc, ◌+◌, ◌<◌, ◌≤◌, List, [], ◌∷◌, ◌++◌, length, map, Option, Some, Result, Ok, Err, refl, sym, ap, arith, inl, inr, length-append, flat_map, count_by, slice_index}
 use Rattle.std.specs.List.{AllByRecursion, AllZip, concat, filter}
 use Rattle.std.proofs.lemmas.List.Sums.{length-filter}
@@ -25,14 +26,14 @@ use Rattle.bufr_text.specs.declared.encode.Form.{Form}
 use Rattle.bufr_text.proofs.NormalLemmas.{dump_is_normal, encoded_again_same, encoded_read}
 use Rattle.bufr_fill.proofs.ReadsLemmas.{reads_as}
 
--- the numbers of a slice of octets
+-- A list with elements below 256 consists of octets.
 pub octets-all : (s : List ℕ) → ((i : ℕ) → slice_index s i < 256) → AllByRecursion IsOctet s
 octets-all [] small = tt
 octets-all (c ∷ s) small = (small 0, octets-all s (λ i. small (suc i)))
 
--- ---- the pieces of lists
+-- ---- The pieces of lists.
 
--- all that is on the output is written
+-- If every piece goes to the output, all of them are written.
 pub outputs-whole : (ms : List (List ℕ)) → up_to_refused (map OnOutput ms) ≡ map OnOutput ms
 unfolding up_to_refused
 outputs-whole [] = refl
@@ -54,7 +55,7 @@ pub outputs-accepted : (ms : List (List ℕ)) → length (filter is_accepted (ma
 outputs-accepted [] = refl
 outputs-accepted (m ∷ ms) = ap suc (outputs-accepted ms)
 
--- the accepted pieces alone have all of the output, and nothing of the errors
+-- The accepted pieces contain all of the output, and nothing of the errors.
 accepted-output : (ps : List Piece) → flat_map output_of (filter is_accepted ps) ≡ flat_map output_of ps
 accepted-output [] = refl
 accepted-output (OnOutput text ∷ ps) = ap (λ l. text ++ l) (accepted-output ps)
@@ -73,14 +74,14 @@ accepted-refused (OnErrors text ∷ ps) = accepted-refused ps
 accepted-count : (ps : List Piece) → count_by is_refused (filter is_accepted ps) ≡ 0
 accepted-count ps = sym (length-filter is_refused (filter is_accepted ps)) ∙ ap length (accepted-refused ps)
 
--- an empty text spells nothing
+-- An empty text contains no document.
 pub nothing-spelled : (line : ℕ) → parse_lines line between (lines_of []) ≡ []
 unfolding parse_lines lines_of split_of
 nothing-spelled line = refl
 
--- ---- an event
+-- ---- One event.
 
--- its message is accepted, and its piece is the message's dump text
+-- The message of the event is accepted, and its piece is the dump text of the message.
 record IsDumped (b : List Row) (d : List Sequence) (here : StreamEvent) (p : Piece) : Type 0 where
   offset : ℕ
   octets : List ℕ
@@ -96,7 +97,7 @@ abbrev IsFault : Piece → Type 0
 IsFault p = (text : List ℕ) × (p ≡ OnErrors text)
 
 module _ (records : List Record) (b : List Row) (d : List Sequence) (rows : AreRows records b) where
-  -- the piece of an accepted message is its dump text, wherever it is
+  -- The piece of an accepted message is its dump text, at any offset.
   pub accepted-piece : (m : List ℕ) (s : Sections) (template : Tree) (values : Values) (used offset : ℕ) → IsAccepted b d m s template values used
       → dump_piece b d (FrameAt offset m) ≡ OnOutput (dump_text_of s (dump_items b s.subsets values))
   accepted-piece m s template values used offset a =
@@ -142,7 +143,7 @@ module _ (records : List Record) (b : List Row) (d : List Sequence) (rows : AreR
         (template-kind s (tree_of (tables_of b d) s.descriptors) sections refl)
     message-kind (Err fault) sections = inl (_, refl)
 
-  -- an event is at fault, or its message is accepted
+  -- An event has a fault, or its message is accepted.
   event-kind : (here : StreamEvent) → IsSmall here → IsFault (dump_piece b d here) ⊎ IsDumped b d here (dump_piece b d here)
   event-kind (FrameAt offset m) small = message-kind offset m small (sections_of m) refl
   event-kind (StrayAt offset cause) small = inl (_, refl)
@@ -151,9 +152,9 @@ abbrev octets_or_none : Result (List ℕ) DocumentFault → List ℕ
 octets_or_none (Ok octets) = octets
 octets_or_none (Err refused) = []
 
--- ---- the messages of a stream
+-- ---- The messages of a stream.
 
--- messages one after another, from an offset on
+-- consecutive messages, from an offset on
 abbrev pub placed : (at : ℕ) → List (List ℕ) → List StreamEvent
 placed at [] = []
 placed at (m ∷ ms) = FrameAt at m ∷ placed (at + length m) ms
@@ -166,16 +167,16 @@ placed-count piece at (m ∷ ms) = ap suc (placed-count piece (at + length m) ms
 abbrev accepted_of : (StreamEvent → Piece) → List StreamEvent → List (List ℕ)
 accepted_of piece es = flat_map (λ here. accepted_in here (piece here)) es
 
--- What events come to: their pieces, the dump text and the accepted messages of these, and how many
--- octets they have.
+-- The results of events: their pieces, with the dump text and the accepted messages among them, and
+-- the number of their octets.
 record Events : Type 0 where
   text : List ℕ
   accepted : List (List ℕ)
   pieces : List Piece
   most : ℕ
 
--- From a line of a text on, the text of events is encoded to as many messages with the same
--- readings. These are framed one by one and have the same pieces.
+-- Read from a line number on, the text of the events is encoded to as many messages, with the same
+-- readings. In a stream, these messages are framed one by one and have the same pieces.
 record Built (b : List Row) (d : List Sequence) (events : Events) (line : ℕ) : Type 0 where
   messages : List (List ℕ)
   readings : AllZip (IsBuiltAgain b d) events.accepted messages
@@ -194,7 +195,7 @@ module _ (b : List Row) (d : List Sequence) where
   abbrev piece : StreamEvent → Piece
   piece = dump_piece b d
 
-  -- the piece of a message that was built again is the text of the first one
+  -- The piece of a rebuilt message is the text of the original message.
   same-piece : (records : List Record) → AreRows records b → (m : List ℕ) (s : Sections) (template : Tree) (values : Values) (used at : ℕ) (octets : List ℕ) → IsAccepted b d m s template values used
       → HasSameReading b m s template values octets
       → piece (FrameAt at octets) ≡ OnOutput (dump_text_of s (dump_items b s.subsets values))
@@ -202,7 +203,7 @@ module _ (b : List Row) (d : List Sequence) where
       accepted-piece records b d rows octets same.sections template values same.used at (accepted_again b d m s template values used octets a same)
       ∙ ap OnOutput (same_text b m s template values octets same)
 
-  -- an event at fault leaves nothing
+  -- An event with a fault contributes nothing.
   built-fault : (here : StreamEvent) (text' : List ℕ) (text : List ℕ) (accepted : List (List ℕ)) (pieces : List Piece) (most more line : ℕ) → most ≤ more
       → Built b d (record { text = text; accepted = accepted; pieces = pieces; most = most }) line
       → Built b d (record { text = text; accepted = accepted; pieces = OnErrors text' ∷ pieces; most = more }) line
@@ -217,7 +218,7 @@ module _ (b : List Row) (d : List Sequence) where
     kept = r.kept;
   }
 
-  -- an accepted message is built again
+  -- An accepted message is rebuilt.
   built-message : (m : List ℕ) (s : Sections) (template : Tree) (values : Values) (used : ℕ) (records : List Record) (text : List ℕ) (accepted : List (List ℕ)) (pieces : List Piece) (most line : ℕ)
       → AreRows records b → IsAccepted b d m s template values used
       → Built b d (record { text = text; accepted = accepted; pieces = pieces; most = most }) (line + length (dump_lines s (dump_items b s.subsets values)))
@@ -300,17 +301,17 @@ module _ (b : List Row) (d : List Sequence) where
         settled = ap (λ text. flat_map output_of (form_pieces AsWritten b d text)) (ap (flat_map output_of) texts ∙ accepted-output (dump_pieces b d s));
       }
 
-  -- what is written as an encoder writes it stays as it is
+  -- Messages that are already in canonical form are unchanged.
   pub canonical-kept : (records : List Record) (s : List ℕ) → AreRows records b → AllByRecursion IsOctet s → AllByRecursion (IsCanonicalMessage b d) (accepted_messages b d s)
       → rebuilt b d s ≡ concat (accepted_messages b d s)
   canonical-kept records s rows octets all =
       let r = built_from records (scan s) 1 rows (small-frames 0 0 s octets) in
       ap (flat_map output_of) (ap up_to_refused r.results ∙ outputs-whole r.messages) ∙ outputs-octets r.messages ∙ ap concat (r.kept all)
 
-  -- ---- three runs
+  -- ---- Three runs.
 
-  -- the first dumps a stream, the second encodes what the first wrote, the third dumps what the
-  -- second wrote
+  -- The first run dumps a stream, the second encodes the output of the first, and the third dumps
+  -- the output of the second.
   pub whole-round : (records : List Record) (stream : List ℕ) (text messages again : Written) → AreRows records b → AllByRecursion IsOctet stream
       → text.output ≡ dumped b d stream → Tallies text.tally (dump_pieces b d stream)
       → messages.output ≡ flat_map output_of (form_pieces AsWritten b d text.output) → messages.errors ≡ flat_map errors_of (form_pieces AsWritten b d text.output)
@@ -345,10 +346,10 @@ pub three-runs : (records : List Record) (b : List Row) (d : List Sequence) (str
 three-runs records b d stream text messages again e e' rows octets (wrote, counts) (encodes, counted) (dumps, counts') =
     whole-round b d records stream text messages again rows octets wrote.output counts encodes.output encodes.errors counted dumps.output dumps.errors counts'
 
--- ---- What is encoded of any text is dumped as the texts of its documents in one spelling.
+-- ---- Encoded text is dumped as the texts of its documents, in one spelling.
 
--- What is written for documents, and their texts. The messages on the output are framed one by one
--- and have these texts. They are built of these again, from any line of a text on.
+-- The results of documents, and their texts. The messages on the output are framed one by one and
+-- have these texts. The texts are encoded to the same messages, from any line number on.
 record AreBuilt (b : List Row) (d : List Sequence) (piece : StreamEvent → Piece) (pieces : List Piece) (texts : List (List ℕ)) : Type 0 where
   messages : List (List ℕ)
   written : flat_map output_of (up_to_refused pieces) ≡ concat messages
@@ -357,7 +358,7 @@ record AreBuilt (b : List Row) (d : List Sequence) (piece : StreamEvent → Piec
   results : (at : ℕ) → map piece (placed at messages) ≡ map OnOutput texts
   again : (line : ℕ) → map (result_piece AsWritten b d) (parse_lines line between (lines_of (concat texts))) ≡ map OnOutput messages
 
--- nothing is built of pieces of which none is written before the first refusal
+-- If no piece is written before the first refusal, no messages are built.
 none-built : (b : List Row) (d : List Sequence) (piece : StreamEvent → Piece) (pieces : List Piece) → flat_map output_of (up_to_refused pieces) ≡ [] → filter is_accepted (up_to_refused pieces) ≡ []
     → AreBuilt b d piece pieces []
 none-built b d piece pieces silent none = record {
@@ -373,7 +374,7 @@ module _ (form : Form) (records : List Record) (b : List Row) (d : List Sequence
   abbrev piece_of : StreamEvent → Piece
   piece_of = dump_piece b d
 
-  -- one message more, of a document that is encoded to it
+  -- another message, from a document that is encoded
   module _ (document : Document) (octets : List ℕ) (proper : IsProper document) (is : encoding_in form b d document ≡ Ok octets) (read : IsReadAs form b d document octets) where
     abbrev items : List (List View)
     items = dump_items b read.sections.subsets read.values
@@ -390,7 +391,7 @@ module _ (form : Form) (records : List Record) (b : List Row) (d : List Sequence
     piece-is at =
         accepted-piece records b d rows octets read.sections read.template read.values read.used at read.accepted ∙ ap OnOutput text-is
 
-    -- after its text the reading goes on
+    -- After the text of the message, reading continues.
     spells : (line : ℕ) (more : List ℕ) → map (result_piece AsWritten b d) (parse_lines line between (lines_of (normal_text form b d document ++ more)))
         ≡ OnOutput octets ∷ map (result_piece AsWritten b d) (parse_lines (line + length (dump_lines read.sections items)) between (lines_of more))
     spells line more =
@@ -412,7 +413,7 @@ module _ (form : Form) (records : List Record) (b : List Row) (d : List Sequence
       again = λ line. spells line (concat texts) ∙ ap (λ l. OnOutput octets ∷ l) (r.again (line + length (dump_lines read.sections items)));
     }
 
-  -- a document is encoded, or refused
+  -- A document is encoded, or it is refused.
   document-more : (document : Document) (made : Result (List ℕ) DocumentFault) (pieces : List Piece) (texts : List (List ℕ)) → IsProper document → encoding_in form b d document ≡ made
       → AreBuilt b d piece_of pieces texts
       → AreBuilt b d piece_of (encoded made ∷ pieces) (before_refused made (normal_text form b d document) texts)
@@ -427,7 +428,7 @@ module _ (form : Form) (records : List Record) (b : List Row) (d : List Sequence
       document-more document (encoding_in form b d document) (map (result_piece form b d) more) (normal_texts form b d more) proper.0 refl (are-built more proper.1)
   are-built (Refused line fault ∷ more) proper = none-built b d piece_of _ refl refl
 
-  -- the law
+  -- Any encoded text is dumped in one spelling.
   pub one-spelling : (text : List ℕ) → IsDumpedInOneSpelling form b d text
   one-spelling text =
       let texts = normal_texts form b d (documents_of text) in

@@ -1,4 +1,4 @@
--- What a run leaves, by its steps, and what comes of a job.
+-- What a run leaves, from its steps, and the outcome of a job.
 use Rattle.bufr_frame.specs.Prelude.{max_reads, read_failures_after, AddsReads}
 use Rattle.std.proofs.Common.{◌≡◌, ◌≢◌, ◌⊎◌, ◌∙◌, ◌<◌, ◌≤◌, ◌^◌, ℕ, ◌+◌, ◌-◌, Bool, true, false, List, [], ◌∷◌, ◌++◌, length, length-append, refl, sym, ap, subst, arith, append_assoc, Option, None, Ok, Err, append-nil, Some, inl, inr, Result, flat_map, map, count_by, IfSome}
 use Rattle.std.specs.Io.KnownBytes.{Consumes, IsAtEnd, Keeps}
@@ -35,7 +35,7 @@ grows-nil w = record { prefix = []; back = []; parts = refl; gains = Appends-nil
 pub prefixes-nil : (w : Writers) → WritesPrefixes w w []
 prefixes-nil w = record { output = grows-nil w.output.taken; errors = grows-nil w.errors.taken }
 
--- what was written is written after a flush
+-- A flush does not change which pieces were written.
 written-kept : (before mid after : Writers) (pieces : List Piece) → Keeps mid.output.taken after.output.taken → Keeps mid.errors.taken after.errors.taken → WritesPieces before mid pieces
     → WritesPieces before after pieces
 written-kept before mid after pieces kept_w kept_e written = record {
@@ -43,7 +43,7 @@ written-kept before mid after pieces kept_w kept_e written = record {
   errors = Appends-kept before.errors.taken mid.errors.taken after.errors.taken (flat_map errors_of pieces) written.errors kept_e;
 }
 
--- all of the pieces were written, and then a flush
+-- All of the pieces were written, and then a flush followed.
 abbrev all-written : (before mid after : Writers) (pieces given : List Piece) → pieces ≡ given → Keeps mid.output.taken after.output.taken → Keeps mid.errors.taken after.errors.taken
     → WritesPieces before mid given → WrittenInPart before after pieces
 all-written before mid after pieces given same kept_w kept_e written = record {
@@ -62,7 +62,7 @@ map-append piece xs ys = grind (arith, common_steps)
 pub count-append : (p : Piece → Bool) (xs ys : List Piece) → count_by p (xs ++ ys) ≡ count_by p xs + count_by p ys
 count-append p xs ys = grind (arith, common_steps)
 
--- one more piece is counted
+-- Another piece is counted.
 Tallies-then : (tally tally' : Tally) (v : Verdict) (pieces more : List Piece) → Tallies tally pieces → tally' ≡ tally_after tally v
     → counted_accepted v ≡ count_by is_accepted more → counted_refused v ≡ count_by is_refused more → Tallies tally' (pieces ++ more)
 Tallies-then tally tally' v pieces more before is accepted refused =
@@ -71,7 +71,7 @@ Tallies-then tally tally' v pieces more before is accepted refused =
       refused = ap (λ n. n + counted_refused v) before.refused ∙ ap (λ n. count_by is_refused pieces + n) refused ∙ sym (count-append is_refused pieces more);
     })
 
--- every piece is counted on one of the writers
+-- Each piece is counted once, as accepted or as refused.
 counted-all : (pieces : List Piece) → count_by is_accepted pieces + count_by is_refused pieces ≡ length pieces
 counted-all [] = refl
 counted-all (OnOutput text ∷ more) =
@@ -92,7 +92,7 @@ fails-then : (f f1 f2 n n1 n2 : ℕ) → Stays f f1 n n1 → Fails f1 f2 n1 n2 �
 fails-then f f1 f2 n n1 n2 before (inl more) = inl (more.0 ∙ ap (λ k. counted k 1) before.0, more.1 ∙ before.1)
 fails-then f f1 f2 n n1 n2 before (inr more) = inr (more.0 ∙ before.0, more.1 ∙ ap (λ k. counted k 1) before.1)
 
--- writers that counted nothing are at fault as after that
+-- If no writer failed before `mid`, the blame from `mid` on is the blame for the whole run.
 blames-then : (X Y : Type 0) (before mid after : Writers) (f : RunFault) → HasNotFailed before.output mid.output × HasNotFailed before.errors mid.errors → BlamesWriter {X = X} mid after (Err f)
     → BlamesWriter {X = Y} before after (Err f)
 blames-then X Y before mid after f (out, err) blames = by f blames
@@ -110,53 +110,52 @@ blames-then X Y before mid after f (out, err) blames = by f blames
     by Write (inl (x, y)) = inl (fails-then _ _ _ _ _ _ out x, e y)
     by Write (inr (x, y)) = inr (o x, fails-then _ _ _ _ _ _ err y)
 
--- the reads of a run, of so many
+-- the reads of a run that made n of them
 abbrev reads-at-most : {X : Type 0} (reads reads' n : ℕ) (r : Result X RunFault) → AddsReads reads reads' 0 n → (r ≡ Err InputTooLong → n ≡ max_reads) → ReadsAtMost reads reads' r
 reads-at-most reads reads' n r counts long =
     let e : n - 0 ≡ n = omega arith in
     (n, counts.most, counts.made ∙ ap (counted reads) e, long)
 
--- ---- How often the writers were flushed.
+-- ---- The number of times that the writers were flushed.
 
--- not at all
 pub flushes-none : (w : Writers) (n : ℕ) → FlushesAtMost n w w
 flushes-none w n = (counted-least w.output.flushes.made n, counted-least w.errors.flushes.made n)
 
--- at most so often, and then at most so often again
+-- at most n flushes, followed by at most m flushes
 pub flushes-then : (n m : ℕ) (before mid after : Writers) → FlushesAtMost n before mid → FlushesAtMost m mid after → FlushesAtMost (n + m) before after
 flushes-then n m before mid after first second = (
   counted-then before.output.flushes.made mid.output.flushes.made after.output.flushes.made n m first.0 second.0,
   counted-then before.errors.flushes.made mid.errors.flushes.made after.errors.flushes.made n m first.1 second.1,
 )
 
--- at most so often, and so at most even more often
+-- A bound on the number of flushes may be raised.
 pub flushes-up : (n m : ℕ) (before after : Writers) → n ≤ m → FlushesAtMost n before after → FlushesAtMost m before after
 flushes-up n m before after more is = (
   counted-up before.output.flushes.made after.output.flushes.made n m more is.0,
   counted-up before.errors.flushes.made after.errors.flushes.made n m more is.1,
 )
 
--- writing does not flush
+-- Writing does not flush.
 pub flushes-kept : (n : ℕ) (before mid after : Writers) → after.output.flushes ≡ mid.output.flushes → after.errors.flushes ≡ mid.errors.flushes → FlushesAtMost n before mid
     → FlushesAtMost n before after
 flushes-kept n before mid after output errors is = (rw output is.0, rw errors is.1)
 
--- as often as there were reads, and once more
+-- at most one flush for each read, and one more
 flushes-by : (reads reads' n : ℕ) (before after : Writers) → AddsReads reads reads' 0 n → FlushesAtMost (n + 1) before after → FlushesByRead reads reads' before after
 flushes-by reads reads' n before after counts is = let e : n - 0 ≡ n = omega arith in (n, counts.made ∙ ap (counted reads) e, is)
 
--- `NoFlushFails` and `FlushFails` exclude each other
+-- `NoFlushFails` and `FlushFails` exclude each other.
 none-fails : (before after : Writers) → NoFlushFails before after → FlushFails before.output after.output ⊎ FlushFails before.errors after.errors → ⊥
 none-fails before after none (inl output) = output none.0
 none-fails before after none (inr errors) = errors none.1
 
--- ---- What a run has done so far.
+-- ---- The progress of a run.
 
--- where a run is that has read these octets and written these pieces
+-- the progress of a run that has read these octets and written these pieces
 abbrev pub progress : (from to : Input) (octets : List ℕ) (pieces : List Piece) → Progress
 progress from to octets pieces = record { from = from.left; left = to.left; octets = octets; pieces = pieces }
 
--- a writer to which nothing unflushed was written is flushed
+-- A writer without unflushed octets was flushed.
 abbrev pub IsAllFlushed : Unflushed → (before after : Writers) → Type 0
 IsAllFlushed unflushed before after =
     (unflushed.output ≡ false → IsFlushed before.output after.output) × (unflushed.errors ≡ false → IsFlushed before.errors after.errors)
@@ -173,7 +172,7 @@ pub record RunSoFar (reaches : Progress → Type 0) (from to : Input) (before af
   pub handed : IsAllFlushed unflushed before after
   pub same : HasNotFailed before.output after.output × HasNotFailed before.errors after.errors
 
--- nothing was done yet
+-- Nothing was done yet.
 pub so-far-none : (reaches : Progress → Type 0) (from : Input) (before : Writers) (tally : Tally) (unflushed : Unflushed) → reaches (progress from from [] []) → tally.accepted ≡ 0
     → tally.refused ≡ 0 → RunSoFar reaches from from before before tally unflushed
 so-far-none reaches from before tally unflushed reached accepted refused = record {
@@ -189,7 +188,7 @@ so-far-none reaches from before tally unflushed reached accepted refused = recor
   same = ((refl, refl), (refl, refl));
 }
 
--- one more piece leaves the other writer
+-- Another piece leaves the other writer unchanged.
 piece-handed : (unflushed : Unflushed) (verdict : Verdict) (before mid after : Writers) → LeavesOther mid after verdict → IsAllFlushed unflushed before mid
     → IsAllFlushed (unflushed_after unflushed verdict) before after
 piece-handed unflushed verdict.Accepted before mid after other handed = (
@@ -201,12 +200,12 @@ piece-handed unflushed verdict.Refused before mid after other handed = (
   (λ none. absurd (false≢true (sym none))),
 )
 
--- `IsFlushedIf` implies `IsFlushed`
+-- `IsFlushedIf` implies `IsFlushed`.
 flushed-handed : (written : Bool) (before mid after : Writer) → (written ≡ false → IsFlushed before mid) → IsFlushedIf written mid after → IsFlushed before after
 flushed-handed true before mid after handed flushed = inr flushed
 flushed-handed false before mid after handed flushed = let H : Writer → Type 0 = λ w. IsFlushed before w in subst H (sym flushed) (handed refl)
 
--- before a read, what was written is flushed, or nothing changes
+-- Before a read, written octets are flushed, or nothing changes.
 read-handed : (waits : Bool) (unflushed unflushed' : Unflushed) (before mid after : Writers) (r : Result (Unit {0}) RunFault) → FlushesWritten waits unflushed unflushed' mid after r → r ≡ Ok tt
     → IsAllFlushed unflushed before mid → IsAllFlushed unflushed' before after
 read-handed waits unflushed unflushed' before mid after r hands well handed =
@@ -221,11 +220,11 @@ read-handed waits unflushed unflushed' before mid after r hands well handed =
     ]
 
 module _ (reaches : Progress → Type 0) (from to : Input) (before mid : Writers) (tally : Tally) (unflushed : Unflushed) (ran : RunSoFar reaches from to before mid tally unflushed) where
-  -- so many pieces are few
+  -- There are fewer than 2^63 pieces.
   pub tally-few : tally.accepted + tally.refused < 2 ^ 63
   tally-few = omega (arith, ran.tallies.accepted, ran.tallies.refused, counted-all ran.pieces, ran.few)
 
-  -- one more piece was written
+  -- Another piece was written.
   pub piece-written : (pieces : RunPieces) (on : Progress → Type 0) (after : Writers) (tally' : Tally) (unflushed' : Unflushed) (verdict : Verdict) (r : Result RunStep RunFault)
       → ((so : Progress) → reaches so → TakesStep pieces on so mid after r) → r ≡ Ok (step.Piece verdict)
       → BlamesWriter mid after r → after.output.flushes ≡ mid.output.flushes → after.errors.flushes ≡ mid.errors.flushes → tally' ≡ tally_after tally verdict
@@ -248,7 +247,7 @@ module _ (reaches : Progress → Type 0) (from to : Input) (before mid : Writers
         same = (same-then _ _ _ _ _ _ ran.same.0 stays.0, same-then _ _ _ _ _ _ ran.same.1 stays.1);
       }
 
-  -- a read is needed
+  -- A read is needed.
   pub read-needed : (pieces : RunPieces) (on : Progress → Type 0) (after : Writers) (r : Result RunStep RunFault)
       → ((so : Progress) → reaches so → TakesStep pieces on so mid after r) → r ≡ Ok step.Read
       → (now : RunSoFar on from to before after tally unflushed) × IsOpen pieces (progress from to now.octets now.pieces)
@@ -270,7 +269,7 @@ module _ (reaches : Progress → Type 0) (from to : Input) (before mid : Writers
         one.2,
       )
 
-  -- nothing comes any more
+  -- There are no more pieces.
   pub nothing-left : (pieces : RunPieces) (on : Progress → Type 0) (after : Writers) (r : Result RunStep RunFault)
       → ((so : Progress) → reaches so → TakesStep pieces on so mid after r) → r ≡ Ok step.End
       → (now : RunSoFar reaches from to before after tally unflushed) × IsDone pieces (progress from to now.octets now.pieces)
@@ -278,7 +277,7 @@ module _ (reaches : Progress → Type 0) (from to : Input) (before mid : Writers
       let one = rw is at gives (progress from to ran.octets ran.pieces) ran.reached in
       rw one.0 (ran, one.1)
 
-  -- what was written was flushed, and octets were read
+  -- Written octets were flushed, and more octets were read.
   pub octets-read : (on : Progress → Type 0) (waits : Bool) (unflushed' : Unflushed) (to' : Input) (after : Writers) (handed : Result (Unit {0}) RunFault) (r : Result (Unit {0}) RunFault)
       → FlushesWritten waits unflushed unflushed' mid after handed → handed ≡ Ok tt
       → ((so : Progress) → so.left ≡ to.left → reaches so → ReadsOctets on so to'.left r) → r ≡ Ok tt → to'.failures ≡ to.failures
@@ -300,9 +299,9 @@ module _ (reaches : Progress → Type 0) (from to : Input) (before mid : Writers
         same = (same-then _ _ _ _ _ _ ran.same.0 stays.0, same-then _ _ _ _ _ _ ran.same.1 stays.1);
       }
 
--- ---- What a run leaves at each of its ends.
+-- ---- What a run leaves, for each way in which it can end.
 
--- what holds of the octets read and all that may come after them holds of an input that is known
+-- What holds of the octets read, with anything that may follow, holds of an input that is known.
 known-whole : (left left' : Option (List ℕ)) (octets : List ℕ) (ended : Bool) (P : List ℕ → Type 0) → Consumes left left' octets → (ended ≡ true → IsAtEnd left')
     → ((t : List ℕ) → (ended ≡ true → t ≡ []) → P (octets ++ t)) → IfSome left P
 known-whole None left' octets ended P read at_end whole = tt
@@ -316,7 +315,7 @@ module _ (reaches : Progress → Type 0) (from to : Input) (before mid : Writers
   abbrev pub so : Progress
   so = progress from to ran.octets ran.pieces
 
-  -- a piece was cut
+  -- A prefix of a piece was written.
   pub leaves-cut : (on : Progress → Type 0) (after : Writers) (takes : Bool) (r : Result RunStep RunFault) (f : RunFault) (result : Result Tally RunFault)
       → ((so : Progress) → reaches so → TakesStep pieces on so mid after r) → StopsPiece takes r → BlamesWriter mid after r
       → after.output.flushes ≡ mid.output.flushes → after.errors.flushes ≡ mid.errors.flushes → r ≡ Err f → result ≡ Err f
@@ -368,7 +367,7 @@ module _ (reaches : Progress → Type 0) (from to : Input) (before mid : Writers
         writers = blames-then RunStep Tally before mid after Memory ran.same blames';
       }
 
-  -- a flush failed before a read
+  -- A flush before a read failed.
   pub leaves-held : (waits : Bool) (unflushed' : Unflushed) (after : Writers) (handed : Result (Unit {0}) RunFault) (f : RunFault) (result : Result Tally RunFault)
       → IsOpen pieces so → FlushesWritten waits unflushed unflushed' mid after handed → handed ≡ Err f → result ≡ Err f
       → LeavesDevices pieces from to before after result
@@ -392,7 +391,7 @@ module _ (reaches : Progress → Type 0) (from to : Input) (before mid : Writers
         writers = blames-then (Unit {0}) Tally before mid after Write ran.same (rw (is ∙ ap Err write) at hands.counts);
       })
 
-  -- a read failed, or was not made
+  -- A read failed, or was not made.
   pub leaves-unread : (on : Progress → Type 0) (waits : Bool) (unflushed' : Unflushed) (to' : Input) (after : Writers) (handed : Result (Unit {0}) RunFault) (r : Result (Unit {0}) RunFault) (n' : ℕ)
       (f : RunFault)
       (result : Result Tally RunFault)
@@ -482,7 +481,7 @@ module _ (reaches : Progress → Type 0) (from to : Input) (before mid : Writers
         writers = writers;
       }
 
-  -- nothing comes any more
+  -- There are no more pieces.
   module _ (done : IsDone pieces so) (after : Writers) (handed : Result (Unit {0}) RunFault) (hands : FlushesBoth mid after handed) where
     abbrev all : ReadsAndWrites pieces from to before after
     all = record {
@@ -493,7 +492,7 @@ module _ (reaches : Progress → Type 0) (from to : Input) (before mid : Writers
       written = all-written before mid after _ ran.pieces done.certain hands.output hands.errors ran.written;
     }
 
-    -- and then a flush failed
+    -- Then a flush failed.
     pub leaves-done-held : (f : RunFault) (result : Result Tally RunFault) → handed ≡ Err f → result ≡ Err f → LeavesDevices pieces from to before after result
     leaves-done-held f result is same =
         let write : f ≡ Write = rw is at hands.fault in
@@ -509,7 +508,7 @@ module _ (reaches : Progress → Type 0) (from to : Input) (before mid : Writers
           writers = blames-then (Unit {0}) Tally before mid after Write ran.same (rw (is ∙ ap Err write) at hands.counts);
         })
 
-    -- and everything was flushed
+    -- Everything was flushed.
     pub leaves-done : handed ≡ Ok tt → LeavesDevices pieces from to before after (Ok tally)
     leaves-done well =
         let stays = rw well at hands.counts in
@@ -529,15 +528,15 @@ module _ (reaches : Progress → Type 0) (from to : Input) (before mid : Writers
           writers = (same-then _ _ _ _ _ _ ran.same.0 stays.0, same-then _ _ _ _ _ _ ran.same.1 stays.1);
         }
 
--- ---- The reads of a run whose texts take no memory.
+-- ---- The reads of a run that does not allocate memory for its pieces.
 
--- the reads of a run, of so many
+-- the reads of a run that made n of them
 run-reads : {X : Type 0} (takes : Bool) (reads reads' n : ℕ) (r : Result X RunFault) → AddsReads reads reads' 0 n → (r ≡ Err InputTooLong → n ≡ max_reads)
     → (takes ≡ false → r ≡ Err Memory → n < max_reads) → RunReads takes reads reads' r
 run-reads false reads reads' n r counts long wanted = let so = reads-at-most reads reads' n r counts long in (so.0, so.1, so.2, so.3, wanted refl)
 run-reads true reads reads' n r counts long wanted = reads-at-most reads reads' n r counts long
 
--- where a piece was cut
+-- A prefix of a piece was written.
 pub run-reads-cut : (takes : Bool) (reads reads' n : ℕ) (r : Result RunStep RunFault) (f : RunFault) (result : Result Tally RunFault) → AddsReads reads reads' 0 n → StopsPiece takes r → r ≡ Err f
     → result ≡ Err f
     → RunReads takes reads reads' result
@@ -549,7 +548,7 @@ run-reads-cut takes reads reads' n r f result counts stops is same = rw same (by
     by InputTooLong stops' = absurd stops'
     by Memory stops' = run-reads takes reads reads' n (Err Memory) counts (λ long. cc) (λ none wanted. absurd (false≢true (sym none ∙ stops')))
 
--- where a read failed, or was not made
+-- A read failed, or was not made.
 pub run-reads-unread : (takes : Bool) (a b c n n' : ℕ) (r : Result (Unit {0}) RunFault) (f : RunFault) (result : Result Tally RunFault) → AddsReads a b 0 n → AddsReads b c n n' → CountsRead n n' r
     → r ≡ Err f → result ≡ Err f → RunReads takes a c result
 run-reads-unread takes a b c n n' r f result counts more made is same = rw same (by f (rw is at made))
@@ -560,40 +559,40 @@ run-reads-unread takes a b c n n' r f result counts more made is same = rw same 
     by InputTooLong made' = run-reads takes a c n' (Err InputTooLong) (adds-then a b c 0 n n' counts more) (λ long. made') (λ none wanted. cc)
     by Memory made' = run-reads takes a c n' (Err Memory) (adds-then a b c 0 n n' counts more) (λ long. cc) (λ none wanted. made')
 
--- where a flush failed
+-- A flush failed.
 pub run-reads-held : (takes : Bool) (reads reads' n : ℕ) (f : RunFault) (result : Result Tally RunFault) → AddsReads reads reads' 0 n → f ≡ Write → result ≡ Err f → RunReads takes reads reads' result
 run-reads-held takes reads reads' n f result counts write same = rw (same ∙ ap Err write) (run-reads takes reads reads' n (Err Write) counts (λ long. cc) (λ none wanted. cc))
 
--- where the run went through
+-- The run completed.
 pub run-reads-done : (takes : Bool) (reads reads' n : ℕ) (tally : Tally) → AddsReads reads reads' 0 n → RunReads {X = Tally} takes reads reads' (Ok tally)
 run-reads-done takes reads reads' n tally counts = run-reads takes reads reads' n (Ok tally) counts (λ long. cc) (λ none wanted. cc)
 
--- ---- What comes of a job, from what its run answers.
+-- ---- The outcome of a job, from the result of its run.
 
--- a run over its input, and then the flush of the rest
+-- a run over its input, and then the flush of the remaining output
 pub ends-run : (pieces : RunPieces) (from to : Input) (before between after : Writers) (ran ran' : Result Tally RunFault)
     → LeavesDevices pieces from to before between ran → ran' ≡ ran → FlushesRest between.output after.output ran → after.errors ≡ between.errors
     → EndsRun pieces from to before after ran'
 ends-run pieces from to before between after ran ran' leaves same rest errors = rw same (record { between = between; leaves = leaves; rest = rest; errors = errors })
 
--- standard input was run over
+-- The run read standard input.
 pub runs-standard : {Standard File : Type 0} (inputs : Known Standard File) (file : Option (Bor (List ℕ))) (run : (from to : Input) → Type 0) → file ≡ None
     → RunsOver inputs.of_standard inputs.standard run → RunsOverInput inputs file run
 runs-standard inputs file run none runs = rw none runs
 
--- a file was run over
+-- The run read a file.
 pub runs-file : {Standard File : Type 0} (inputs : Known Standard File) (file : Option (Bor (List ℕ))) (name : Bor (List ℕ)) (run : (from to : Input) → Type 0) → file ≡ Some name
     → RunsOver inputs.of_file (inputs.named name.now) run → RunsOverInput inputs file run
 runs-file inputs file name run some runs = rw some runs
 
--- help that was written in part ends with the line of a fault of a write
+-- If only a part of the help was written, the line of the write fault follows.
 pub help-in-part : (text : List ℕ) (before after : Writers) (status : ℕ) (fault : RunFault) → Writes {X = Unit {0}} before.output.taken after.output.taken text (Err fault)
     → CountsCalls {X = Unit {0}} before.output after.output (Err fault)
     → WritesLine before.errors after.errors (run_line fault) → status ≡ 2 → WritesHelp text before after status
 help-in-part text before after status fault writes counts line is =
     InPart writes.1 counts (rw writes.0 at line) is
 
--- ---- What was opened.
+-- ---- The inputs that were opened.
 
 pub opens-none : (before : Option (List InputName)) → Opens before before []
 opens-none None = tt

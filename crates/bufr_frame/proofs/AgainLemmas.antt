@@ -1,4 +1,4 @@
--- A message parsed, and written again from its parts.
+-- A parsed message is written again from its parts.
 use Rattle.std.proofs.lemmas.Grind.{common_steps}
 use Rattle.std.proofs.Common.{inl, inr, ◌≡◌, ◌==◌, ◌∙◌, ℕ, zero, suc, ◌+◌, ◌-◌, ◌*◌, ◌/◌, ◌%◌, ◌<◌, ◌≤◌, Bool, true, false, List, [], ◌∷◌, ◌++◌, length, take, drop, refl, ap, sym, subst, arith, Some, None, Ok, Err, get_or, codes, append_assoc, length-take, length-drop, Result, if◌then◌else◌, nat_lt, nat_le, not, is_some, slice_range, All, ◌&&◌, ◌||◌, slice_index}
 use Rattle.std.proofs.Math.Seq.{drop-cons, take-add}
@@ -15,11 +15,11 @@ use Rattle.std.proofs.lemmas.List.Folds.{drop_split}
 use Rattle.bufr_frame.proofs.ScanLemmas.{drop-twice}
 use Rattle.std.specs.List.{AllByRecursion}
 
--- the head that section 1 of an edition has
+-- the head, as read by the layout of section 1 in this edition
 abbrev head_in : (edition : ℕ) → List ℕ → Head
 head_in edition m = head_by (edition_of m) (λ key in_4 in_3. value_at m (if edition == 3 then in_3 else in_4))
 
--- the last of three tests that a number passed
+-- A number that is accepted passed all three tests.
 passed-all : (a b c : Bool) (e1 e2 e3 : SectionFault) (n q : ℕ) → (if a then Err e1 else if b then Err e2 else if c then Err e3 else Ok n) ≡ Ok q
     → (a ≡ false) × (b ≡ false) × (c ≡ false) × (n ≡ q)
 passed-all true b c e1 e2 e3 n q is = cc
@@ -27,7 +27,7 @@ passed-all false true c e1 e2 e3 n q is = cc
 passed-all false false true e1 e2 e3 n q is = cc
 passed-all false false false e1 e2 e3 n q is = (refl, refl, refl, (cc))
 
--- a section that ends inside the message
+-- The section at `p` ends at `q`, inside the message.
 pub record EndsAt (m : List ℕ) (least p q : ℕ) : Type 0 where
   pub least_long : p + least ≤ q
   pub long : q ≡ p + u24_at m p
@@ -54,7 +54,7 @@ unless-ok false e r y is = cc
 met-ok : (m : List ℕ) (p1 p2 p3 p4 : ℕ) (y : Sections) → parts_if_end_matches m p1 p2 p3 p4 ≡ Ok y → (p4 ≡ length m - 4) × (is_long_edition_3 m p2 p3 p4 ≡ false) × (parts m p1 p2 p3 p4 ≡ y)
 met-ok m p1 p2 p3 p4 y is = grind arith
 
--- where the sections of a message end
+-- the ends of the sections of a message
 pub record Ended (m : List ℕ) (s : Sections) : Type 0 where
   pub p1 : ℕ
   pub p2 : ℕ
@@ -100,7 +100,7 @@ sections-ended m s is =
       is = sym last.2;
     }
 
--- a message is of edition 3 or 4
+-- A message is of edition 3 or 4.
 pub edition-cases : {P : Type 0} (edition : ℕ) → is_edition edition ≡ true → (edition ≡ 3 → P) → (edition ≡ 4 → P) → P
 edition-cases {P = P} edition is of_3 of_4 = by (edition == 3) (edition == 4) refl refl is
   where
@@ -117,7 +117,8 @@ second-size : (b : Bool) (m : List ℕ) (p q : ℕ) → q ≤ length m → (b �
 second-size true m p q within there absent = omega (arith, slice-long m (p + 4) q within, there refl)
 second-size false m p q within there absent = omega (arith, absent refl)
 
--- the length of the parts: sections 3 and 4 are made even, without the octet left over in section 3
+-- The length of the rewritten message: sections 3 and 4 are made even, and an octet left over in
+-- section 3 is dropped.
 sizes : (m : List ℕ) (s : Sections) (e : Ended m s)
     → message_size (edition_of m) (parts_in (parts m e.p1 e.p2 e.p3 e.p4))
     ≡ e.p2 + even_size (edition_of m) (7 + 2 * ((e.p3 - (e.p2 + 7)) / 2)) + even_size (edition_of m) (e.p4 - e.p3) + 4
@@ -127,14 +128,14 @@ sizes m s e =
     ≡ e.p2 + even_size (edition_of m) (7 + 2 * ((e.p3 - (e.p2 + 7)) / 2)) + even_size (edition_of m) (e.p4 - e.p3) + 4 = grind (arith, common_steps, second-size, slice-long, length-words) in
     message_size_is (edition_of m) p ∙ by
 
--- in edition 4
+-- the length in edition 4
 sizes-4 : (m : List ℕ) (s : Sections) (e : Ended m s) → edition_of m ≡ 4 → message_size (edition_of m) (parts_in (parts m e.p1 e.p2 e.p3 e.p4)) + (e.p3 - (e.p2 + 7)) % 2 ≡ length m
 sizes-4 m s e is =
     let same = ap (λ n. e.p2 + even_size n (7 + 2 * ((e.p3 - (e.p2 + 7)) / 2)) + even_size n (e.p4 - e.p3) + 4) is in
     let all : message_size (edition_of m) (parts_in (parts m e.p1 e.p2 e.p3 e.p4)) ≡ e.p2 + (7 + 2 * ((e.p3 - (e.p2 + 7)) / 2)) + (e.p4 - e.p3) + 4 = sizes m s e ∙ same in
     omega (arith, all, e.third.least_long, e.fourth.least_long, e.fourth.three_long, e.last)
 
--- in edition 3
+-- the length in edition 3
 sizes-3 : (m : List ℕ) (s : Sections) (e : Ended m s) → edition_of m ≡ 3 → message_size (edition_of m) (parts_in (parts m e.p1 e.p2 e.p3 e.p4)) ≡ length m + (e.p3 - e.p2) % 2 + (e.p4 - e.p3) % 2
 sizes-3 m s e is =
     let d = (e.p3 - (e.p2 + 7)) / 2 in
@@ -145,7 +146,8 @@ sizes-3 m s e is =
     let odd : 7 + 2 * d + (7 + 2 * d) % 2 ≡ (e.p3 - e.p2) + (e.p3 - e.p2) % 2 = omega (arith, e.third.least_long) in
     omega (arith, all, odd, e.third.least_long, e.fourth.least_long, e.fourth.three_long, e.last)
 
--- a message written again is no longer, but for what makes its sections even
+-- A rewritten message is no longer than the original, except for the octets that make its sections
+-- even.
 pub no-longer : (m : List ℕ) (s : Sections) → sections_of m ≡ Ok s → message_size s.head.edition (parts_in s) ≤ length m + max_extra_octets s.head.edition
 no-longer m s is =
     let e = sections-ended m s is in
@@ -153,7 +155,7 @@ no-longer m s is =
     (λ is. let l : max_extra_octets (edition_of m) ≡ 2 = ap max_extra_octets is in omega (arith, sizes-3 m s e is, l))
     (λ is. omega (arith, sizes-4 m s e is)))
 
--- nor is it too long
+-- The rewritten message is not too long, either.
 no-odd : (m : List ℕ) (p2 p3 p4 : ℕ) → edition_of m ≡ 3 → is_long_edition_3 m p2 p3 p4 ≡ false → length m ≤ max_octets → length m + (p3 - p2) % 2 + (p4 - p3) % 2 ≤ max_octets
 no-odd m p2 p3 p4 is short few = grind (arith, common_steps)
 
@@ -164,7 +166,7 @@ not-too-long m s is few =
     (λ is. omega (arith, sizes-3 m s e is, no-odd m e.p2 e.p3 e.p4 is e.short few))
     (λ is. omega (arith, sizes-4 m s e is, few)))
 
--- octets one after another from place a
+-- n octets from index `a` on
 octets_from : ℕ → ℕ → List ℕ → List ℕ
 octets_from zero a m = []
 octets_from (suc n) a m = get_or m a 0 ∷ octets_from n (a + 1) m
@@ -177,7 +179,6 @@ slice-octets (suc n) a m within =
     let s : suc a ≡ a + 1 = omega arith in
     ap (take (suc n)) e ∙ ap (λ l. get_or m a 0 ∷ l) (ap (λ k. take n (drop k m)) s ∙ slice-octets n (a + 1) m (omega arith))
 
--- a slice in two parts
 slice-parts : (m : List ℕ) (a b c : ℕ) → a ≤ b → b ≤ c → slice_range m a c ≡ slice_range m a b ++ slice_range m b c
 slice-parts m a b c low high =
     let e : c - a ≡ (b - a) + (c - b) = omega arith in
@@ -185,7 +186,7 @@ slice-parts m a b c low high =
     ap (λ k. take k (drop a m)) e ∙ take-add (b - a) (c - b) (drop a m)
     ∙ ap (λ l. take (b - a) (drop a m) ++ take (c - b) l) (drop-twice (b - a) a m ∙ ap (λ k. drop k m) f)
 
--- the first octets of a slice
+-- the first n octets of a slice, and the others
 slice-begins : (n : ℕ) (m : List ℕ) (a c : ℕ) → a + n ≤ c → c ≤ length m → slice_range m a c ≡ octets_from n a m ++ slice_range m (a + n) c
 slice-begins n m a c fits within =
     let e : a + n - a ≡ n = omega arith in
@@ -193,7 +194,7 @@ slice-begins n m a c fits within =
     ∙ ap (λ k. take k (drop a m) ++ slice_range m (a + n) c) e
     ∙ ap (λ l. l ++ slice_range m (a + n) c) (slice-octets n a m (omega arith))
 
--- the octets that write a number of three octets, of two
+-- A number that was read from three octets, or from two, is written as these octets.
 three-back : (a b c : ℕ) → a < 256 → b < 256 → c < 256 → three_octets (65536 * a + 256 * b + c) ≡ a ∷ b ∷ c ∷ []
 three-back a b c la lb lc = grind (arith, common_steps)
 
@@ -209,7 +210,7 @@ words-back (a ∷ b ∷ m) small even =
     let y : (256 * a + b) % 256 ≡ b = omega arith in
     rw (x, y) (ap (λ l. a ∷ b ∷ l) (words-back m (λ k d within. small (suc (suc k)) d (omega (arith, within))) (omega (arith, even))))
 
--- with a zero octet left over
+-- the same, with a zero octet left over
 words-back-odd : (m : List ℕ) → All (λ octet. octet < 256) m → length m % 2 ≡ 1 → get_or m (length m - 1) 0 ≡ 0 → octets_of_words (words m) ++ 0 ∷ [] ≡ m
 words-back-odd [] small odd last = absurd (omega (arith, odd))
 words-back-odd (a ∷ []) small odd last = ap (λ x. x ∷ []) (sym last)
@@ -246,7 +247,7 @@ unfolding octets_from
 seven-at m p = grind (arith, common_steps)
 
 module _ (m : List ℕ) (small : All (λ octet. octet < 256) m) where
-  -- the octets of a length
+  -- the octets of a declared length
   length-back : (p n : ℕ) → p + 3 ≤ length m → n ≡ u24_at m p → three_octets n ≡ get_or m p 0 ∷ get_or m (p + 1) 0 ∷ get_or m (p + 2) 0 ∷ []
   length-back p n within is =
       ap three_octets is ∙ three-back (get_or m p 0) (get_or m (p + 1) 0) (get_or m (p + 2) 0) (small p 0 (omega arith)) (small (p + 1) 0 (omega arith)) (small (p + 2) 0 (omega arith))
@@ -254,7 +255,7 @@ module _ (m : List ℕ) (small : All (λ octet. octet < 256) m) where
   word-back : (p : ℕ) → p + 2 ≤ length m → two_octets (u16_at m p) ≡ get_or m p 0 ∷ get_or m (p + 1) 0 ∷ []
   word-back p within = two-back (get_or m p 0) (get_or m (p + 1) 0) (small (p + 1) 0 (omega arith))
 
-  -- a section that is only its length, a reserved octet and its octets
+  -- a section that consists of its length, a reserved octet and its content
   content-back : (p q : ℕ) → p + 4 ≤ q → q ≤ length m → q ≡ p + u24_at m p → get_or m (p + 3) 0 ≡ 0 → section4_octets (slice_range m (p + 4) q) ≡ slice_range m p q
   content-back p q fits within long reserved =
       let x = slice_range m (p + 4) q in
@@ -346,7 +347,7 @@ module _ (m : List ℕ) (small : All (λ octet. octet < 256) m) where
       ∙ ap (λ l. slice_range m 8 11 ++ l) (sym (slice-parts m 11 from p (omega (arith, some)) fits))
       ∙ sym (slice-parts m 8 11 p (omega arith) (omega (arith, some)))
 
-  -- the octets of the descriptors, in edition 3 with the one left over
+  -- the octets of the descriptors, and in edition 3 the octet left over
   content-words : (p q : ℕ) → is_edition (edition_of m) ≡ true → p + 7 ≤ q → q ≤ length m → q ≡ p + u24_at m p → (edition_of m ≡ 4 → u24_at m p % 2 ≡ 1) → (edition_of m ≡ 3 → u24_at m p % 2 ≡ 0)
       → (edition_of m ≡ 3 → get_or m (q - 1) 0 ≡ 0) → with_even_length (edition_of m) 7 (octets_of_words (words (slice_range m (p + 7) q))) ≡ slice_range m (p + 7) q
   content-words p q known fits within long odd even left_over =
@@ -395,7 +396,7 @@ module _ (m : List ℕ) (small : All (λ octet. octet < 256) m) where
 prefix-back : (m : List ℕ) → All (λ octet. octet < 256) m → 8 ≤ length m → take 4 m ≡ codes "BUFR" → (n : ℕ) → n ≡ u24_at m 4 → section0_octets n (get_or m 7 0) ≡ take 8 m
 prefix-back m small long word n is = grind (arith, common_steps)
 
--- where sections 3 and 4 begin
+-- the start of sections 2, 3 and 4
 module _ (m : List ℕ) (s : Sections) (e : Ended m s) where
   begins2 : e.p1 ≡ section2_begins m
   begins2 = e.first.long
@@ -410,7 +411,7 @@ module _ (m : List ℕ) (s : Sections) (e : Ended m s) where
   begins4 : e.p3 ≡ section4_begins m
   begins4 = e.third.long ∙ ap (λ p. p + u24_at m p) begins3
 
--- a plain message, written again, has the same octets
+-- A plain message, written again, has the same octets.
 module _ (m : List ℕ) (plain : IsPlain m) (s : Sections) (e : Ended m s) where
   place2 : e.p1 ≡ section2_begins m
   place2 = begins2 m s e
@@ -442,7 +443,7 @@ module _ (m : List ℕ) (plain : IsPlain m) (s : Sections) (e : Ended m s) where
       let even : (e.p3 - (e.p2 + 7)) % 2 ≡ 0 = omega (arith, odd, e.third.long, e.third.least_long) in
       omega (arith, even, sizes-4 m s e is, plain.size))
 
-  -- section 4 is even in edition 3
+  -- In edition 3, section 4 is even.
   payload : with_even_length (edition_of m) 4 (slice_range m (e.p3 + 4) e.p4) ≡ slice_range m (e.p3 + 4) e.p4
   payload =
       let x = slice_range m (e.p3 + 4) e.p4 in
@@ -490,7 +491,7 @@ module _ (m : List ℕ) (plain : IsPlain m) (s : Sections) (e : Ended m s) where
       ap (λ l. l ++ (t1 (is_some (if b then Some (slice_range m (e.p1 + 4) e.p2) else None)) ++ (t2 ++ (t3 ++ (t4 ++ codes "7777"))))) s0
       ∙ ap (λ l. take 8 m ++ l) back ∙ take-append-drop 8 m
 
--- where sections 3 and 4 are even, it is no longer in edition 3 either
+-- If sections 3 and 4 are even, rewriting does not lengthen an edition 3 message, either.
 pub least-when-even : (m : List ℕ) (s : Sections) → sections_of m ≡ Ok s → edition_of m ≡ 3 → u24_at m (section3_begins m) % 2 ≡ 0 → u24_at m (section4_begins m) % 2 ≡ 0
     → message_size s.head.edition (parts_in s) ≤ length m
 least-when-even m s is edition even3 even4 =
@@ -512,7 +513,7 @@ both a b h k = rw (h, k) refl
 up : (a b : ℕ) → a ≤ b → nat_le a b ≡ true
 up a b h = grind arith
 
--- ---- heads that can be written
+-- ---- Heads that can be written.
 
 pub writable-4 : (h : Head) → h.edition ≡ 4 → is_writable h ≡ true
 writable-4 h e = ap (λ n. (n == 4) || ((n == 3) && (nat_le h.centre 255 && (nat_le h.subcentre 255 && (nat_le h.year 255 && (nat_le h.local_subcategory 0 && nat_le h.second 0)))))) e
@@ -528,7 +529,7 @@ fitting-writable h fits =
     (λ is. writable-3 h is (bound 1 is) (bound 2 is) (bound 9 is) (bound 6 is) (bound 14 is))
     (λ is. writable-4 h is)
 
--- what holds of the greatest values of both editions
+-- A property of the greatest values of both editions holds for any edition number.
 pub by-third : (P : List ℕ → Type 0) (e : ℕ) → P (greatest_values 3) → P (greatest_values 4) → P (greatest_values e)
 by-third P e of_3 of_4 = by (e == 3)
   where
@@ -536,9 +537,9 @@ by-third P e of_3 of_4 = by (e == 3)
     by true = of_3
     by false = of_4
 
--- ---- the head of a message
+-- ---- The head of a message.
 
--- each number is at most that at its place
+-- Each number is at most the one at the same index.
 abbrev pub AreAtMost : List ℕ → List ℕ → Type 0
 AreAtMost [] ys = Unit {0}
 AreAtMost (x ∷ xs) [] = ⊥
@@ -582,7 +583,7 @@ module _ (m : List ℕ) (small : (i : ℕ) → slice_index m i < 256) where
 pub heads-fit : (m : List ℕ) (s : Sections) → ((i : ℕ) → slice_index m i < 256) → sections_of m ≡ Ok s → IsFitting s.head
 heads-fit m s small is = let e = sections-ended m s is in subst (λ (x : Sections). IsFitting x.head) (sym e.is) (head-of-fits m small e.edition)
 
--- ---- the octets of a head
+-- ---- The octets of a head.
 
 flag-small : (b : Bool) → (if b then 128 else 0) < 256
 flag-small true = omega arith

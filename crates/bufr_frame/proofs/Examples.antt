@@ -1,4 +1,4 @@
--- The definitions computed on worked examples.
+-- Worked examples, computed from the definitions.
 use Rattle.std.proofs.Common.{◌≡◌, ℕ, zero, suc, Bool, true, false, List, [], ◌∷◌, ◌++◌, refl, take, length, codes, Option, Some, None, Ok, Err, slice_set, ◌==◌, ◌&&◌, ◌+◌}
 use Rattle.bufr_frame.specs.Prelude.{min_section_1, StreamEvent, FrameAt, StrayAt, scan, scan_from, open_scan, longest_of, first_event, sections_of, section_end, Sections, MessageParts, parts_of, parts_in, message_octets, is_writable, Head}
 use Rattle.bufr_frame.specs.declared.fault.Cause.TheVariants.{Cut, ShortLength, NoEnd}
@@ -21,7 +21,7 @@ local_use = 0x42 ∷ 0x55 ∷ 0x46 ∷ 0x52 ∷ 0x00 ∷ 0x00 ∷ 0x38 ∷ 0x04 
     0x00 ∷ 0x00 ∷ 0x05 ∷ 0x00 ∷ 0x14 ∷
     0x37 ∷ 0x37 ∷ 0x37 ∷ 0x37 ∷ []
 
--- a message of edition 3, 46 octets
+-- an edition 3 message, 46 octets
 abbrev edition_3 : List ℕ
 edition_3 = 0x42 ∷ 0x55 ∷ 0x46 ∷ 0x52 ∷ 0x00 ∷ 0x00 ∷ 0x2E ∷ 0x03 ∷
     0x00 ∷ 0x00 ∷ 0x12 ∷ 0x00 ∷ 0x00 ∷ 0x62 ∷ 0x00 ∷ 0x00 ∷ 0x00 ∷ 0x00 ∷ 0x0E ∷ 0x00 ∷ 0x18 ∷ 0x01 ∷ 0x02 ∷ 0x03 ∷ 0x04 ∷ 0x00 ∷
@@ -124,14 +124,14 @@ sections :
     (sections_of one_block_number ≡ Ok (the_sections [] None 48))
     × (sections_of local_use ≡ Ok (the_sections (0xAB ∷ 0xCD ∷ []) (Some (1 ∷ 2 ∷ [])) 56))
     × (sections_of edition_3 ≡ Ok (sections_of_edition_3 (0x14 ∷ 0 ∷ []) 46))
-    -- odd sections are read, and written even
+    -- Odd sections are accepted, although sections are written even.
     × (sections_of edition_3_odd ≡ Ok (sections_of_edition_3 (0x14 ∷ []) 44))
-    -- a reserved bit makes no difference
+    -- A reserved bit makes no difference.
     × (sections_of (slice_set one_block_number 36 129) ≡ Ok (the_sections [] None 48))
 unfolding sections_of section_end min_section_1
 sections = (refl, refl, refl, refl, refl)
 
--- octets of edition 4 read as edition 3: other values, and five octets of local use
+-- Edition 4 octets, read as edition 3, give other values and five octets of local use.
 abbrev head_by_edition_3 : Head
 head_by_edition_3 = record {
   edition = 3;
@@ -167,14 +167,14 @@ by-edition-3 : sections_of (slice_set one_block_number 7 3) ≡ Ok (record {
 unfolding sections_of section_end min_section_1
 by-edition-3 = refl
 
--- what can be written in edition 3
+-- values that cannot be written in edition 3
 writable :
     (is_writable (record head_of_edition_3 { centre = 256 }) ≡ false)
     × (is_writable (record head_of_edition_3 { second = 5 }) ≡ false)
 writable = (refl, refl)
 
--- the section faults: another edition, a section short, a section past the end, sections that do
--- not meet the end
+-- The section faults: another edition, a section that is too short, a section past the end, and
+-- sections that do not end at the last four octets.
 -- rule: edition-first, length-under-least, section-past-end, section-4-end, length-past-end
 section-faults :
     (sections_of (slice_set one_block_number 7 2) ≡ Err (Edition 2))
@@ -184,18 +184,18 @@ section-faults :
     × (sections_of (slice_set (slice_set one_block_number 17 128) 32 3) ≡ Err (SectionShort 2))
     × (sections_of (slice_set (slice_set one_block_number 17 128) 32 15) ≡ Err (SectionPast 2))
     × (sections_of (slice_set one_block_number 32 6) ≡ Err (SectionShort 3))
-    -- section 1 of 34 octets leaves no three octets before the last four for the length of section 3
+    -- After a section 1 of 34 octets, the length of section 3 overlaps the last four octets.
     × (sections_of (slice_set one_block_number 10 34) ≡ Err (SectionPast 3))
     × (sections_of (slice_set one_block_number 41 3) ≡ Err (SectionShort 4))
     × (sections_of (slice_set one_block_number 41 6) ≡ Err (SectionPast 4))
-    -- section 1 of 16 octets is short in edition 3, and its flags say that there is a section 2
+    -- In edition 3, a section 1 of 16 octets is too short, and its flags can announce a section 2.
     × (sections_of (slice_set edition_3 10 16) ≡ Err (SectionShort 1))
     × (sections_of (slice_set (slice_set edition_3 15 128) 28 30) ≡ Err (SectionPast 2))
 unfolding sections_of section_end min_section_1
 section-faults = (refl, refl, refl, refl, refl, refl, refl, refl, refl, refl, refl, refl)
 
--- the events: one message, two, a message without its end, a stray word first, short and cut
--- lengths
+-- The events: one message, two messages, a message without `7777`, a stray `BUFR` before a message,
+-- a length under 12, and input that ends early.
 -- rule: frame, stray-no-end, after-a-stray, stray-short-length, stray-cut, input-ends-early
 -- rule: input-without-bufr, output-waits
 events :
@@ -212,7 +212,7 @@ events :
 unfolding scan_from
 events = (refl, refl, refl, refl, refl, refl, refl, refl, refl, refl)
 
--- 4,096 octets of the word alone
+-- `BUFR`, repeated n times: 4,096 octets for n = 1,024
 abbrev words_only : ℕ → List ℕ
 words_only zero = []
 words_only (suc n) = codes "BUFR" ++ words_only n
@@ -229,7 +229,7 @@ words-only :
 unfolding scan_from
 words-only = (refl, refl)
 
--- words eight octets apart, each of which states 64 octets: the last seven are cut
+-- `BUFR` every eight octets, each with a declared length of 64: the last seven are cut.
 abbrev stating_64 : ℕ → List ℕ
 stating_64 zero = []
 stating_64 (suc n) = codes "BUFR" ++ 0 ∷ 0 ∷ 64 ∷ 4 ∷ stating_64 n
@@ -247,15 +247,15 @@ stating-events :
     (scan (stating_64 16) ≡ no_ends 0 9 (cuts 72 7))
     × (open_scan (stating_64 16) ≡ no_ends 0 9 [])
     × (longest_of 0 (stating_64 16) (scan (stating_64 16)) ≡ 64)
-    -- a run cut in two: the events of the first 58 octets, and the scan after them
+    -- an interrupted run: the events of the first 58 octets, then the scan after them
     × (open_scan (one_block_number ++ take 10 one_block_number) ≡ FrameAt 0 one_block_number ∷ [])
     × (scan (one_block_number ++ one_block_number) ≡ FrameAt 0 one_block_number ∷ scan_from 0 48 one_block_number)
-    -- the greatest length: of a message, of one followed by a word that is not yet certain, and of a
-    -- word without a length
+    -- the greatest length: of a message, of a message before a `BUFR` that is not yet certain, and
+    -- of a `BUFR` without a length
     × (longest_of 0 one_block_number (scan one_block_number) ≡ 48)
     × (longest_of 0 (one_block_number ++ codes "BUFR" ++ 0 ∷ 1 ∷ 0 ∷ 4 ∷ []) (FrameAt 0 one_block_number ∷ first_event (scan_from 0 48 (codes "BUFR" ++ 0 ∷ 1 ∷ 0 ∷ 4 ∷ []))) ≡ 256)
     × (longest_of 0 (codes "BUFR") (scan (codes "BUFR")) ≡ 0)
-    -- the stray words of the worked streams, and lengths under 12
+    -- the strays of the worked streams, and lengths under 12
     × (scan (codes "BUFR" ++ 0 ∷ 0 ∷ 64 ∷ 4 ∷ one_block_number ++ codes "xyBUF" ++ one_block_number ++ codes "BUFR" ++ 0 ∷ 0 ∷ 11 ∷ 4 ∷ codes "abcBUFR") ≡ StrayAt 0 NoEnd ∷ FrameAt 8 one_block_number ∷ FrameAt 61 one_block_number ∷ StrayAt 109 ShortLength ∷ StrayAt 120 Cut ∷ [])
 unfolding scan_from
 stating-events = (refl, refl, refl, refl, refl, refl, refl, refl, refl)

@@ -22,13 +22,13 @@ use Rattle.std.specs.Option.{IfSome}
 use Rattle.std.proofs.lemmas.List.Folds.{concat-append, list_all-append}
 use Rattle.bufr_frame.specs.declared.finder.Event.TheVariants as event
 
--- octets were read and follow those that were held
+-- Octets were read, and appended to the buffered ones.
 pub record ReadSoFar (left mid : Option (List ℕ)) (old now : List ℕ) : Type 0 where
   pub octets : List ℕ
   pub read : Consumes left mid octets
   pub held : now ≡ old ++ octets
 
--- one read asked for all that fits after `filled` of `len` places, up to `most`
+-- One read requests the octets that fit between `filled` and `len`, but at most `most`.
 pub asks-once : (most reads reads' held held' free filled len n to : ℕ) → reads' ≡ reads → held' ≡ held + n → free + (filled + n) ≡ len → to ≡ min len (filled + most)
     → to - filled ≡ (reads' + 1 - reads) * min most (free + held' - held)
 asks-once most reads reads' held held' free filled len n to made grown fits is =
@@ -36,14 +36,14 @@ asks-once most reads reads' held held' free filled len n to made grown fits is =
     let all : free + held' - held ≡ len - filled = omega arith in
     rw (one, all) (omega arith)
 
--- no read asks for nothing
+-- Without a read, no octets are requested.
 pub asks-none : (asked reads reads' n : ℕ) → reads' ≡ reads → asked ≡ counted asked ((reads' - reads) * n)
 asks-none asked reads reads' n same =
     let none : reads' - reads ≡ 0 = omega arith in
     let nothing : (reads' - reads) * n ≡ 0 = rw none (omega arith) in
     rw nothing (sym (counted-none asked))
 
--- the gap after a read, and without one
+-- the gap after a read, and without a read
 pub slides-once : (reads reads' held long gap start slid : ℕ) → reads' ≡ reads + 1 → held ≡ long → gap ≡ start → slid ≡ (if nat_le long start then start else 0)
     → start - slid ≡ (if nat_lt reads reads' && nat_le held gap then 0 else gap)
 slides-once reads reads' held long gap start slid made same is by =
@@ -59,7 +59,7 @@ slides-none reads reads' held gap gap' made same =
     let no_more : nat_lt reads reads' ≡ false = search (rules, tests) in
     rw no_more same
 
--- no read, no more reads, and reads after others
+-- no read, an equal count of reads, and the reads of successive steps
 pub adds-none : (reads made : ℕ) → made ≤ max_reads → AddsReads reads reads made made
 adds-none reads made most = record { made = (let e : made - made ≡ 0 = omega arith in rw e (sym (counted-none reads))); order = omega arith; most = most }
 
@@ -76,7 +76,7 @@ adds-then a b c before made after one more = record {
 
 -- ---- Parts of a buffer.
 
--- a part is the end of a prefix
+-- A part is the end of a prefix.
 pub part-prefix : (s : List ℕ) (a b : ℕ) → a ≤ b → slice_range s a b ≡ drop a (take b s)
 part-prefix s a b order =
     let e : a + (b - a) ≡ b = omega arith in
@@ -90,14 +90,14 @@ part-drop s b c n order =
 pub part-length : (s : List ℕ) (a b : ℕ) → b ≤ length s → length (slice_range s a b) ≡ b - a
 part-length s a b within = omega (arith, length-take (b - a) (drop a s), length-drop a s)
 
--- a part of the first octets, after which others came
+-- A part of the first n octets is unchanged after octets are appended.
 pub part-same : (old new : List ℕ) (n a b : ℕ) → take n new ≡ old → a ≤ b → b ≤ n → slice_range new a b ≡ slice_range old a b
 part-same old new n a b is order within =
     let same : a + (n - a) ≡ n = omega arith in
     let cut : drop a old ≡ take (n - a) (drop a new) = ap (drop a) (sym is ∙ ap (λ k. take k new) (sym same)) ∙ drop-take a (n - a) new in
     sym (ap (take (b - a)) cut ∙ take-take (b - a) (n - a) (drop a new) (omega arith))
 
--- what was read follows what was held, where a part of the buffer was lent
+-- A read into a part of the buffer appends its octets to those that were there.
 pub after-read : (a b : Option (List ℕ)) (items lent buf post more : List ℕ) (filled to size n : ℕ) → lent ≡ items → size ≡ length items → length buf ≡ length (take (to - filled) (drop filled lent))
     → n ≤ length buf → filled < to → to ≤ size → Consumes a b (take n buf) → (n ≡ 0 → 0 < length buf → IsAtEnd b)
     → (bs : List ℕ) × ReadsOnce a b (take filled items) (take (filled + length bs) (take size (take filled lent ++ (buf ++ post) ++ more))) (Ok n) bs
@@ -119,7 +119,7 @@ after-read a b items lent buf post more filled to size n same sizes long fits or
       },
     )
 
--- octets after those of a part
+-- a part that is extended by the octets after it
 pub part-append : (s s' bs : List ℕ) (a b n : ℕ) → a ≤ b → b ≤ length s → take (b + n) s' ≡ take b s ++ bs → slice_range s' a (b + n) ≡ slice_range s a b ++ bs
 part-append s s' bs a b n order within same = grind (arith, common_steps, length-take, part-prefix, drop-append-le)
 
@@ -129,7 +129,7 @@ empty-of (x ∷ l) none = absurd (omega (arith, none))
 
 -- ---- Steps of a finder, one after another.
 
--- one step after another
+-- two successive steps
 pub Advances-then : (e e' : Bool) (at at' at'' : ℕ) (r r' r'' bs : List ℕ) (es es' : List StreamEvent)
     → (e ≡ true → (e' ≡ true) × (bs ≡ []))
     → Advances e at r es at' r' → Advances e' at' (r' ++ bs) es' at'' r'' → Advances e' at (r ++ bs) (es ++ es') at'' r''
@@ -148,7 +148,7 @@ Advances-then e e' at at' at'' r r' r'' bs es es' kept one u16_at = record {
 pub Advances-none : (e : Bool) (at : ℕ) (r : List ℕ) → Advances e at r [] at r
 Advances-none e at r = record { whole = λ t _. refl; decided = λ _. refl }
 
--- one step after another, each with its octets
+-- the same, for the octets that each step leaves
 pub Follows-then : (at at' at'' : ℕ) (r r' r'' bs : List ℕ) → Follows at r at' r' → Follows at' (r' ++ bs) at'' r'' → Follows at (r ++ bs) at'' r''
 Follows-then at at' at'' r r' r'' bs one u16_at =
     let long : length r' ≡ length r - one.passed = ap length one.left ∙ length-drop one.passed r in
@@ -174,7 +174,7 @@ step-none left s =
     }
 
 module _ (left mid : Option (List ℕ)) (old s s' : FinderModel) (bs : List ℕ) (es : List StreamEvent) where
-  -- events are passed, and nothing is read
+  -- Events are passed, and nothing is read.
   pub pass-step : (es' : List StreamEvent) → ReadsAndPasses left mid old s bs es → s'.ended ≡ s.ended → s'.reads ≡ s.reads → Advances s'.ended s.at s.rest es' s'.at s'.rest
       → Follows s.at s.rest s'.at s'.rest → ReadsAndPasses left mid old s' bs (es ++ es')
   pass-step es' step same reads goes suffix =
@@ -187,7 +187,7 @@ module _ (left mid : Option (List ℕ)) (old s s' : FinderModel) (bs : List ℕ)
         end = λ before ended. step.end before (sym same ∙ ended);
       }
 
-  -- octets are read, and no event is passed
+  -- Octets are read, and no event is passed.
   pub read-step : (left' : Option (List ℕ)) (result : Result (Unit {0}) RunFault) (bs' : List ℕ) → ReadsAndPasses left mid old s bs es → s.ended ≡ false → ReadsMore mid left' s s' result bs'
       → ReadsAndPasses left left' old s' (bs ++ bs') es
   read-step left' result bs' step going next =
@@ -208,15 +208,15 @@ module _ (left mid : Option (List ℕ)) (old s s' : FinderModel) (bs : List ℕ)
         end = λ _. next.fills.end;
       }
 
--- the octets that were put last
+-- the octets that were appended last
 event-octets : (before m : List ℕ) (len : ℕ) → len ≤ length m → drop (length (before ++ take len m) - len) (before ++ take len m) ≡ take len m
 event-octets before m len within = grind (arith, common_steps)
 
--- what octets show, where they are those that are left
+-- The result of a search carries over to equal octets.
 pub shows : (ended ended' : Bool) (rest rest' : List ℕ) (result : SearchResult) → ended ≡ ended' → rest ≡ rest' → IsSearchResult ended rest result → IsSearchResult ended' rest' result
 shows ended ended' rest rest' result end same is = rw (sym end) (rw (sym same) is)
 
--- the octets that an event takes, as the code has them
+-- the length of the octets of an event, as the code computes it
 takes-len : (ended : Bool) (rest : List ℕ) (place n : ℕ) (here : Candidate) → IsNextEvent ended rest place (Some here) → IsStatedLength (drop place rest) n
     → len_at here n ≡ candidate_len (drop place rest) (Some here)
 takes-len ended rest place n (Stray cause) found stated = refl
@@ -224,7 +224,7 @@ takes-len ended rest place n Frame found stated =
     stated.0 ∙ length-eight (drop place rest) (omega (arith, found.frame refl, found.within, length-drop place rest))
 
 module _ (left mid : Option (List ℕ)) (old s s' : FinderModel) (bs : List ℕ) (step : ReadsAndPasses left mid old s bs []) where
-  -- a turn that needs more octets passes those that are no event's
+  -- A turn that needs more octets passes those in which no event begins.
   pub turn-pass : (place size : ℕ) → s.ended ≡ false → IsIncomplete s.rest place size → s' ≡ gone_to s place size → ReadsAndPasses left mid old s' bs []
   turn-pass place size going open' is =
       pass-step left mid old s s' bs [] [] step (ap (λ x. x.ended) is) (ap (λ x. x.reads) is) (rw is (rw going (open'.advances s.at)))
@@ -242,7 +242,7 @@ events-are-certain s rest events at advances = (
   ap (take_while is_decided) (whole-scan false s rest events at advances) ∙ take_while-all events (scan_from 0 at rest) (advances.decided refl),
 )
 
--- one step of a finder after others
+-- successive steps of a finder
 pub steps-compose : (left mid left' : Option (List ℕ)) (old s s' : FinderModel) (bs bs' : List ℕ) (events es : List StreamEvent)
     → ReadsAndPasses left mid old s bs events → ReadsAndPasses mid left' s s' bs' es → ReadsAndPasses left left' old s' (bs ++ bs') (events ++ es)
 steps-compose left mid left' old s s' bs bs' events es one u16_at =
@@ -259,12 +259,12 @@ steps-compose left mid left' old s s' bs bs' events es one u16_at =
       end = λ before. u16_at.end (one.end before);
     }
 
--- the same from the beginning
+-- the same, from a new finder
 pub ReadsAndPasses-then : (left mid left' : Option (List ℕ)) (s s' : FinderModel) (bs bs' : List ℕ) (events es : List StreamEvent)
     → ReadsAndPasses left mid new_finder s bs events → ReadsAndPasses mid left' s s' bs' es → ReadsAndPasses left left' new_finder s' (bs ++ bs') (events ++ es)
 ReadsAndPasses-then left mid left' = steps-compose left mid left' new_finder
 
--- the reads of more calls
+-- the number of reads of successive calls
 pub CountsReads-then : (a b c : ℕ) (s s' : FinderModel) → AddsReads a b new_finder.reads s.reads → AddsReads b c s.reads s'.reads → AddsReads a c new_finder.reads s'.reads
 CountsReads-then a b c s s' = adds-then a b c 0 s.reads s'.reads
 
@@ -291,7 +291,7 @@ module _ (left mid : Option (List ℕ)) (old s s1 : FinderModel) (place size : �
   there = turn-pass left mid old s s1 steps.0 steps.1 place size looks.0 looks.1 is
 
   module _ (left' : Option (List ℕ)) (s2 : FinderModel) (result : Result (Unit {0}) RunFault) (next : (bs : List ℕ) × ReadsMore mid left' s1 s2 result bs) where
-    -- more octets came, or the end, or a fault
+    -- More octets were read, or the end of the stream was found, or a fault occurred.
     pub turn-on : ReadsAndPasses left left' old s2 (steps.0 ++ next.0) []
     turn-on = read-step left mid old s1 s2 steps.0 [] left' result next.0 there going next.1
 
@@ -299,7 +299,7 @@ module _ (left mid : Option (List ℕ)) (old s s1 : FinderModel) (place size : �
     raised-on =
         rw next.1.fills.held (rw next.1.longest (raised-read old.longest s1.longest s1.rest next.0 (rw is (raised-open old.longest s.longest place size s.rest raised looks.1 looks.2.0))))
 
-    -- there is a fault
+    -- A fault occurred.
     module _ (fault : RunFault) (same : result ≡ Err fault) where
       none-read : (next.0 ≡ []) × (s2.ended ≡ false) × FillFails (s1.room < 2 * max 4096 s1.longest) (input_left s1) (input_left s2) fault
       none-read = rw same at next.1.fills.ends
@@ -314,11 +314,11 @@ module _ (left mid : Option (List ℕ)) (old s s1 : FinderModel) (place size : �
 
 -- ---- Several calls of a finder together.
 
--- nothing that is left is certain: the events are the open scan
+-- No event in the remaining octets is certain, so the events are those of the open scan.
 pub events-are-open : (s rest : List ℕ) (events : List StreamEvent) (at : ℕ) → Advances false 0 s events at rest → NoEventCertain at rest → open_scan s ≡ events
 events-are-open s rest events at advances none = grind (arith, common_steps, whole-scan, take_while-all, append-nil)
 
--- the offsets of the events of octets
+-- The offset of the event is inside these octets. If the event is certain, eight octets are there.
 abbrev Placed : ℕ → List ℕ → StreamEvent → Type 0
 Placed at s e = (at ≤ offset_of e) × (is_decided e ≡ true → offset_of e + 8 ≤ at + length s)
 
@@ -368,7 +368,7 @@ scan-placed (suc n) at (x ∷ m) within =
           subst P (sym (scan_from-here at s (omega arith) (omega (arith, bounds.0)))) (all-then (Placed at s) (stream_event at s (classify s)) (scan_from 0 (at + k) (drop k s)) first more)
     ]
 
--- octets after it do not change the length that is stated at a certain event
+-- Octets that follow do not change the length that is declared at a certain event.
 here-prefix : (m t : List ℕ) → 8 ≤ length m → length_here (m ++ t) ≡ length_here m
 here-prefix m t long = length-eight (m ++ t) (omega (arith, length-append m t)) ∙ stated-prefix m t long ∙ sym (length-eight m long)
 
@@ -385,7 +385,7 @@ longest-append : (at : ℕ) (s : List ℕ) (xs ys : List StreamEvent) → longes
 longest-append at s [] ys = omega arith
 longest-append at s (x ∷ xs) ys = ap (max (length_here (drop (offset_of x - at) s))) (longest-append at s xs ys) ∙ omega arith
 
--- the same events, seen from the first octet
+-- the greatest length for the same events, computed from the first octet on
 longest-back : (s : List ℕ) (at : ℕ) (t : List ℕ) (es : List StreamEvent) → AllPlaced at t es → t ≡ drop at s → longest_of at t es ≡ longest_of 0 s es
 longest-back s at t [] all is = refl
 longest-back s at t (e ∷ es) all is =
@@ -394,7 +394,7 @@ longest-back s at t (e ∷ es) all is =
     let one : length_here (drop (o - at) t) ≡ length_here (drop (o - 0) s) = ap (λ l. length_here (drop (o - at) l)) is ∙ ap length_here (drop-twice (o - at) at s ∙ ap (λ n. drop n s) k) in
     ap (λ n. max n (longest_of at t es)) one ∙ ap (max (length_here (drop (o - 0) s))) (longest-back s at t es all.1 is)
 
--- the greatest length after more calls
+-- the greatest length after another call
 more-longest : (s s' : FinderModel) (bs bs' : List ℕ) (events seen : List StreamEvent) (left mid : Option (List ℕ)) → ReadsAndPasses left mid new_finder s bs events
     → s.longest ≡ longest_of 0 bs events
     → (s.ended ≡ true → bs' ≡ []) → AllPlaced s.at (s.rest ++ bs') seen → RaisesLongest s s' bs' seen → s'.longest ≡ longest_of 0 (bs ++ bs') (events ++ seen)
@@ -419,7 +419,7 @@ longest-stopped left mid left' s s' bs bs' events one known u16_at grown =
     (placed-wider s.at s'.at (s.rest ++ bs') s'.rest es (omega (arith, f.offset)) (omega (arith, f.offset, f.within, ap length f.left, length-drop f.passed (s.rest ++ bs')))
     (placed-first s'.at s'.rest (scan_from 0 s'.at s'.rest) (scan-placed (length s'.rest) s'.at s'.rest (omega arith)))) grown
 
--- ---- The reads of a call, each with what was certain before it.
+-- ---- The reads of a call, and what was certain before each of them.
 
 wider : (most most' at : ℕ) (left : List ℕ) (given : List (List ℕ)) → most ≤ most' → EachReadIsNeeded most at left given → EachReadIsNeeded most' at left given
 wider most most' at left [] more all = tt
@@ -431,11 +431,11 @@ one-more most at left [] last all none few = let N : List ℕ → Type 0 = λ l.
 one-more most at left (octets ∷ given) last all none few =
     (all.0, all.1, one-more most at (left ++ octets) given last all.2 (rw (append_assoc left octets (concat given)) none) few)
 
--- before any read
+-- before the first read
 pub none-waited : (s : FinderModel) → CallReadsAreNeeded s s []
 none-waited s = record { given = []; octets = refl; made = omega arith; waited = tt }
 
--- no more reads were made
+-- No more reads were made.
 pub waits-still : (old s s' : FinderModel) (bs : List ℕ) → CallReadsAreNeeded old s bs → s'.reads ≡ s.reads → s.longest ≤ s'.longest → CallReadsAreNeeded old s' bs
 waits-still old s s' bs each reads longer = record {
   given = each.given;
@@ -444,7 +444,7 @@ waits-still old s s' bs each reads longer = record {
   waited = wider (max 4096 s.longest) (max 4096 s'.longest) old.at old.rest each.given (omega (arith, longer)) each.waited;
 }
 
--- if what is left now decides nothing, neither does what was left at first with all that was read
+-- If the remaining octets decide no event, neither do the initial octets with all that was read.
 none-in-all : (left mid : Option (List ℕ)) (old s : FinderModel) (bs : List ℕ) (place size : ℕ) → ReadsAndPasses left mid old s bs [] → s.ended ≡ false → IsIncomplete s.rest place size
     → NoEventCertain old.at (old.rest ++ bs)
 none-in-all left mid old s bs place size step going open' =
@@ -457,7 +457,7 @@ module _ (left mid : Option (List ℕ)) (old s s1 s2 : FinderModel) (place size 
   longer : s.longest ≤ s2.longest
   longer = omega (arith, ap (λ x. x.longest) is, read.longest)
 
-  -- a read was made
+  -- A read was made.
   waits-more : s2.reads ≡ s1.reads + 1 → CallReadsAreNeeded old s2 (bs ++ bs')
   waits-more reads =
       let most = max 4096 s2.longest in
@@ -470,7 +470,7 @@ module _ (left mid : Option (List ℕ)) (old s s1 s2 : FinderModel) (place size 
             (omega (arith, bound, ap length read.fills.held, length-append s1.rest bs'));
       }
 
-  -- the read gave octets, or failed, or was not made
+  -- The read returned octets, or it failed, or it was not made.
   pub waits-read : CallReadsAreNeeded old s2 (bs ++ bs')
   waits-read = by result read.fills.ends
     where
@@ -487,7 +487,7 @@ module _ (left mid : Option (List ℕ)) (old s s1 s2 : FinderModel) (place size 
 
 -- ---- What a call returns.
 
--- the event that a finder passes
+-- the event that the finder passes
 module _ (old s' : FinderModel) (offset place len size : ℕ) (here : Option Candidate) (found : IsNextEvent old.ended old.rest place here)
     (takes : len ≡ candidate_len (drop place old.rest) here) (at : offset ≡ old.at + place) (is : s' ≡ gone_to old (place + len) size) where
   found-step : Advances s'.ended old.at old.rest (stream_event offset (drop place old.rest) here) s'.at s'.rest
@@ -499,7 +499,7 @@ module _ (old s' : FinderModel) (offset place len size : ℕ) (here : Option Can
   found-follows : Follows old.at old.rest s'.at s'.rest
   found-follows = rw is (record { passed = place + len; within = omega (arith, found.within, takes); offset = refl; left = refl })
 
-  -- a message that was passed is held before what is left
+  -- A message that was passed is buffered, before the remaining octets.
   pub found-octets : here ≡ Some Frame → drop (length s'.before - len) s'.before ≡ take (stated_length (drop place old.rest)) (drop place old.rest)
   found-octets whole =
       let m = drop place old.rest in
@@ -508,7 +508,7 @@ module _ (old s' : FinderModel) (offset place len size : ℕ) (here : Option Can
       ap (λ x. x.before) is ∙ ap (λ l. old.before ++ l) (take-add place len old.rest) ∙ sym (append_assoc old.before (take place old.rest) (take len m)) in
       rw before (event-octets (old.before ++ take place old.rest) m len (omega (arith, found.within, takes, length-drop place old.rest)) ∙ ap (λ n. take n m) size_is)
 
-  -- the reads of a call that passes it
+  -- the reads of the call that passes the event
   pub found-reads : here ≢ None → (left left' : Option (List ℕ)) (first : FinderModel) (bs : List ℕ) → ReadsAndPasses left left' first old bs [] → CallReadsAreNeeded first old bs
       → Raised first.longest old.longest old.rest → size ≡ length_here (drop place old.rest)
       → ReadsOn left left' first s' (stream_event offset (drop place old.rest) here) (stream_event offset (drop place old.rest) here)
@@ -519,12 +519,12 @@ module _ (old s' : FinderModel) (offset place len size : ℕ) (here : Option Can
     waits-still first old s' bs each (ap (λ x. x.reads) is) (omega (arith, ap (λ x. x.longest) is)),
   )
 
--- a read was made only where nothing was certain
+-- A read was made only if no event was certain.
 pub waits-only : (old s s' : FinderModel) → (s ≡ old) ⊎ NoEventCertain old.at old.rest → s'.reads ≡ s.reads → (old.reads ≢ s'.reads → NoEventCertain old.at old.rest)
 waits-only old s s' (inl same) reads differ = absurd (differ (sym (reads ∙ ap (λ x. x.reads) same)))
 waits-only old s s' (inr none) reads differ = none
 
--- a call that passed its reads on, without a fault before
+-- a call that made the reads, without an earlier fault
 pub returns-next : (left left' : Option (List ℕ)) (reads reads' : ℕ) (old new : FinderModel) (result : Result Event RunFault) → old.fault ≡ None
     → ReadsOn left left' old new (events_returned [] result) (events_returned (first_left new) result) → LeavesFinder old new result → AddsReads reads reads' old.reads new.reads
     → (old.reads ≢ new.reads → NoEventCertain old.at old.rest)
@@ -549,12 +549,12 @@ returns-again left reads s fault is open' most near bound =
       again = subst A (sym is) refl;
     }
 
--- at the end no event is left
+-- At the end of the stream, no event remains.
 pub raises-none : (old s : FinderModel) (bs : List ℕ) → Raised old.longest s.longest s.rest → (StartsWithBufr s.rest → ⊥) → RaisesLongest old s bs []
 raises-none old s bs (inl same) none = omega (arith, same)
 raises-none old s bs (inr (word, long, grown)) none = absurd (none word)
 
--- ---- A call of a finder, from what it did so far.
+-- ---- A call of a finder, from its progress so far.
 
 -- Octets were read, no event was passed, and only a `BUFR` at the start may have raised the
 -- greatest length.
@@ -577,13 +577,13 @@ reading-fresh left reads s sound most = record {
 }
 
 module _ (left mid : Option (List ℕ)) (reads reads' : ℕ) (first s : FinderModel) (sound : first.fault ≡ None) (on : ReadingOn left mid reads reads' first s) where
-  -- the end was reached
+  -- The end of the stream was found.
   pub reading-done : (looks : (s.ended ≡ true) × HasNoFurtherEvent s.rest) → s.at < 2 ^ 63 → held s ≤ max 4096 s.longest → ReturnsNextEvent left mid reads reads' first s (Ok event.Done)
   reading-done looks near bound =
       returns-next left mid reads reads' first s (Ok event.Done) sound (on.steps.0, on.steps.1, (λ _. raises-none first s on.steps.0 on.raised looks.1.word), on.each)
       (on.sound, (looks.0, looks.1.scan)) on.counts (waits-only first s s on.waits refl) near bound
 
-  -- the same by an equal finder
+  -- the same, for an equal finder
   pub reading-ends : (s' : FinderModel) (looks : (s.ended ≡ true) × HasNoFurtherEvent s.rest) → s' ≡ s → s'.at < 2 ^ 63 → held s' ≤ max 4096 s'.longest
       → ReturnsNextEvent left mid reads reads' first s' (Ok event.Done)
   reading-ends s' looks same near bound = rw same (reading-done looks (rw same at near) (rw same at bound))
@@ -609,7 +609,7 @@ module _ (left mid : Option (List ℕ)) (reads reads' : ℕ) (first s : FinderMo
     waits : first.reads ≢ s'.reads → NoEventCertain first.at first.rest
     waits = waits-only first s s' on.waits (ap (λ x. x.reads) gone)
 
-    -- the next event is certain
+    -- The next event is certain.
     pub reading-found : (e : Event) → IsEventAt s' here n e → ReturnsNextEvent left mid reads reads' first s' (Ok e)
     reading-found e is = by here e refl is
       where
@@ -662,7 +662,7 @@ module _ (left mid : Option (List ℕ)) (reads reads' : ℕ) (first s : FinderMo
       adds : AddsReads reads reads2 first.reads s2.reads
       adds = adds-then _ _ _ _ _ _ (adds-same _ _ _ _ _ on.counts (ap (λ x. x.reads) is)) made
 
-      -- more octets came
+      -- More octets were read.
       pub reading-on : (u : Unit {0}) → result ≡ Ok u → ReadingOn left left' reads reads2 first s2
       reading-on u ok = record {
         steps = (on.steps.0 ++ bs, turn-on left mid first s s1 place n on.steps on.raised looks is left' s2 result (bs, more));
@@ -673,7 +673,7 @@ module _ (left mid : Option (List ℕ)) (reads reads' : ℕ) (first s : FinderMo
         raised = raised-on left mid first s s1 place n on.steps on.raised looks is left' s2 result (bs, more);
       }
 
-      -- the read failed, or none was made
+      -- The read failed, or none was made.
       module _ (f : RunFault) (fails : result ≡ Err f) (near : s2.at < 2 ^ 63) (room : first.room ≤ s.room) where
         ends : (bs ≡ []) × (s2.ended ≡ false) × FillFails (s1.room < 2 * max 4096 s1.longest) (input_left s1) (input_left s2) f
         ends = rw fails at more.fills.ends
@@ -704,7 +704,7 @@ module _ (left mid : Option (List ℕ)) (reads reads' : ℕ) (first s : FinderMo
               waits-read left mid first s s1 s2 place n on.steps.0 on.each on.steps.1 looks.0 looks.1 is bound left' result bs more,
             ) (open-before, λ _. stops) adds (λ _. waits-open first s place n on.waits looks.1) near bound
 
--- a count of failures goes by the fault, whatever else the answer might have been
+-- The count of failures depends on the fault only, not on what a successful call returns.
 pub failures-as : {X Y : Type 0} (a b c : ℕ) (r : Result X RunFault) (r' : Result Y RunFault) (f : RunFault) → r ≡ Err f → r' ≡ Err f → a ≡ read_failures_after b r → b ≡ c
     → a ≡ read_failures_after c r'
 failures-as {X} {Y} a b c r r' f is is' e same = rw is' (subst (λ n. a ≡ read_failures_after {X = Y} n (Err f)) same (by f (rw is at e)))
@@ -715,7 +715,7 @@ failures-as {X} {Y} a b c r r' f is is' e same = rw is' (subst (λ n. a ≡ read
     by InputTooLong e = e
     by Memory e = e
 
--- ---- What octets that are held give, without a read.
+-- ---- What the buffered octets give, without a read.
 
 pub held-done : (old new : FinderModel) → old.fault ≡ None → (old.ended ≡ true) × HasNoFurtherEvent old.rest → new ≡ old → new.at < 2 ^ 63 → held new ≤ max 4096 new.longest → old.reads ≤ max_reads
     → GivesHeldEvent old new (Some (Ok event.Done))

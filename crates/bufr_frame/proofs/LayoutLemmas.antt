@@ -1,4 +1,4 @@
--- A message that was written, section by section, read again.
+-- A written message is read back, section by section.
 use Rattle.std.proofs.lemmas.Grind.{common_steps}
 use Rattle.std.proofs.Common.{◌≡◌, ◌==◌, ◌-◌, ℕ, true, false, List, Ok, length, refl, eq-eqb, ◌∙◌, ◌+◌, ◌*◌, ◌/◌, ◌%◌, ◌≤◌, Bool, [], ◌∷◌, ◌++◌, ap, sym, subst, arith, Option, Some, None, get_or, codes, append_assoc, length-append, Err, append-nil, zero, suc, ◌<◌, slice_get, if◌then◌else◌, nat_lt, nat_le, is_some, slice_range, ◌&&◌, ◌||◌, Result, OnOk, option_map}
 use Rattle.bufr_frame.specs.Prelude.{is_edition, min_section_1, flags_of, octets_3, octets_4, head_octets, sections_of, section_end, parts, edition_of, has_section2, is_long_edition_3, head_of, Sections, is_padded, u24_at, u16_at, words, three_octets, two_octets, octets_of_words, MessageParts, message_octets, message_size, section0_octets, section1_octets, section2_octets, section3_octets, section4_octets, data_flags, sections_from, head_octets, even_size, with_even_length, with_pad_octet, is_writable, size_from, parts_of, Head}
@@ -7,14 +7,14 @@ use Rattle.bufr_bits.specs.Prelude.{bits_of, bits_of_octet}
 
 -- ---- The sections of a message, one after another.
 
--- where the steps go well, these are the sections
+-- the sections, if every step succeeds
 pub sections-are : (m : List ℕ) (p1 p2 p3 p4 : ℕ) → is_edition (edition_of m) ≡ true → section_end m 1 (min_section_1 (edition_of m)) 8 ≡ Ok p1
     → (if has_section2 m then section_end m 2 4 p1 else Ok p1) ≡ Ok p2
     → section_end m 3 7 p2 ≡ Ok p3 → section_end m 4 4 p3 ≡ Ok p4 → p4 ≡ length m - 4 → is_long_edition_3 m p2 p3 p4 ≡ false → sections_of m ≡ Ok (parts m p1 p2 p3 p4)
 unfolding sections_of
 sections-are m p1 p2 p3 p4 edition a b c d last short = grind (arith, common_steps, eq-eqb)
 
--- octets write their number
+-- The octets of a number represent it.
 pub two-number : (n : ℕ) → 256 * (n / 256) + n % 256 ≡ n
 two-number n = omega arith
 
@@ -36,7 +36,7 @@ words-left-over : (ws : List ℕ) → words (octets_of_words ws ++ 0 ∷ []) ≡
 words-left-over [] = refl
 words-left-over (w ∷ ws) = rw (two-number w, words-left-over ws) refl
 
--- a section made even says the same words
+-- A pad octet does not change the words of a section.
 words-if : (b : Bool) (ws : List ℕ) → words (if b then octets_of_words ws ++ 0 ∷ [] else octets_of_words ws) ≡ ws
 words-if true ws = words-left-over ws
 words-if false ws = words-octets ws
@@ -44,7 +44,7 @@ words-if false ws = words-octets ws
 pub words-evened : (edition prefix : ℕ) (ws : List ℕ) → words (with_even_length edition prefix (octets_of_words ws)) ≡ ws
 words-evened edition prefix ws = words-if (is_padded edition (prefix + length (octets_of_words ws))) ws
 
--- how many octets it has
+-- the length of padded octets
 length-padded : (b : Bool) (prefix : ℕ) (octets : List ℕ) → prefix + length (with_pad_octet b octets) ≡ (if b then prefix + length octets + 1 else prefix + length octets)
 length-padded true prefix octets = omega (arith, length-append octets (0 ∷ []))
 length-padded false prefix octets = refl
@@ -52,11 +52,11 @@ length-padded false prefix octets = refl
 pub length-evened : (edition prefix : ℕ) (octets : List ℕ) → prefix + length (with_even_length edition prefix octets) ≡ even_size edition (prefix + length octets)
 length-evened edition prefix octets = length-padded (is_padded edition (prefix + length octets)) prefix octets
 
--- in edition 3 the remainder of a division by 2 is added
+-- In edition 3, the remainder of the length divided by 2 is added.
 pub even-3 : (n : ℕ) → even_size 3 n ≡ n + n % 2
 even-3 n = grind (arith, common_steps)
 
--- what was made even is not padded again
+-- A length that was made even is not padded again.
 pub even-stays : (edition n : ℕ) → is_padded edition (even_size edition n) ≡ false
 even-stays edition n = by (edition == 3) (n % 2 == 1) refl
   where
@@ -68,7 +68,7 @@ even-stays edition n = by (edition == 3) (n % 2 == 1) refl
         let even : (n + 1) % 2 ≡ 0 = omega (arith, h) in
         ap (λ k. k == 1) even
 
--- section 1 has at least 17 octets
+-- Section 1 has at least 17 octets.
 pub least-section-1 : (edition : ℕ) → 17 ≤ min_section_1 edition
 unfolding min_section_1
 least-section-1 edition = by (edition == 3)
@@ -77,7 +77,7 @@ least-section-1 edition = by (edition == 3)
     by true = omega arith
     by false = omega arith
 
--- section 1 after its length
+-- the length of section 1, without local use
 length-head : (h : Head) (optional : Bool) → 3 + length (head_octets h optional) ≡ min_section_1 h.edition
 unfolding min_section_1
 length-head h optional = by (h.edition == 3)
@@ -86,14 +86,14 @@ length-head h optional = by (h.edition == 3)
     by true = refl
     by false = refl
 
--- what comes after a prefix
+-- an index after a prefix
 pub index-after : (prefix rest : List ℕ) (p k : ℕ) → p ≡ length prefix → get_or (prefix ++ rest) (p + k) 0 ≡ get_or rest k 0
 index-after prefix rest p k is = grind (arith, common_steps)
 
 pub range-after : (prefix x rest : List ℕ) (i j : ℕ) → i ≡ length prefix → j ≡ i + length x → slice_range (prefix ++ (x ++ rest)) i j ≡ x
 range-after prefix x rest i j is to = grind (arith, common_steps)
 
--- where a section ends that states its length
+-- the end of a section that declares its length
 pub section-at : (m prefix rest : List ℕ) (k least p n : ℕ) → m ≡ prefix ++ (three_octets n ++ rest) → p ≡ length prefix → least ≤ n → 3 ≤ n → p + n + 4 ≤ length m
     → section_end m k least p ≡ Ok (p + n)
 unfolding section_end
@@ -110,7 +110,7 @@ flag-test : (b : Bool) → nat_le 128 (if b then 128 else 0) ≡ b
 flag-test true = refl
 flag-test false = refl
 
--- what makes a head writable
+-- the conditions under which a head can be written
 or-by : {P : Type 0} (a b : Bool) → (a || b) ≡ true → (a ≡ true → P) → (b ≡ true → P) → P
 or-by true b is first second = first refl
 or-by false b is first second = second is
@@ -125,8 +125,8 @@ equal a b is = grind arith
 none-fits : (n : ℕ) → nat_le n 0 ≡ true → n ≡ 0
 none-fits n is = grind arith
 
--- a head that can be written is of edition 4, or of edition 3 and then says nothing of what that
--- lacks
+-- A head that can be written is of edition 4, or of edition 3 without the values that edition 3
+-- lacks.
 pub by-edition : {P : Type 0} (h : Head) → is_writable h ≡ true → (h.edition ≡ 4 → P) → (h.edition ≡ 3 → h.local_subcategory ≡ 0 → h.second ≡ 0 → P) → P
 by-edition h is four u24_at =
     or-by (h.edition == 4) _ is (λ e. four (equal h.edition 4 e)) (λ rest.
@@ -152,17 +152,17 @@ compressed-test true false = refl
 compressed-test false true = refl
 compressed-test false false = refl
 
--- the length of a message by the lengths of its parts
+-- the length of a message, from the lengths of its parts
 pub message_size_is : (edition : ℕ) (p : MessageParts) → message_size edition p ≡ size_from edition (length p.local1) p.section2 (length p.descriptors) (length p.payload)
 message_size_is edition p =
     let third = length-evened edition 7 (octets_of_words p.descriptors) ∙ ap (λ n. even_size edition (7 + n)) (length-octets_of_words p.descriptors) in
     omega (arith, third, length-evened edition 4 p.payload)
 
--- section 1 after its length
+-- section 1, split after its length
 first-split : (n : ℕ) (head local1 rest : List ℕ) → ((three_octets n ++ head) ++ local1) ++ rest ≡ three_octets n ++ ((head ++ local1) ++ rest)
 first-split n head local1 rest = refl
 
--- section 2 read back
+-- Section 2 is read back.
 second-part : (m prefix rest : List ℕ) (optional : Option (List ℕ)) (p q : ℕ) → m ≡ prefix ++ (section2_octets optional ++ rest) → p ≡ length prefix → q ≡ p + length (section2_octets optional)
     → has_section2 m ≡ is_some optional
     → (if has_section2 m then Some (slice_range m (p + 4) q) else None) ≡ optional
@@ -173,12 +173,12 @@ second-part m prefix rest (Some octets) p q is at to has =
     let begin : p + 4 ≡ length (prefix ++ head) = omega (arith, length-append prefix head) in
     rw has (ap Some (ap (λ l. slice_range l (p + 4) q) same ∙ range-after (prefix ++ head) octets rest (p + 4) q begin (omega arith)))
 
--- section 1 read back
+-- Section 1 is read back.
 module _ (h : Head) (optional : Bool) (size n : ℕ) (local1 rest : List ℕ) where
   abbrev flags : ℕ
   flags = if optional then 128 else 0
 
-  -- the message by its edition
+  -- the message, by its edition
   abbrev of_edition : (edition : ℕ) → List ℕ
   of_edition edition = section0_octets size edition ++ ((three_octets n ++ (if edition == 3 then octets_3 h flags else octets_4 h flags) ++ local1) ++ rest)
 
@@ -229,12 +229,12 @@ made-sections : (h : Head) (p : MessageParts) → make h p.local1 p.section2 p.d
 unfolding make
 made-sections h p = refl
 
--- sections that are even are not too long
+-- A message with even sections is not too long.
 not-long : (long third fourth : Bool) → third ≡ false → fourth ≡ false → (long && (third || fourth)) ≡ false
 not-long false third fourth u24_at four = refl
 not-long true third fourth u24_at four = rw (u24_at, four) refl
 
--- a message of these parts has these sections
+-- A message that is written from these parts has these sections.
 pub read-back : (h : Head) (p : MessageParts) → is_writable h ≡ true → sections_of (message_octets h p) ≡ Ok (sections_from h p)
 read-back h p writable =
     let m = message_octets h p in
@@ -320,7 +320,6 @@ read-back h p writable =
 
 -- ---- Octets appended, part by part.
 
--- six parts
 pub six-parts : (a b c d e f u v w x y z : List ℕ) → u ≡ a → v ≡ u ++ b → w ≡ v ++ c → x ≡ w ++ d → y ≡ x ++ e → z ≡ y ++ f → z ≡ a ++ (b ++ (c ++ (d ++ (e ++ f))))
 six-parts a b c d e f u v w x y z hu hv hw hx hy hz = grind (arith, common_steps)
 
@@ -328,12 +327,12 @@ pub is_some-map : {X Y : Type 0} (f : X → Y) (o : Option X) → is_some o ≡ 
 is_some-map f (Some x) = refl
 is_some-map f None = refl
 
--- what is padded after a prefix
+-- the pad octet of octets that follow a prefix
 padded-after : (b : Bool) (prefix octets : List ℕ) → with_pad_octet b (prefix ++ octets) ≡ prefix ++ with_pad_octet b octets
 padded-after true prefix octets = append_assoc prefix octets (0 ∷ [])
 padded-after false prefix octets = refl
 
--- section 3
+-- section 3, as the code writes it
 pub third : {X E : Type 0} (r : Result X E) (edition : ℕ) (words : List ℕ) (subsets flags n : ℕ) (b : Bool) (old one u16_at new : List ℕ)
     → n ≡ even_size edition (7 + 2 * length words) → b ≡ is_padded edition (7 + 2 * length words)
     → one ≡ old ++ three_octets n → u16_at ≡ (one ++ (0 ∷ two_octets subsets ++ flags ∷ [])) ++ octets_of_words words
@@ -341,9 +340,9 @@ pub third : {X E : Type 0} (r : Result X E) (edition : ℕ) (words : List ℕ) (
 third (Err e) edition words subsets flags n b old one u16_at new size is p q last = tt
 third (Ok x) edition words subsets flags n b old one u16_at new size is p q last = grind (arith, common_steps, length-octets_of_words, length-evened, padded-after, append_assoc)
 
--- ---- Sections made even.
+-- ---- Sections that are made even.
 
--- ---- sizes
+-- ---- Their sizes.
 
 least-by : (b : Bool) (n : ℕ) → n ≤ (if b then n + 1 else n)
 least-by true n = omega arith
@@ -355,14 +354,14 @@ even-least edition n = least-by (is_padded edition n) n
 pub even-mono : (edition n k : ℕ) → n ≤ k → even_size edition n ≤ even_size edition k
 even-mono edition n k h = grind (arith, common_steps)
 
--- a shorter payload makes no longer message
+-- A shorter payload does not make the message longer.
 pub size-least : (edition : ℕ) (local1 : ℕ) (section2 : Option (List ℕ)) (descriptors n k most : ℕ) → n ≤ k → size_from edition local1 section2 descriptors k ≤ most
     → size_from edition local1 section2 descriptors n ≤ most
 size-least edition local1 section2 descriptors n k most h g = omega (arith, even-mono edition (4 + n) (4 + k) (omega (arith, h)), g)
 
--- ---- octets
+-- ---- Their octets.
 
--- a payload that is even already is written as the payload that it was made from
+-- A payload that is already even is written like the payload that it was made from.
 pub written-even : (h : Head) (local1 : List ℕ) (section2 : Option (List ℕ)) (descriptors : List ℕ) (subsets : ℕ) (observed compressed : Bool) (payload : List ℕ)
     → message_octets h (parts_of local1 section2 descriptors subsets observed compressed (with_even_length h.edition 4 payload))
     ≡ message_octets h (parts_of local1 section2 descriptors subsets observed compressed payload)
@@ -373,7 +372,7 @@ unfolding bits_of
 bits-append [] ys = refl
 bits-append (x ∷ xs) ys = ap (λ (b : List Bool). bits_of_octet x ++ b) (bits-append xs ys) ∙ sym (append_assoc (bits_of_octet x) (bits_of xs) (bits_of ys))
 
--- the bits of a payload come first
+-- The bits of a payload come before those of its pad octet.
 bits-by : (b : Bool) (octets : List ℕ) → (tail : List Bool) × (bits_of (with_pad_octet b octets) ≡ bits_of octets ++ tail)
 bits-by true octets = (bits_of (0 ∷ []), bits-append octets (0 ∷ []))
 bits-by false octets = ([], sym (append-nil (bits_of octets)))
@@ -386,21 +385,21 @@ evened-bits edition prefix octets = bits-by (is_padded edition (prefix + length 
 two-after : (a b i : ℕ) (m : List ℕ) → u16_at (a ∷ b ∷ m) (2 * suc i) ≡ u16_at m (2 * i)
 two-after a b i m = grind (arith, common_steps)
 
--- past the last whole word there is none
+-- There is no word after the last whole one.
 pub words-none : (m : List ℕ) (i : ℕ) → length m < 2 * i + 2 → slice_get (words m) i ≡ None
 words-none [] i past = refl
 words-none (a ∷ []) i past = refl
 words-none (a ∷ b ∷ m) zero past = absurd (omega arith)
 words-none (a ∷ b ∷ m) (suc i) past = words-none m i (omega arith)
 
--- word i is written by two octets
+-- Word i consists of octets 2 * i and 2 * i + 1.
 pub words-some : (m : List ℕ) (i : ℕ) → 2 * i + 2 ≤ length m → slice_get (words m) i ≡ Some (u16_at m (2 * i))
 words-some [] i within = absurd (omega arith)
 words-some (a ∷ []) i within = absurd (omega arith)
 words-some (a ∷ b ∷ m) zero within = refl
 words-some (a ∷ b ∷ m) (suc i) within = words-some m i (omega arith) ∙ ap Some (sym (two-after a b i m))
 
--- two octets a word
+-- Each word has two octets.
 pub length-words : (m : List ℕ) → length (words m) ≡ length m / 2
 length-words [] = refl
 length-words (a ∷ []) = refl

@@ -1,4 +1,4 @@
--- How a scan goes on, and what octets after it cannot change.
+-- How a scan continues, and what the octets that follow cannot change.
 use Rattle.std.proofs.Common.{◌≡◌, ℕ, zero, suc, ◌+◌, ◌-◌, ◌<◌, ◌≤◌, Bool, true, false, List, [], ◌∷◌, ◌++◌, length, take, drop, codes, refl, sym, ◌∙◌, ap, subst, arith, add-zero, length-take, length-drop, Option, Some, None, ◌⊎◌, inl, inr, append_assoc, length-append, get_or, append-nil, below_more, MatchOption, nat_lt, not, ◌≢◌, if◌then◌else◌, take_while, min, max, slice_index}
 use Rattle.std.proofs.Math.Seq.{drop-nil, drop-length}
 use Rattle.std.proofs.lemmas.Bool.{false_from_ne_true, true≢false, cases_Bool, cases_lt, and_parts}
@@ -18,7 +18,7 @@ pub scan_from-nil : (k at : ℕ) → scan_from k at [] ≡ []
 unfolding scan_from
 scan_from-nil k at = refl
 
--- what is passed over is dropped
+-- Octets that are skipped are dropped.
 pub scan_from-skip : (k at : ℕ) (m : List ℕ) → scan_from k at m ≡ scan_from 0 (at + k) (drop k m)
 unfolding scan_from
 scan_from-skip k at [] = rw drop-nil refl
@@ -29,19 +29,19 @@ one-on : (k at x : ℕ) (m : List ℕ) → 0 < k → scan_from 0 (at + 1 + (k - 
 one-on zero at x m goes = absurd (omega arith)
 one-on (suc k) at x m goes = let e : suc k - 1 ≡ k = omega arith in rw e (ap (λ n. scan_from 0 n (drop k m)) (omega arith))
 
--- the first event, and the rest
+-- the first event, and the scan after it
 pub scan_from-here : (at : ℕ) (m : List ℕ) → 0 < length m → 0 < candidate_len m (classify m)
     → scan_from 0 at m ≡ stream_event at m (classify m) ++ scan_from 0 (at + candidate_len m (classify m)) (drop (candidate_len m (classify m)) m)
 unfolding scan_from
 scan_from-here at [] some _ = absurd (omega arith)
 scan_from-here at (x ∷ m) some goes = grind (arith, common_steps, scan_from-skip, one-on)
 
--- where no event is, the scan goes on one octet further
+-- If no event begins here, the scan continues at the next octet.
 pub scan_from-nothing : (at x : ℕ) (m : List ℕ) → classify (x ∷ m) ≡ None → scan_from 0 at (x ∷ m) ≡ scan_from 0 (at + 1) m
 unfolding scan_from
 scan_from-nothing at x m nothing = grind (arith, common_steps)
 
--- no event is at the first k indices
+-- No event begins at the first k indices.
 pub scan_from-past : (k at : ℕ) (m : List ℕ) → k ≤ length m → ((j : ℕ) → j < k → classify (drop j m) ≡ None) → scan_from 0 at m ≡ scan_from 0 (at + k) (drop k m)
 scan_from-past zero at m within none = rw add-zero refl
 scan_from-past (suc k) at [] within none = absurd (omega arith)
@@ -50,7 +50,7 @@ scan_from-past (suc k) at (x ∷ m) within none =
     ∙ scan_from-past k (at + 1) m (omega arith) (λ j below. none (suc j) (omega arith))
     ∙ ap (λ n. scan_from 0 n (drop k m)) (omega arith)
 
--- where `BUFR` is not, no event is
+-- Without `BUFR`, no event begins.
 pub verdict-nothing : (m : List ℕ) → has_word_at (codes "BUFR") 0 m ≡ false → classify m ≡ None
 verdict-nothing m absent = rw absent refl
 
@@ -62,7 +62,7 @@ verdict-elsewhere s j absent = verdict-nothing (drop j s) (false_from_ne_true _ 
 pub drop-twice : (a b : ℕ) (s : List ℕ) → drop a (drop b s) ≡ drop (b + a) s
 drop-twice a b s = grind (arith, common_steps)
 
--- what a search in a rest says of a scan
+-- what a search for `BUFR` implies for the scan
 pub scan_from-found : (s : List ℕ) (r : Option ℕ) → FindsNeedle s (codes "BUFR") 0 r → (at : ℕ) → MatchOption r (scan_from 0 at s ≡ []) (λ k. scan_from 0 at s ≡ scan_from 0 (at + k) (drop k s))
 scan_from-found s None found at =
     scan_from-past (length s) at s (omega arith) (λ j below. verdict-elsewhere s j (found j (omega arith) (omega arith)))
@@ -70,12 +70,12 @@ scan_from-found s None found at =
 scan_from-found s (Some k) found at =
     scan_from-past k at s (omega (arith, found.1.fits)) (λ j below. verdict-elsewhere s j (found.0.before j (omega arith) below))
 
--- the event at an index, and the rest of the scan after it
+-- the event at an index, and the scan after it
 pub scan_from-prefix : (s : List ℕ) (at place k : ℕ) → place < length s → k ≡ candidate_len (drop place s) (classify (drop place s)) → 0 < k
     → scan_from 0 at (drop place s) ≡ stream_event at (drop place s) (classify (drop place s)) ++ scan_from 0 (at + k) (drop (place + k) s)
 scan_from-prefix s at place k within is goes = grind (arith, common_steps, scan_from-here, length-drop, drop-twice)
 
--- ---- Octets that come after do not change what was certain.
+-- ---- Octets that follow do not change what was certain.
 
 pub holds-prefix : (text : List ℕ) (p : ℕ) (m t : List ℕ) → p + 4 ≤ length m → has_word_at text p (m ++ t) ≡ has_word_at text p m
 holds-prefix text p m t long = grind (arith, common_steps, drop-append-le, take-append-le, length-drop)
@@ -83,7 +83,7 @@ holds-prefix text p m t long = grind (arith, common_steps, drop-append-le, take-
 pub stated-prefix : (m t : List ℕ) → 8 ≤ length m → stated_length (m ++ t) ≡ stated_length m
 stated-prefix m t long = grind (arith, common_steps, get_or_append_left)
 
--- what is certain stays so
+-- A certain result is the same, whatever octets follow.
 verdict-prefix : (m t : List ℕ) → 8 ≤ length m → stated_length m ≤ length m → classify (m ++ t) ≡ classify m
 verdict-prefix m t long whole =
     let a : has_word_at (codes "BUFR") 0 (m ++ t) ≡ has_word_at (codes "BUFR") 0 m = holds-prefix (codes "BUFR") 0 m t (omega arith) in
@@ -100,7 +100,7 @@ nothing-prefix m t j long absent =
       reads = λ i below. sym (get_or_append_left m t 0 (j + i) (omega arith)) ∙ occurs.reads i below;
     }))
 
--- the first k indices have no event, whatever comes after
+-- No event begins at the first k indices, whatever octets follow.
 past-prefix : (k : ℕ) (m t : List ℕ) → ((j : ℕ) → j < k → j + 4 ≤ length m) → k ≤ length m → ((j : ℕ) → j < k → OccursAt m (codes "BUFR") j → ⊥)
     → (at : ℕ) → scan_from 0 at (m ++ t) ≡ scan_from 0 (at + k) (drop k m ++ t)
 past-prefix k m t long within absent at =
@@ -151,7 +151,7 @@ chain-frame false true c d is = cc
 chain-frame false false true d is = cc
 chain-frame false false false d is = refl
 
--- a message has at least 12 octets
+-- A message has at least 12 octets.
 frame-long : (m : List ℕ) → has_word_at (codes "BUFR") 0 m ≡ true → classify m ≡ Some Frame → 12 ≤ stated_length m
 frame-long m here is = grind (arith, common_steps, chain-frame, is-chain, nat_tests)
 
@@ -168,7 +168,7 @@ taken-prefix m t None long = refl
 taken-prefix m t (Some (Stray cause)) long = refl
 taken-prefix m t (Some Frame) long = stated-prefix m t long
 
--- the first event, whatever comes after
+-- the first event, whatever octets follow
 pub found-prefix : (m t : List ℕ) (at : ℕ) → has_word_at (codes "BUFR") 0 m ≡ true → 8 ≤ length m → stated_length m ≤ length m
     → scan_from 0 at (m ++ t) ≡ stream_event at m (classify m) ++ scan_from 0 (at + candidate_len m (classify m)) (drop (candidate_len m (classify m)) m ++ t)
 found-prefix m t at here long whole =
@@ -184,22 +184,22 @@ found-prefix m t at here long whole =
 pub holds-there : (s : List ℕ) (j : ℕ) → OccursAt s (codes "BUFR") j → has_word_at (codes "BUFR") 0 (drop j s) ≡ true
 holds-there s j occurs = (bytes_eq-Decides (take 4 (drop j s)) (codes "BUFR")).1 (OccursAt-part s (codes "BUFR") j occurs)
 
--- `BUFR` is not at an index, by the comparison of the code
+-- The code's comparison shows that `BUFR` is not at this index.
 pub absent-there : (s m : List ℕ) (place : ℕ) (b : Bool) → m ≡ drop place s → b ≡ has_word_at (codes "BUFR") 0 m → b ≡ false → OccursAt s (codes "BUFR") place → ⊥
 absent-there s m place b is so differs occurs = true≢false (sym (so ∙ ap (has_word_at (codes "BUFR") 0) is ∙ holds-there s place occurs) ∙ differs)
 
--- `BUFR` is at an index, and not before it
+-- `BUFR` is at this index, and not before it.
 pub first-there : (s : List ℕ) (place : ℕ) → Nowhere (OccursAt s (codes "BUFR")) 0 place → has_word_at (codes "BUFR") 0 (drop place s) ≡ true → FindsNeedle s (codes "BUFR") 0 (Some place)
 first-there s place before here =
     let same : take 4 (drop place s) ≡ codes "BUFR" = (bytes_eq-Decides (take 4 (drop place s)) (codes "BUFR")).0 here in
     let occurs = OccursAt-from_part s (codes "BUFR") place (omega (arith, length-take {A = ℕ}, length-drop {A = ℕ}, ap length same)) same in
     (record { low = omega arith; high = omega (arith, occurs.fits); before = before }, occurs)
 
--- nor at the indices before it
+-- `BUFR` is not at this index, and not before it.
 pub nowhere-more : (s : List ℕ) (place : ℕ) → Nowhere (OccursAt s (codes "BUFR")) 0 place → (OccursAt s (codes "BUFR") place → ⊥) → Nowhere (OccursAt s (codes "BUFR")) 0 (place + 1)
 nowhere-more s place before here k low below = below_more (λ j. OccursAt s (codes "BUFR") j → ⊥) place (λ j less. before j (omega arith) less) here k below
 
--- an index after others, counted from them and from 0
+-- an index after `near`, counted from there and from 0
 occurs-after : (s : List ℕ) (near k : ℕ) → OccursAt s (codes "BUFR") (near + k) → OccursAt (drop near s) (codes "BUFR") k
 occurs-after s near k occurs = record {
   fits = omega (arith, occurs.fits, length-drop near s);
@@ -212,7 +212,7 @@ occurs-before s near k occurs = record {
   reads = λ j below. ap (λ n. get_or s n 0) (omega arith) ∙ sym (get_or-drop near s (k + j) 0) ∙ occurs.reads j below;
 }
 
--- no `BUFR` at the nearest indices, and none up to an index after them
+-- `BUFR` is not at the first `near` indices, nor at the `far` indices after them.
 nowhere-after : (s : List ℕ) (near far : ℕ) → Nowhere (OccursAt s (codes "BUFR")) 0 near → Nowhere (OccursAt (drop near s) (codes "BUFR")) 0 far → Nowhere (OccursAt s (codes "BUFR")) 0 (near + far)
 nowhere-after s near far before suffix k low below occurs = elim (cases_lt k near) [
   | inl less ↦ before k (omega arith) less occurs
@@ -237,18 +237,18 @@ to-first : (s : List ℕ) (place : ℕ) → FindsNeedle s (codes "BUFR") 0 (Some
 to-first s place found t at =
     past-prefix place s t (λ j below. omega (arith, found.1.fits)) (omega (arith, found.1.fits)) (λ j below. found.0.before j (omega arith) below) at
 
--- the octets begin with the word, by the search of the code
+-- The octets begin with `BUFR`, in terms of the code's search.
 pub word-occurs : (s : List ℕ) → StartsWithBufr s → OccursAt s (codes "BUFR") 0
 word-occurs s here =
     let same : take 4 (drop 0 s) ≡ codes "BUFR" = (bytes_eq-Decides (take 4 (drop 0 s)) (codes "BUFR")).0 here in
     OccursAt-from_part s (codes "BUFR") 0 (omega (arith, length-take {A = ℕ}, length-drop {A = ℕ}, ap length same)) same
 
--- the first index of the word is 0, where the octets begin with it
+-- If the octets begin with `BUFR`, its first index is 0.
 first-prefix : (s : List ℕ) (place : ℕ) → FindsNeedle s (codes "BUFR") 0 (Some place) → StartsWithBufr s → place ≡ 0
 first-prefix s zero found here = refl
 first-prefix s (suc k) found here = absurd (found.0.before 0 (omega arith) (omega arith) (word-occurs s here))
 
--- the first `BUFR` has the next event, by what the scan does there
+-- The next event is at the first `BUFR`, if the scan advances past it.
 next-so : (ended : Bool) (s : List ℕ) (place : ℕ) → FindsNeedle s (codes "BUFR") 0 (Some place)
     → ((at : ℕ) → Advances ended at s (stream_event (at + place) (drop place s) (classify (drop place s))) (at + place + candidate_len (drop place s) (classify (drop place s)))
     (drop (place + candidate_len (drop place s) (classify (drop place s))) s))
@@ -276,7 +276,7 @@ found-so ended s place found long whole =
       decided = λ _. certain m (at + place) here long whole;
     })
 
--- after the end nothing comes
+-- At the end of the stream, no octets follow.
 pub found-so-end : (s : List ℕ) (place : ℕ) → FindsNeedle s (codes "BUFR") 0 (Some place) → IsNextEvent true s place (classify (drop place s))
 found-so-end s place found =
     let bounds = taken-bounds (drop place s) (holds-there s place found.1) in
@@ -300,11 +300,11 @@ cut-so m here (inr short) = grind (arith, common_steps, nat_tests, is-chain, cha
 pub length-eight : (m : List ℕ) → 8 ≤ length m → length_here m ≡ stated_length m
 length-eight m long = let a : nat_lt (length m) 8 ≡ false = grind (arith, nat_tests) in rw a refl
 
--- the word with too few octets after it
+-- `BUFR`, with too few octets after it
 pub cut-here : (m : List ℕ) (size : ℕ) → StartsWithBufr m → size ≡ length_here m → length m < max 8 size → classify m ≡ Some (Stray Cut)
 cut-here m size here is few = grind (arith, common_steps, cases_lt, inl, cut-so, inr, length-eight)
 
--- more octets are needed after the first `BUFR`
+-- More octets are needed after the first `BUFR`.
 pub open-so : (s : List ℕ) (place size : ℕ) → FindsNeedle s (codes "BUFR") 0 (Some place) → size ≡ length_here (drop place s) → length (drop place s) < max 8 size → IsIncomplete s place size
 open-so s place size found is few =
     let m = drop place s in
@@ -318,7 +318,7 @@ open-so s place size found is few =
       none = λ at. none-cut at m (omega (arith, found.1.fits, length-drop place s)) (cut-here m size here is few);
     }
 
--- there is no `BUFR` yet, but the last three octets may begin one
+-- There is no `BUFR` yet, but the last three octets may begin one.
 pub none-so : (s : List ℕ) → FindsNeedle s (codes "BUFR") 0 None → IsIncomplete s (length s - min (length s) 3) 0
 none-so s found =
     let k = length s - min (length s) 3 in
@@ -334,7 +334,7 @@ none-so s found =
       none = λ at. ap (take_while is_decided) (scan_from-found (drop k s) None (λ j _ _ occurs. absurd (omega (arith, occurs.fits, length-drop k s))) at);
     }
 
--- and they state no length
+-- The last three octets declare no length.
 pub none-stated : (s : List ℕ) → 0 ≡ length_here (drop (length s - min (length s) 3) s)
 none-stated s = grind (arith, common_steps, length-drop, nat_tests)
 
@@ -344,7 +344,7 @@ end-so s found = record {
   word = λ here. found 0 (omega arith) (omega (arith, four-long s here)) (word-occurs s here);
 }
 
--- as the code reads them
+-- the same, as the code computes it
 pub found-at-end : (ended : Bool) (s m : List ℕ) (place : ℕ) (v : Option Candidate) → FindsNeedle s (codes "BUFR") 0 (Some place) → ended ≡ true
     → m ≡ drop place s → v ≡ classify m → IsNextEvent ended s place v
 found-at-end ended s m place v found end is here =
@@ -356,7 +356,7 @@ found-whole ended s m place size v found states long whole is here =
     let size_is : size ≡ stated_length m = states ∙ length-eight m long in
     rw (here ∙ ap classify is) (found-so ended s place found (rw is at long) (rw is at (rw size_is at whole)))
 
--- what is certain of a stream, and how far that reaches
+-- the certain events of a stream, and where they end
 pub record Certain (at : ℕ) (s : List ℕ) : Type 0 where
   pub events : List StreamEvent
   pub at' : ℕ
@@ -364,14 +364,14 @@ pub record Certain (at : ℕ) (s : List ℕ) : Type 0 where
   pub advances : Advances false at s events at' rest
   pub none : NoEventCertain at' rest
 
--- fewer than four octets hold no `BUFR`
+-- Fewer than four octets contain no `BUFR`.
 short-none : (at : ℕ) (s : List ℕ) → length s < 4 → NoEventCertain at s
 short-none at s short = ap (take_while is_decided) (scan_from-found s None (λ j _ _ occurs. absurd (omega (arith, occurs.fits))) at)
 
 stays : (at : ℕ) (s : List ℕ) → NoEventCertain at s → Certain at s
 stays at s none = record { events = []; at' = at; rest = s; advances = record { whole = λ t _. refl; decided = λ _. refl }; none = none }
 
--- events, and then what is certain of the rest
+-- events, followed by the certain events of the remaining octets
 after : (at at1 : ℕ) (s s1 : List ℕ) (es : List StreamEvent) → Advances false at s es at1 s1 → Certain at1 s1 → Certain at s
 after at at1 s s1 es one c = record {
   events = es ++ c.events;
@@ -410,7 +410,7 @@ certain-within (suc n) at (x ∷ m) within =
       ]
     ]
 
--- the scan of octets is the events that were passed and those of what is left
+-- A scan gives the events that were passed, then those of the remaining octets.
 pub scan-on : (ended : Bool) (at at' : ℕ) (s rest : List ℕ) (events : List StreamEvent) → Advances ended at s events at' rest → scan_from 0 at s ≡ events ++ scan_from 0 at' rest
 scan-on ended at at' s rest events advances = ap (scan_from 0 at) (sym (append-nil s)) ∙ advances.whole [] (λ _. refl) ∙ ap (λ l. events ++ scan_from 0 at' l) (append-nil rest)
 
@@ -421,7 +421,7 @@ take_while-all (x ∷ xs) ys all =
     let one : 1 + prefix_len is_decided (xs ++ ys) ≡ suc (prefix_len is_decided (xs ++ ys)) = omega arith in
     rw (both.0, one) (ap (λ l. x ∷ l) (take_while-all xs ys both.1))
 
--- what was certain stays the prefix, whatever comes after
+-- The certain events are a prefix of the scan, whatever octets follow.
 pub open-prefix : (s t : List ℕ) → (more : List StreamEvent) × (scan (s ++ t) ≡ open_scan s ++ more)
 open-prefix s t =
     let c = certain-within (length s) 0 s (omega arith) in
@@ -430,21 +430,22 @@ open-prefix s t =
     ∙ append-nil c.events in
     (scan_from 0 c.at' (c.rest ++ t), c.advances.whole t (λ end. absurd (true≢false (sym end))) ∙ ap (λ l. l ++ scan_from 0 c.at' (c.rest ++ t)) (sym open'))
 
--- ---- The greatest length that was stated.
+-- ---- The greatest declared length.
 
 max-none : (n : ℕ) → max n 0 ≡ n
 max-none n = omega arith
 
--- how the greatest length grew since it was `old`: by the length that a first `BUFR` states, or not
+-- The greatest length is still `old`, or it was raised by the length that a `BUFR` at the start
+-- declares.
 abbrev pub Raised : (old now : ℕ) → List ℕ → Type 0
 Raised old now rest = (now ≡ old) ⊎ (StartsWithBufr rest × (8 ≤ length rest) × (now ≡ max old (stated_length rest)))
 
--- the length at a place, where the greatest length grows by it
+-- If the length at the first `BUFR` is taken into account, an earlier raise makes no difference.
 pub raise : (a b place size : ℕ) (rest : List ℕ) → Raised a b rest → (StartsWithBufr rest → place ≡ 0) → size ≡ length_here (drop place rest) → max b size ≡ max a size
 raise a b place size rest (inl same) first is = ap (λ n. max n size) same
 raise a b place size rest (inr (word, long, grown)) first is = grind (arith, common_steps, length-eight)
 
--- it stays so when octets come after
+-- This still holds after octets are appended.
 pub raised-read : (a b : ℕ) (rest bs : List ℕ) → Raised a b rest → Raised a b (rest ++ bs)
 raised-read a b rest bs (inl same) = inl same
 raised-read a b rest bs (inr (word, long, grown)) = inr (
@@ -456,7 +457,7 @@ raised-read a b rest bs (inr (word, long, grown)) = inr (
 pub short-here : (m : List ℕ) → length m < 8 → length_here m ≡ 0
 short-here m short = let a : nat_lt (length m) 8 ≡ true = grind (arith, nat_tests) in rw a refl
 
--- and when the finder goes on to the place that is open
+-- It still holds after the finder advances to where more octets are needed.
 pub raised-open : (a b place size : ℕ) (rest : List ℕ) → Raised a b rest → IsIncomplete rest place size → size ≡ length_here (drop place rest) → Raised a (max b size) (drop place rest)
 raised-open a b place size rest before open' is =
     let m = drop place rest in
@@ -469,17 +470,17 @@ raised-open a b place size rest before open' is =
       ]
     ]
 
--- one event's length
+-- the greatest length of a single event
 longest-event : (at : ℕ) (s : List ℕ) (m : List ℕ) (offset : ℕ) (here : Option Candidate) → here ≢ None → longest_of at s (stream_event offset m here) ≡ length_here (drop (offset - at) s)
 longest-event at s m offset None some = absurd (some refl)
 longest-event at s m offset (Some (Stray cause)) some = max-none (length_here (drop (offset - at) s))
 longest-event at s m offset (Some Frame) some = max-none (length_here (drop (offset - at) s))
 
--- where a place of the rest is in all octets
+-- an index in the remaining octets, as an index in all octets
 place-in : (at at' place offset : ℕ) (s rest : List ℕ) → Follows at s at' rest → offset ≡ at' + place → drop (offset - at) s ≡ drop place rest
 place-in at at' place offset s rest follows is = grind (arith, common_steps, drop-twice)
 
--- an event is passed
+-- An event is passed.
 pub found-sees : (old s s' : FinderModel) (bs : List ℕ) (offset place size : ℕ) (here : Option Candidate) → here ≢ None → Follows old.at (old.rest ++ bs) s.at s.rest
     → Raised old.longest s.longest s.rest
     → IsNextEvent s.ended s.rest place here → size ≡ length_here (drop place s.rest) → offset ≡ s.at + place → s'.longest ≡ max s.longest size
@@ -489,7 +490,7 @@ found-sees old s s' bs offset place size here some follows raised found is at gr
     ∙ ap (max old.longest) (is ∙ ap length_here (sym (place-in old.at s.at place offset (old.rest ++ bs) s.rest follows at))
     ∙ sym (longest-event old.at (old.rest ++ bs) (drop place s.rest) offset here some))
 
--- the first event that is left is not certain
+-- The first remaining event is not certain.
 first-open : (at old_at size : ℕ) (m s : List ℕ) → drop (at - old_at) s ≡ m → ((length m < 4) ⊎ StartsWithBufr m) → size ≡ length_here m → length m < max 8 size
     → longest_of old_at s (first_event (scan_from 0 at m)) ≡ size
 first-open at old_at size m s there (inl short) is few =
@@ -502,7 +503,7 @@ first-open at old_at size m s there (inr word) is few =
     ap (λ l. longest_of old_at s (first_event l)) (scan_from-here at m some (rw cut goes))
     ∙ rw cut (max-none (length_here (drop (at - old_at) s)) ∙ ap length_here there ∙ sym is)
 
--- the finder stops where the first event that is left is not certain
+-- The finder stops where the first remaining event is not certain.
 pub open-sees : (old s s' : FinderModel) (bs : List ℕ) (place size : ℕ) → Follows old.at (old.rest ++ bs) s.at s.rest → Raised old.longest s.longest s.rest
     → IsIncomplete s.rest place size → size ≡ length_here (drop place s.rest) → s'.at ≡ s.at + place → s'.rest ≡ drop place s.rest → s'.longest ≡ max s.longest size
     → RaisesLongest old s' bs (first_event (scan_from 0 s'.at s'.rest))
@@ -516,7 +517,7 @@ open-sees old s s' bs place size follows raised open' is at left grown =
 abbrev pub IsOctet : ℕ → Type 0
 IsOctet c = c < 256
 
--- a message has octets, and no more than its length can state
+-- A message consists of octets, no more than its length can declare.
 abbrev pub IsSmall : StreamEvent → Type 0
 IsSmall (FrameAt offset octets) = AllByRecursion IsOctet octets × (length octets ≤ max_octets)
 IsSmall (StrayAt offset cause) = Unit {0}
@@ -540,7 +541,7 @@ small-here at m None all = tt
 small-here at m (Some (Stray cause)) all = (tt, tt)
 small-here at m (Some Frame) all = ((all-take (stated_length m) m all, omega (arith, length-take (stated_length m) m, octet-at m 4 all, octet-at m 5 all, octet-at m 6 all)), tt)
 
--- each message of a stream of octets is small
+-- Each message in a stream of octets satisfies `IsSmall`.
 pub small-frames : (skip at : ℕ) (m : List ℕ) → AllByRecursion IsOctet m → AllByRecursion IsSmall (scan_from skip at m)
 unfolding scan_from
 small-frames skip at [] all = tt
@@ -549,7 +550,7 @@ small-frames zero at (c ∷ m) all =
     let v = classify (c ∷ m) in
     all-then IsSmall (stream_event at (c ∷ m) v) (scan_from (candidate_len (c ∷ m) v - 1) (at + 1) m) (small-here at (c ∷ m) v all) (small-frames (candidate_len (c ∷ m) v - 1) (at + 1) m all.1)
 
--- the octets of all messages among these events
+-- the total length of all messages among these events
 abbrev pub framed_octets : List StreamEvent → ℕ
 framed_octets [] = 0
 framed_octets (FrameAt offset octets ∷ more) = length octets + framed_octets more
@@ -565,7 +566,7 @@ framed-here at m None = omega arith
 framed-here at m (Some (Stray cause)) = omega arith
 framed-here at m (Some Frame) = omega (arith, length-take (stated_length m) m)
 
--- some octet is taken, and only octets that are there
+-- At least one octet is taken, and no more than there are.
 taken-within : (c : ℕ) (m : List ℕ) → (0 < candidate_len (c ∷ m) (classify (c ∷ m))) × (candidate_len (c ∷ m) (classify (c ∷ m)) ≤ length (c ∷ m))
 taken-within c m = by (has_word_at (codes "BUFR") 0 (c ∷ m)) refl
   where
@@ -576,7 +577,7 @@ taken-within c m = by (has_word_at (codes "BUFR") 0 (c ∷ m)) refl
     by true here = let bounds = taken-bounds (c ∷ m) here in (omega (arith, bounds.0), bounds.1)
     by false absent = subst P (sym (verdict-nothing (c ∷ m) absent)) (omega arith, omega arith)
 
--- the messages of a stream have no octet twice
+-- Together, the messages of a stream are no longer than the stream.
 pub frames-within : (skip at : ℕ) (m : List ℕ) → framed_octets (scan_from skip at m) ≤ length m - skip
 unfolding scan_from
 frames-within skip at [] = omega arith

@@ -10,7 +10,7 @@ use Rattle.bufr_frame.specs.declared.fault.SectionFault.TheVariants.{Edition, Se
 message : (edition : ℕ) → List ℕ → List ℕ
 message edition octets = codes "BUFR" ++ three_octets (12 + length octets) ++ edition ∷ octets ++ codes "7777"
 
--- the length of a message whose sections can be taken apart, or the first fault
+-- the length of a message whose sections can be read, or the first fault
 taken : List ℕ → Result ℕ SectionFault
 unfolding sections_of section_end min_section_1
 taken m = sections_of m >>= λ s. Ok s.size
@@ -23,11 +23,11 @@ of_edition_3 : List ℕ → Result ℕ SectionFault
 unfolding message taken
 of_edition_3 octets = taken (message 3 octets)
 
--- a section that states one length and has another
+-- a section with this declared length, and this number of octets
 section : (stated octets : ℕ) → List ℕ
 section stated octets = three_octets stated ++ replicate (octets - 3) 0
 
--- section 1 of edition 4, whose flag says that a section 2 follows
+-- section 1 of edition 4, with the flag for a section 2
 flagged : List ℕ
 unfolding section
 flagged = slice_set (section 22 22) 9 128
@@ -45,7 +45,7 @@ editions :
 unfolding message section taken
 editions = (refl, refl, refl, refl, refl, refl)
 
--- it is checked before the sections
+-- The edition is checked before the sections.
 -- rule: edition-first, order-of-sections
 edition-before-sections :
     (taken (message 2 []) ≡ Err (Edition 2))
@@ -87,7 +87,7 @@ least-of-section-4 :
 unfolding of_edition_4 section
 least-of-section-4 = (refl, refl)
 
--- ---- The three octets of a length are before the last four octets of the message.
+-- ---- The three octets of a length come before the last four octets of the message.
 
 -- rule: length-past-end
 length-of-section-1 :
@@ -153,7 +153,7 @@ end-of-section-4 :
 unfolding of_edition_4 section
 end-of-section-4 = (refl, refl, refl)
 
--- ---- Section 2 is there if bit 1 of the flags is set: octet 10 of section 1, or 8 in edition 3.
+-- ---- Section 2 is present if bit 1 of the flags is set: octet 10 of section 1, or 8 in edition 3.
 
 -- rule: section-2-flag
 flags-of-section-1 :
@@ -166,7 +166,7 @@ flags-of-section-1 = (refl, refl, refl, refl)
 
 -- ---- Flags of section 3: bit 1 is observed, bit 2 compressed.
 
--- whether data with these flags are observed, and whether they are compressed
+-- whether the data are observed, and whether they are compressed, by these flags
 flags : ℕ → Result (Bool × Bool) SectionFault
 unfolding message section sections_of section_end min_section_1
 flags octet =
@@ -184,10 +184,10 @@ flags-of-section-3 :
 unfolding flags
 flags-of-section-3 = (refl, refl, refl, refl, refl, refl)
 
--- ---- Two faults: each section in turn has its length octets, its least length and its end
--- checked. Then comes 13, and 14 is last.
+-- ---- Two faults: for each section in turn, the octets of its length, its least length and its end
+-- are checked. Then comes fault 13, and fault 14 is last.
 
--- the last four octets are never part of a length
+-- The last four octets are never part of a length.
 -- rule: order-of-sections
 length-octets-before-least :
     (taken (codes "BUFR" ++ 0 ∷ 0 ∷ 14 ∷ 4 ∷ replicate 6 0) ≡ Err (SectionPast 1))
@@ -217,7 +217,7 @@ section-4-before-end :
 unfolding of_edition_4 section
 section-4-before-end = (refl, refl)
 
--- ---- In edition 3 a message over 16,777,213 octets has no section 3 or 4 of an odd length.
+-- ---- In edition 3, a message of more than 16,777,213 octets has no section 3 or 4 of odd length.
 
 -- rule: edition-3-length
 long-with-odd-section-3 : (m : List ℕ) → edition_of m ≡ 3 → length m ≡ 16777214 → is_long_edition_3 m 26 35 16777210 ≡ true
@@ -231,7 +231,7 @@ long-with-even-section-4 m of-3 long = simp (long, of-3) refl
 long-with-odd-section-4 : (m : List ℕ) → edition_of m ≡ 3 → length m ≡ 16777215 → is_long_edition_3 m 26 36 16777211 ≡ true
 long-with-odd-section-4 m of-3 long = simp (long, of-3) refl
 
--- accepted: even sections, one octet less, and edition 4
+-- accepted: even sections, a message that is one octet shorter, and edition 4
 -- rule: edition-3-length
 long-with-even-sections : (m : List ℕ) → edition_of m ≡ 3 → length m ≡ 16777214 → is_long_edition_3 m 26 36 16777210 ≡ false
 long-with-even-sections m of-3 long = simp (long, of-3) refl
@@ -244,7 +244,7 @@ not-so-long m of-3 long = simp long refl
 long-of-edition-4 : (m : List ℕ) → edition_of m ≡ 4 → length m ≡ 16777214 → is_long_edition_3 m 30 39 16777210 ≡ false
 long-of-edition-4 m of-4 long = simp (long, of-4) refl
 
--- 13 is checked before 14
+-- Fault 13 is checked before fault 14.
 -- rule: order-of-sections
 end-before-long : (m : List ℕ) → edition_of m ≡ 3 → length m ≡ 16777214 → parts_if_end_matches m 26 26 35 16777209 ≡ Err SectionsEnd
 end-before-long m of-3 long = simp long refl
@@ -292,7 +292,7 @@ heads-that-can-be-written :
     × (is_writable (record greatest_head { edition = 5 }) ≡ false)
 heads-that-can-be-written = (refl, refl, refl, refl, refl, refl, refl, refl, refl)
 
--- ---- The longest message that is written: three octets hold its length.
+-- ---- The longest message that is written: its length is declared in three octets.
 
 -- rule: greatest-length
 longest-message : (three_octets max_octets ≡ 255 ∷ 255 ∷ 255 ∷ []) × (max_octets ≡ 16777215)

@@ -1,14 +1,14 @@
--- Worked examples of a `BUFR` that begins no message. Each bound is shown from both sides. If two
--- causes meet, the example shows which one is reported.
+-- Worked examples of a `BUFR` that does not begin a message. Each bound is shown from both sides.
+-- If two causes meet, the example shows which one is reported.
 use Rattle.std.proofs.Common.{◌≡◌, ℕ, ◌-◌, List, [], ◌∷◌, ◌++◌, refl, take, replicate, codes, slice_set}
 use Rattle.bufr_frame.specs.Prelude.{StreamEvent, FrameAt, StrayAt, scan, scan_from, length_here}
 use Rattle.bufr_frame.specs.declared.fault.Cause.TheVariants.{Cut, ShortLength, NoEnd}
 
--- section 0 with a length under 256
+-- section 0 with a declared length under 256
 section_0 : ℕ → List ℕ
 section_0 stated = codes "BUFR" ++ 0 ∷ 0 ∷ stated ∷ 4 ∷ []
 
--- octets with a stated length, the last four being `7777`
+-- octets with a declared length, the last four of which are `7777`
 frame : (stated octets : ℕ) → List ℕ
 unfolding section_0
 frame stated octets = section_0 stated ++ replicate (octets - 12) 0 ++ codes "7777"
@@ -18,7 +18,7 @@ events : List ℕ → List StreamEvent
 unfolding scan_from
 events s = scan s
 
--- all four octets of the word count
+-- All four octets of `BUFR` must match.
 -- rule: first-bufr
 words-found :
     (events (codes "BUF") ≡ [])
@@ -29,7 +29,7 @@ words-found :
 unfolding events
 words-found = (refl, refl, refl, refl, refl)
 
--- eight octets are there from the word on, and all octets that the length states
+-- From `BUFR` on, there must be eight octets, and as many as the length declares.
 -- rule: stray-cut
 cut-octets :
     (events (take 7 (section_0 8)) ≡ StrayAt 0 Cut ∷ [])
@@ -42,7 +42,7 @@ cut-octets :
 unfolding events section_0 frame
 cut-octets = (refl, refl, refl, refl, refl, refl, refl)
 
--- 12 octets are enough, and 11 are not, even if they end with `7777`
+-- 12 octets are enough. 11 are not, even if they end with `7777`.
 -- rule: stray-short-length
 least-message :
     (events (frame 12 12) ≡ FrameAt 0 (frame 12 12) ∷ [])
@@ -51,7 +51,7 @@ least-message :
 unfolding events section_0 frame
 least-message = (refl, refl, refl)
 
--- each octet of `7777` counts, and its place
+-- Each octet of `7777` must match, in its place.
 -- rule: stray-no-end
 ends :
     (events (slice_set (frame 20 20) 16 54) ≡ StrayAt 0 NoEnd ∷ [])
@@ -64,7 +64,7 @@ ends :
 unfolding events section_0 frame
 ends = (refl, refl, refl, refl, refl, refl, refl)
 
--- a length is stated if all eight octets are there
+-- A length is declared only if all eight octets are there.
 lengths-stated :
     (length_here (take 7 (section_0 8)) ≡ 0)
     × (length_here (section_0 8) ≡ 8)
@@ -94,9 +94,9 @@ short-length-before-no-end :
 unfolding events section_0
 short-length-before-no-end = (refl, refl)
 
--- ---- The search continues four octets after a stray, and after the last octet of a frame.
+-- ---- The search continues four octets after the start of a stray, and after the end of a frame.
 
--- a word that begins within the eight octets of a stray
+-- A `BUFR` can begin within the first eight octets of a stray.
 -- rule: after-a-stray
 search-after-strays :
     (events (codes "BUFRBUFR") ≡ StrayAt 0 Cut ∷ StrayAt 4 Cut ∷ [])
@@ -107,7 +107,7 @@ search-after-strays = (refl, refl, refl)
 
 -- rule: after-a-stray, frame
 search-goes-on :
-    -- inside the stated length of a stray, but not inside a frame
+    -- A `BUFR` is found inside the declared length of a stray, but not inside a frame.
     (events (section_0 20 ++ section_0 8) ≡ StrayAt 0 Cut ∷ StrayAt 8 ShortLength ∷ [])
     × (events (section_0 20 ++ section_0 8 ++ codes "7777") ≡ FrameAt 0 (section_0 20 ++ section_0 8 ++ codes "7777") ∷ [])
     × (events (frame 12 12 ++ frame 12 12) ≡ FrameAt 0 (frame 12 12) ∷ FrameAt 12 (frame 12 12) ∷ [])

@@ -1,4 +1,4 @@
--- Chains of members, and what the search for a cycle knows of them.
+-- Chains of members, and what the search for a cycle has established.
 use Rattle.std.proofs.Common.{◌≡◌, ℕ, ◌+◌, ◌<◌, ◌≤◌, ◌⊎◌, inl, inr, Bool, true, false, List, [], ◌∷◌, ◌++◌, length, set, take, drop, Option, Some, None, refl, sym, ap, ◌∙◌, arith, suc, zero, get_or, length-append, replicate, ◌==◌, cond, option_map, slice_index, IsSome, Contains}
 use Rattle.std.proofs.lemmas.Bool.{eqb-true}
 use Rattle.std.proofs.lemmas.List.{append_assoc, get_or_append_left, get_or-set_same, get_or_default, length-set, drop_more, take-append-drop, get_or-map, get_or-take, length-take-le}
@@ -7,11 +7,12 @@ use Rattle.std.specs.List.{find}
 use borrow.Author.Count.{below_more}
 use Rattle.bufr_tables.specs.Prelude.{Chain, IsFirstCycle, Leads, ReachesItself, one, more, Sequence, fxys_of, members_or_none, members_of, IsAbove, IsSet, IsVisited, Falls, rank_of, unset}
 
--- each member of a sequence that is a sequence was seen
+-- Every member of the sequence that is itself a sequence was seen.
 abbrev pub AreSeen : List Sequence → List Bool → ℕ → Type 0
 AreSeen table seen fxy = (to : ℕ) → Leads table fxy to → IsSet seen to
 
--- a chain leads to all in the queue, which has what was seen, and the first, so many, were searched
+-- Everything in the queue is reached from `start` by a chain, and everything that was seen is in
+-- the queue. The members of `start` and of the first `next` entries of the queue were seen.
 pub record IsSearched (table : List Sequence) (start : ℕ) (seen : List Bool) (queue : List ℕ) (next : ℕ) : Type 0 where
   pub flags : length seen ≡ 65536
   pub inside : next ≤ length queue
@@ -20,16 +21,15 @@ pub record IsSearched (table : List Sequence) (start : ℕ) (seen : List Bool) (
   pub first : AreSeen table seen start
   pub visited : (k : ℕ) → k < next → AreSeen table seen (slice_index queue k)
 
--- none of the first sequences of the file, so many, reaches itself
+-- None of the first `count` sequences of the file reaches itself.
 abbrev pub IsPassed : List Sequence → ℕ → Type 0
 IsPassed table count = (k : ℕ) → k < count → k < length table → ReachesItself table (slice_index (fxys_of table) k) → ⊥
 
--- chains one after another
 pub chain-append : {table : List Sequence} {a b c : ℕ} → Chain table a b → Chain table b c → Chain table a c
 chain-append (one l) d = more l d
 chain-append (more l rest) d = more l (chain-append rest d)
 
--- flags
+-- Setting a flag never clears another one.
 pub set-keeps : (flags : List Bool) (x y : ℕ) → IsSet flags y → IsSet (set flags x true) y
 set-keeps [] x y is = is
 set-keeps (flag ∷ flags) zero zero is = refl
@@ -52,7 +52,7 @@ unset-set [] x inside is = absurd (omega arith)
 unset-set (flag ∷ flags) zero inside is = rw is (omega arith)
 unset-set (flag ∷ flags) (suc x) inside is = omega (arith, unset-set flags x (omega arith) is)
 
--- a member that is a sequence has a place among the members
+-- A member that is a sequence has an index in the list of members.
 pub record Listed (table : List Sequence) (from to : ℕ) : Type 0 where
   pub place : ℕ
   pub inside : place < length (members_or_none table from)
@@ -78,17 +78,18 @@ leads-listed table from k inside sequence = by (members_of table from) refl
         let same : members_or_none table from ≡ members = rw e refl in
         record { members = members; has = e; member = rw same (Contains-get_or members k 0 (rw same at inside)); sequence = sequence }
 
--- ranks do not rise along a chain
+-- Ranks do not rise along a chain.
 pub chain-falls : (table : List Sequence) (ranks : List ℕ) → Falls table ranks → {a b : ℕ} → Chain table a b → rank_of ranks b ≤ rank_of ranks a
 chain-falls table ranks falls (one l) = omega (arith, falls _ _ l)
 chain-falls table ranks falls (more l rest) = omega (arith, falls _ _ l, chain-falls table ranks falls rest)
 
--- a sequence with a rank above those of its members does not reach itself
+-- A sequence whose rank is above the ranks of its members does not reach itself.
 pub falls-none : (table : List Sequence) (ranks : List ℕ) (fxy : ℕ) → Falls table ranks → IsAbove table ranks fxy (rank_of ranks fxy) → ReachesItself table fxy → ⊥
 falls-none table ranks fxy falls above (one l) = absurd (omega (arith, above _ l))
 falls-none table ranks fxy falls above (more l rest) = absurd (omega (arith, above _ l, chain-falls table ranks falls rest))
 
--- the ranks of the first members of a sequence, so many, and of the first sequences of the file
+-- The ranks of the first `count` members of a sequence are below a limit. `FallsFirst` says this of
+-- all members of the first sequences of the file.
 abbrev pub IsAboveFirst : List Sequence → List ℕ → List ℕ → ℕ → ℕ → Type 0
 IsAboveFirst table ranks members limit count = (k : ℕ) → k < count → k < length members → IsSome (members_of table (slice_index members k)) → rank_of ranks (slice_index members k) < limit
 
@@ -103,15 +104,15 @@ above-all table ranks fxy rank count members same above all to l =
 abbrev pub FallsFirst : List Sequence → List ℕ → ℕ → Type 0
 FallsFirst table ranks count = (k : ℕ) → k < count → k < length table → IsAbove table ranks (slice_index (fxys_of table) k) (rank_of ranks (slice_index (fxys_of table) k) + 1)
 
--- a visit of one sequence
+-- the visit of one sequence
 module _ (table : List Sequence) (fxy : ℕ) (old : List Bool) (queue : List ℕ) where
   module _ (i : ℕ) (new : List Bool) (longer : List ℕ) (was : IsVisited table fxy i old queue new longer) where
-    -- a member was seen, where it is a sequence
+    -- The member at this index was seen, if it is a sequence.
     abbrev pub SeenAt : List Bool → ℕ → Type 0
     SeenAt flags k = k < length (members_or_none table fxy) → IsSome (members_of table (slice_index (members_or_none table fxy) k))
         → IsSet flags (slice_index (members_or_none table fxy) k)
 
-    -- a member that is no sequence or was seen
+    -- The next member is not a sequence, or it was already seen.
     pub visited-pass : SeenAt new i → IsVisited table fxy (i + 1) old queue new longer
     visited-pass here = record {
       more = was.more;
@@ -124,7 +125,7 @@ module _ (table : List Sequence) (fxy : ℕ) (old : List Bool) (queue : List ℕ
       seen = below_more (SeenAt new) i was.seen here;
     }
 
-    -- another, which is put after the queue
+    -- The next member is a new sequence, and is appended to the queue.
     pub visited-push : (x : ℕ) → x ≡ slice_index (members_or_none table fxy) i → i < length (members_or_none table fxy) → IsSome (members_of table x) → get_or new x false ≡ false → x < length new
         → IsVisited table fxy (i + 1) old queue (set new x true) (longer ++ x ∷ [])
     visited-push x at inside sequence unseen small = record {
@@ -150,7 +151,7 @@ module _ (table : List Sequence) (fxy : ℕ) (old : List Bool) (queue : List ℕ
             wider to (inl is) = inl is
             wider to (inr has) = inr (Contains-append_left was.more (x ∷ []) to has)
 
-  -- all members of a sequence
+  -- All members of the sequence were visited.
   pub visited-all : (new : List Bool) (longer : List ℕ) → IsVisited table fxy (length (members_or_none table fxy)) old queue new longer → AreSeen table new fxy
   visited-all new longer v to l =
       let at = listed-leads table fxy to l in
@@ -159,7 +160,7 @@ module _ (table : List Sequence) (fxy : ℕ) (old : List Bool) (queue : List ℕ
 pub seen-kept : (table : List Sequence) (old new : List Bool) (fxy : ℕ) → ((to : ℕ) → IsSet old to → IsSet new to) → AreSeen table old fxy → AreSeen table new fxy
 seen-kept table old new fxy kept seen to l = kept to (seen to l)
 
--- the search from a sequence
+-- the search from one sequence
 module _ (table : List Sequence) (start : ℕ) where
   pub searched-start : (none seen : List Bool) (queue : List ℕ) → length none ≡ 65536 → ((to : ℕ) → IsSet none to → ⊥)
       → IsVisited table start (length (members_or_none table start)) none [] seen queue → IsSearched table start seen queue 0
@@ -199,13 +200,13 @@ module _ (table : List Sequence) (start : ℕ) where
     }
 
   module _ (seen : List Bool) (queue : List ℕ) (next : ℕ) (s : IsSearched table start seen queue next) (all : length queue ≤ next) where
-    -- what was seen has its members seen
+    -- If a sequence was seen, its members were seen, too.
     all-seen : (x : ℕ) → IsSet seen x → AreSeen table seen x
     all-seen x is =
         let (k, inside, at) = s.queued x is in
         rw (get_or_default queue k 0 x inside ∙ at) at (s.visited k (omega arith))
 
-    -- a chain from what was seen goes on in what was seen
+    -- A chain from a sequence whose members were seen leads only to sequences that were seen.
     walk : {x y : ℕ} → AreSeen table seen x → Chain table x y → IsSet seen y
     walk here (one l) = here _ l
     walk here (more l rest) = walk (all-seen _ (here _ l)) rest
@@ -216,18 +217,18 @@ module _ (table : List Sequence) (start : ℕ) where
     pub searched-chain : IsSet seen start → ReachesItself table start
     searched-chain is = s.chains start (s.queued start is)
 
--- no flag is set yet
+-- At first, no flag is set.
 pub none-set : (n fxy : ℕ) → IsSet (replicate n false) fxy → ⊥
 none-set zero fxy is = cc is
 none-set (suc n) zero is = cc is
 none-set (suc n) (suc fxy) is = none-set n fxy is
 
--- a chain begins with a sequence of the table
+-- A chain begins with a sequence of the table.
 chain-sequence : (table : List Sequence) → {a b : ℕ} → Chain table a b → IsSome (members_of table a)
 chain-sequence table (one l) = rw l.has refl
 chain-sequence table (more l rest) = rw l.has refl
 
--- and this has its place in the file
+-- A sequence of the table has an index in the file.
 place-in : (table : List Sequence) (fxy : ℕ) → IsSome (members_of table fxy) → (k : ℕ) × (k < length table) × (slice_index (fxys_of table) k ≡ fxy)
 place-in [] fxy some = cc some
 place-in (s ∷ table) fxy some = by (s.fxy == fxy) refl some (place-in table fxy)
@@ -241,20 +242,20 @@ place-in (s ∷ table) fxy some = by (s.fxy == fxy) refl some (place-in table fx
     by true e some on = (0, omega arith, eqb-true s.fxy fxy e)
     by false e some on = later (on some)
 
--- all sequences of the file
+-- All sequences of the file were checked.
 pub falls-all : (table : List Sequence) (ranks : List ℕ) (count : ℕ) → FallsFirst table ranks count → length table ≤ count → Falls table ranks
 falls-all table ranks count falls all fxy to l =
     let (k, inside, at) = place-in table fxy (chain-sequence table (one l)) in
     let above = rw at at (falls k (omega arith) inside) in
     above to l
 
--- the first sequences of the file
+-- the sequences before index `place`, none of which reaches itself
 module _ (table : List Sequence) (place : ℕ) (was : IsPassed table place) where
-  -- one more that does not reach itself
+  -- The next sequence does not reach itself either.
   pub passed-more : (fxy : ℕ) → fxy ≡ slice_index (fxys_of table) place → (ReachesItself table fxy → ⊥) → IsPassed table (place + 1)
   passed-more fxy at none = below_more (λ k. k < length table → ReachesItself table (slice_index (fxys_of table) k) → ⊥) place was (λ inside. rw (← at) none)
 
-  -- the first that reaches itself
+  -- The next sequence is the first that reaches itself.
   pub passed-first : (fxy : ℕ) → fxy ≡ slice_index (fxys_of table) place → place < length table → ReachesItself table fxy → IsFirstCycle table fxy
   passed-first fxy at inside chain =
       let d : Sequence = record { fxy = fxy; members = [] } in
@@ -272,13 +273,13 @@ module _ (table : List Sequence) (place : ℕ) (was : IsPassed table place) wher
       earlier k e under again =
           was k under (omega arith) (rw (get_or-map (λ (s : Sequence). s.fxy) table k e 0 (omega arith), ← get_or-take place table k e under) again)
 
-  -- none reaches itself
+  -- No sequence reaches itself.
   pub passed-all : length table ≤ place → (fxy : ℕ) → ¬ ReachesItself table fxy
   passed-all all fxy chain =
       let (k, inside, at) = place-in table fxy (chain-sequence table chain) in
       was k (omega arith) inside (rw at chain)
 
--- one sequence more
+-- The members of the next sequence have no greater rank than the sequence.
 pub falls-more : (table : List Sequence) (ranks : List ℕ) (place fxy limit : ℕ) → FallsFirst table ranks place → fxy ≡ slice_index (fxys_of table) place
     → IsAbove table ranks fxy limit → limit ≤ rank_of ranks fxy + 1 → FallsFirst table ranks (place + 1)
 falls-more table ranks place fxy limit falls at above most =

@@ -10,13 +10,12 @@ use Rattle.bufr_tables.specs.TableD as d
 use Rattle.bufr_tables.specs.declared.fault.TableFault.TheVariants.{Header, Row, Duplicate, TableSize, Csv}
 use Rattle.bufr_tables.specs.declared.table_b.Kind.TheVariants.{Character, Coded, Numeric}
 
--- what the examples compute through
+-- the definitions that the examples unfold
 unfoldable on_literals : ⊤
 unfolding next_record records_from strip_bom field_at begins_with kind_of i64_of integer_of natural_of table_from table_of b.element_of b.plain_of b.scale_of b.width_of b.row_of
     b.with_record_b d.sequence_of d.member_of d.added d.with_record_d
 on_literals = tt
 
--- descriptors
 -- rule: descriptor-fxy
 descriptors :
     (fxy_text 0x0C65 ≡ codes "012101")
@@ -26,7 +25,6 @@ descriptors :
     × (fxy_of (codes "01210") ≡ None)
 descriptors = (refl, refl, refl, refl, refl)
 
--- kinds
 -- rule: kind-by-unit
 kinds :
     (kind_of (codes "ccitt ia5") ≡ Character)
@@ -35,7 +33,6 @@ kinds :
 unfolding on_literals
 kinds = (refl, refl, refl)
 
--- numbers
 numbers :
     (i64_of (codes "-0") ≡ Some (pos 0))
     × (i64_of (codes "-9223372036854775808") ≡ Some (negsuc 9223372036854775807))
@@ -44,7 +41,7 @@ numbers :
 unfolding on_literals
 numbers = (refl, refl, refl, refl)
 
--- Table B
+-- the header of Table B
 abbrev header_b : List ℕ
 header_b = codes "fxy,name,unit,scale,reference,width\n"
 
@@ -69,7 +66,7 @@ faults-b :
 unfolding on_literals
 faults-b = (refl, refl, refl, refl, refl, refl, refl)
 
--- Table D
+-- the header of Table D
 abbrev header_d : List ℕ
 header_d = codes "fxy,member\n"
 
@@ -85,7 +82,7 @@ faults-d :
 unfolding on_literals
 faults-d = (refl, refl, refl)
 
--- two sequences that hold each other: the first of the file is named
+-- two sequences that contain each other; the one that is first in the file is reported
 abbrev circle : List d.Sequence
 circle = record { fxy = 0xC001; members = 0xC002 ∷ [] } ∷ record { fxy = 0xC002; members = 0xC001 ∷ [] } ∷ []
 

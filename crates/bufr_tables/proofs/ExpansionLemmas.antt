@@ -1,4 +1,4 @@
--- Steps of the expansion: trees, cells that are read back, and one part at a time.
+-- Steps of the expansion: trees, cells that are converted back to trees, and one part at a time.
 use Rattle.std.proofs.lemmas.Grind.{common_steps}
 use Rattle.std.proofs.Common.{◌≡◌, max, Bool, true, false, ◌||◌, refl, ◌∙◌, ap, arith, ℕ, zero, suc, ◌+◌, ◌-◌, ◌<◌, List, [], ◌∷◌, drop, Option, Some, None, Result, Ok, Err, sym, sub-one, ◌++◌, length, subst, append_assoc, ◌≤◌, set, ◌≢◌, take, if◌then◌else◌, ◌==◌, ok_or}
 use Rattle.bufr_tables.specs.Prelude.{Tree, bare, element, operator, fixed, delayed, join, depth, consumes, is_inserted_text, gives_width, size, places, TemplateFault, Tables, Expansion, part, ◌>>=◌, part_of, level, inner_of, ExpandedPart, unless, with_places, body_of, sequence_part, element_part, group_part, operator_part, delayed_part, Cell, first_tree, cells_of, factor_first, prepend_cell, read_cells, trees_of_cells, AreCellsOf, IsTemplate, own_places, group_of, first_cell, factor_cells, BuilderModel, growth, places_so_far, push_tree, with_open_group, with_closed_group, PushesTree, PushesPart, IsFaultOrMemory, PushesTreeUnlessMemory, GivesPart, GivesGrowth, OpensGroup, f_of, x_of, y_of}
@@ -10,7 +10,7 @@ use Rattle.bufr_tables.specs.declared.template.Cell.TheVariants as cell
 use Rattle.bufr_tables.specs.declared.expand.Passes.TheVariants as passes
 use Rattle.bufr_tables.specs.declared.fault.TemplateFault.TheVariants as fault
 
--- ---- Trees one after another.
+-- ---- Trees, one after another.
 
 pub join_assoc : (a b c : Tree) → join (join a b) c ≡ join a (join b c)
 join_assoc bare b c = refl
@@ -44,7 +44,7 @@ consumes-join (operator fxy rest) b = ap (λ r. is_inserted_text fxy || r) (cons
 consumes-join (fixed count body rest) b = ap (λ r. consumes body || r) (consumes-join rest b) ∙ or_assoc (consumes body) (consumes rest) (consumes b)
 consumes-join (delayed factor body rest) b = refl
 
--- what is defined after nodes that exist already
+-- a defined tree, after the nodes of another tree
 abbrev pub prefixed : Tree → Result Tree TemplateFault → Result Tree TemplateFault
 prefixed tree rest = rest >>= λ more. Ok (join tree more)
 
@@ -64,7 +64,7 @@ level-skip tables inner given (suc skip) places [] = refl
 level-skip tables inner given zero places (d ∷ after) = refl
 level-skip tables inner given (suc skip) places (d ∷ after) = level-skip tables inner given skip places after
 
--- one part, and what follows it
+-- a list whose first part is defined, and the remaining parts
 pub level-part : (tables : Tables) (inner : Option Expansion) (given : Bool) (places d : ℕ) (after : List ℕ) (tree : Tree) (taken : ℕ)
     → part_of tables inner given places d after ≡ Ok (part tree taken)
     → level tables inner given 0 places (d ∷ after) ≡ prefixed tree (level tables inner (gives_width d) 0 (places + size tree) (drop taken after))
@@ -86,7 +86,7 @@ unfolding inner_of
 inner_of-none tables zero h = refl
 inner_of-none tables (suc room) h = absurd (omega arith)
 
--- ---- Cells are read back as the tree that they hold.
+-- ---- Cells are converted back to the tree that they represent.
 
 read_flattened : (t : Tree) (at : ℕ) (tail : List Cell) (x : Tree) (xs : List Tree) → read_cells tail ≡ x ∷ xs → read_cells (cells_of t at tail) ≡ join t x ∷ xs
 read_flattened bare at tail x xs h = h
@@ -127,7 +127,7 @@ length-flattened cells t h = omega (arith, ap length h.flattened, length-cells t
 pub length-kept : (cells : List Cell) (depth_reported : ℕ) (t : Tree) → IsTemplate cells depth_reported t → length cells ≡ places t
 length-kept cells depth_reported t h = length-flattened cells t h.is_flattened
 
--- a body, then the rest, then the tail
+-- The tail comes after the cells of the group's body and of what follows the group.
 cells_group : (body : Tree) (at : ℕ) (rest tail suffix : List Cell) → ((t : List Cell) → cells_of body at t ≡ cells_of body at [] ++ t) → suffix ≡ rest ++ tail
     → cells_of body at (cell.PassEnd ∷ suffix) ≡ cells_of body at (cell.PassEnd ∷ rest) ++ tail
 cells_group body at rest tail suffix h e = grind (arith, common_steps)
@@ -154,7 +154,7 @@ cells-join (delayed fxy body more) b at tail =
     ap (λ l. cell.Delayed (at + 3 + size body) ∷ cell.Factor fxy ∷ cells_of body (at + 2) (cell.PassEnd ∷ l))
     (cells-join more b (at + 3 + size body) tail ∙ ap (λ k. cells_of more (at + 3 + size body) (cells_of b k tail)) (omega arith))
 
--- ---- Cells with more after them.
+-- ---- Cells that are followed by more cells.
 
 pub same_growth : (c c' : List Cell) (n n' d d' : ℕ) (f f' : Bool) → c ≡ c' → n ≡ n' → d ≡ d' → f ≡ f' → growth c n d f ≡ growth c' n' d' f'
 same_growth c c' n n' d d' f f' p q r s = ap (λ x. growth x n d f) p ∙ ap (λ x. growth c' x d f) q ∙ ap (λ x. growth c' n' x f) r ∙ ap (growth c' n' d') s
@@ -179,7 +179,7 @@ grow-bare g h = same_growth g.cells (g.cells ++ []) g.groups g.groups g.deep (ma
 pub grow-grow : (g : BuilderModel) (a b : Tree) → push_tree (push_tree g a) b ≡ push_tree g (join a b)
 grow-grow g a b = grind (arith, common_steps, same_growth, append_assoc, length-grow, cells-tail, cells-join, depth-join, or_assoc, consumes-join)
 
--- the cells of a group, from those that exist when its body is flattened
+-- The code's cells for a group, of which the first is set last, are those of the definition.
 group_cells : (cells : List Cell) (p : Passes) (body : Tree) (place : ℕ) → place ≡ length cells
     → set (((cells ++ first_cell p 0 ∷ factor_cells p) ++ cells_of body (length (cells ++ first_cell p 0 ∷ factor_cells p)) []) ++ cell.PassEnd ∷ []) place
     (first_cell p (length cells + own_places p + size body))
@@ -199,7 +199,7 @@ group_consumes : (p : Passes) (body : Tree) → consumes body ≡ true → true 
 group_consumes (passes.Fixed count) body h = sym h ∙ or_false (consumes body)
 group_consumes (passes.Delayed factor) body h = refl
 
--- a group that was begun, given a body that takes bits, and ended
+-- A group is opened, its body takes bits, and the group is closed.
 pub ended-begun : (g : BuilderModel) (p : Passes) (body : Tree) (place : ℕ) → place ≡ length g.cells → consumes body ≡ true
     → with_closed_group (push_tree (with_open_group g p) body) place p ≡ push_tree g (group_of p body)
 ended-begun g p body place e full =
@@ -213,16 +213,16 @@ ended-begun g p body place e full =
     (omega (arith, group_depth p body))
     (full ∙ or_true g.full ∙ ap (λ c. g.full || c) (group_consumes p body full))
 
--- ---- The definition of one part, at what the code has found out.
+-- ---- The definition of one part, given what the code has found out.
 
--- a part under another name
+-- Equal definitions of a part can replace each other.
 pub gives_same : (g : BuilderModel) (a b : Result ExpandedPart TemplateFault) (answer : Result ℕ TemplateFault) (new : BuilderModel) → a ≡ b → GivesPart g a answer new → GivesPart g b answer new
 gives_same g a b answer new e = subst (λ z. GivesPart g z answer new) e
 
 pub puts_same : (old : BuilderModel) (a b : Result ExpandedPart TemplateFault) (taken : ℕ) (new : BuilderModel) → a ≡ b → PushesPart old a taken new → PushesPart old b taken new
 puts_same old a b taken new e = subst (λ z. PushesPart old z taken new) e
 
--- one part, by its F
+-- one part, by the F of its descriptor
 abbrev by_f : Tables → Option Expansion → Bool → (places d : ℕ) → List ℕ → (f : ℕ) → Result ExpandedPart TemplateFault
 by_f tables inner given places d after f =
     if f == 0 then element_part tables given places d
@@ -258,7 +258,7 @@ pub part-sequence : (tables : Tables) (inner : Option Expansion) (given : Bool) 
 unfolding part_of
 part-sequence tables inner given places d after f e h0 h1 h2 = other_part tables inner given places d after f h0 h1 h2 ∙ ap (by_f tables inner given places d after) e
 
--- what is left of a body once it may be opened
+-- the remaining steps for a body, once its depth is known to be allowed
 abbrev pub opened_body : Expansion → (places own d : ℕ) → List ℕ → Result Tree TemplateFault
 opened_body expand places own d after =
     with_places places own d >>= λ _. expand (places + own) (take (x_of d) after) >>= λ body. unless (consumes body) (fault.EmptyGroup d) >>= λ _. Ok body
@@ -267,7 +267,7 @@ body_fits : (inner : Option Expansion) (places own d : ℕ) (after : List ℕ) �
     → body_of inner places own d after ≡ (ok_or inner (fault.Depth d) >>= λ expand. opened_body expand places own d after)
 body_fits inner places own d after h = grind (arith, common_steps)
 
--- the expansion within, where there is room
+-- the expansion of a body, if `room` allows another level
 abbrev pub within : Tables → ℕ → Expansion
 within tables room = level tables (inner_of tables (room - 1)) false 0
 
@@ -322,7 +322,7 @@ sequence-ok tables room d members old new r e puts = record {
   is_put = puts.is_put;
 }
 
--- a group, defined by its body
+-- the tree of a group, from the expansion of its body
 abbrev pub grouped : Tables → ℕ → Passes → (places d : ℕ) → List ℕ → Result Tree TemplateFault
 grouped tables room p places d after = body_of (inner_of tables room) places (own_places p) d after >>= λ body. Ok (group_of p body)
 
@@ -334,7 +334,7 @@ pub group-places : (tables : Tables) (room : ℕ) (p : Passes) (places d : ℕ) 
 group-places tables room p places d after why r h refuses other =
     ap (λ z. z >>= λ body. Ok (group_of p body)) (body-places tables room places (own_places p) d after why r h (refuses other))
 
--- the body's list, as the code has it
+-- The code expands the same body list as the definition.
 same_list : (tables : Tables) (room : ℕ) (p : Passes) (d place : ℕ) (after : List ℕ) (old begun_one : BuilderModel) (count x : ℕ) (list : List ℕ) → OpensGroup old p d place begun_one
     → list ≡ take count after → count ≡ x → x ≡ x_of d → level tables (inner_of tables (room - 1)) false 0 (places_so_far begun_one) list
     ≡ within tables room (places_so_far old + own_places p) (take (x_of d) after)
@@ -347,7 +347,7 @@ group-list-fault tables room p d place after old begun_one why count x list r h 
     ap (λ z. z >>= λ body. Ok (group_of p body))
     (body-fault tables room (places_so_far old) (own_places p) d after why r h begins.is_left (sym (same_list tables room p d place after old begun_one count x list begins el ec ex) ∙ refuses other))
 
--- whether the body takes bits, as the code has it
+-- The code and the definition agree on whether the body takes bits.
 same_full : (old begun_one new : BuilderModel) (p : Passes) (d place : ℕ) (tree : Tree) → OpensGroup old p d place begun_one → new ≡ push_tree begun_one tree → new.full ≡ consumes tree
 same_full old begun_one new p d place tree begins e = ap (λ (g : BuilderModel). g.full) e ∙ ap (λ (g : BuilderModel). (push_tree g tree).full) begins.is_begun
 
@@ -374,7 +374,7 @@ group-list-ok tables room p d place after old begun_one new last count x list r 
           ∙ ended-begun old p puts.tree place begins.is_at takes_bits;
     }
 
--- the answer of a group is that of its last step
+-- The result of a group is that of its last step.
 pub group-closed : (tables : Tables) (room : ℕ) (p : Passes) (d place : ℕ) (after : List ℕ) (old begun_one new last : BuilderModel) (count x : ℕ) (list : List ℕ)
     (answer : Result (Unit {0}) TemplateFault) → 0 < room → x_of d ≤ length after → OpensGroup old p d place begun_one → list ≡ take count after → count ≡ x → x ≡ x_of d
     → PushesTree begun_one (level tables (inner_of tables (room - 1)) false 0 (places_so_far begun_one) list) new → new.full ≡ true → GivesGrowth (Ok (with_closed_group new place p)) answer last
@@ -383,7 +383,7 @@ group-closed tables room p d place after old begun_one new last count x list (Ok
     group-list-ok tables room p d place after old begun_one new last count x list r h begins el ec ex puts full (same_ok (with_closed_group new place p) last is_ended)
 group-closed tables room p d place after old begun_one new last count x list (Err why) r h begins el ec ex puts full refuses = λ other. absurd (let e = refuses other in cc)
 
--- a replication of no passes takes a factor
+-- A replication with Y = 0 is a delayed one.
 pub group-delayed : (tables : Tables) (inner : Option Expansion) (places d x y : ℕ) (after : List ℕ) → x ≡ x_of d → 0 < x → y ≡ y_of d → y ≤ 0
     → delayed_part tables inner places d after ≡ group_part tables inner places d after
 group-delayed tables inner places d x y after ex some ey none = let zero_passes : y_of d ≡ 0 = omega arith in let more : 0 < x_of d = omega arith in grind (arith, common_steps, nat_tests)
@@ -392,9 +392,10 @@ pub group-fixed-fault : (tables : Tables) (inner : Option Expansion) (places d y
     → (body_of inner places 2 d after >>= λ body. Ok (group_of (passes.Fixed y) body)) ≡ Err why → group_part tables inner places d after ≡ Err why
 group-fixed-fault tables inner places d y after why some more e = grind (arith, common_steps)
 
--- ---- How far the expansion of one list has come.
+-- ---- The progress of the expansion of one list.
 
--- some nodes have been put, and the whole list gives them and what the rest gives
+-- Some nodes were pushed. The tree of the whole list is these nodes, followed by the tree of the
+-- remaining list.
 pub record Came (tables : Tables) (inner : Option Expansion) (list : List ℕ) (start : BuilderModel) (given : Bool) (rest : List ℕ) (now : BuilderModel) : Type 0 where
   pub tree : Tree
   pub is_put : now ≡ push_tree start tree

@@ -12,7 +12,7 @@ use Rattle.bufr_tables.specs.declared.fault.TableFault.{TableFault}
 use Rattle.bufr_tables.specs.declared.fault.TableFault.TheVariants.{Header, Row, Duplicate, TableSize, Csv}
 use Rattle.bufr_tables.specs.declared.table_b.Kind.TheVariants.{Character, Coded, Numeric}
 
--- what the examples compute through
+-- the definitions that the examples unfold
 unfoldable on_literals : ⊤
 unfolding next_record records_from strip_bom field_at begins_with kind_of i64_of integer_of natural_of table_from table_of b.element_of b.plain_of b.scale_of b.width_of b.row_of
     b.with_record_b d.sequence_of d.member_of d.added d.with_record_d
@@ -23,7 +23,7 @@ table_b : List ℕ → Result ℕ TableFault
 unfolding on_literals
 table_b text = b.table_b_of (records_of text) >>= λ rows. Ok (length rows)
 
--- the number of sequences in a text of Table D, or its fault before cycles are looked for
+-- the number of sequences in a text of Table D, or its fault, without a search for cycles
 table_d : List ℕ → Result ℕ TableFault
 unfolding on_literals
 table_d text = d.table_d_of (records_of text) >>= λ sequences. Ok (length sequences)
@@ -101,7 +101,7 @@ digits-of-a-descriptor :
     × (fxy_of (codes " 01001") ≡ None)
 digits-of-a-descriptor = (refl, refl, refl, refl, refl, refl, refl, refl)
 
--- F is 0 in Table B, 3 in Table D, and any for a member
+-- F is 0 in Table B and 3 in Table D; a member may have any F.
 -- rule: fault-41-of-table-b
 descriptors-of-b :
     (rows_b (codes "000000,A,K,0,0,7\n063255,A,K,0,0,7\n") ≡ Ok 2)
@@ -161,7 +161,7 @@ octets-of-units = (refl, refl, refl)
 
 -- ---- Scale, reference and width.
 
--- an optional minus sign, and one or more digits
+-- an optional minus sign and at least one digit
 -- rule: fault-41-of-table-b
 numbers-of-a-row :
     (i64_of (codes "0") ≡ Some (pos 0))
@@ -216,7 +216,7 @@ widths-of-figures :
 unfolding rows_b
 widths-of-figures = (refl, refl, refl, refl)
 
--- from 1 to 255 whole octets
+-- 1 to 255 whole octets
 -- rule: fault-41-of-table-b
 widths-of-texts :
     (rows_b (codes "001001,A,CCITT IA5,0,0,8\n") ≡ Ok 1)
@@ -230,7 +230,7 @@ widths-of-texts :
 unfolding rows_b
 widths-of-texts = (refl, refl, refl, refl, refl, refl, refl, refl)
 
--- the whole unit decides whether an element is text, its first words whether it is coded
+-- The whole unit decides whether an element is text. Its first words decide whether it is coded.
 -- rule: kind-by-unit
 kinds-of-units :
     (kind_of (codes "CCITT IA5") ≡ Character)
@@ -270,7 +270,7 @@ widths-of-factors :
 unfolding rows_b
 widths-of-factors = (refl, refl, refl, refl, refl, refl, refl)
 
--- scale and reference are zero, and a factor is no text
+-- Scale and reference are zero, and a factor is not text.
 -- rule: fault-41-of-table-b
 rows-of-factors :
     (rows_b (codes "031001,A,Code table,0,0,8\n") ≡ Ok 1)
@@ -337,7 +337,7 @@ row-before-duplicate :
 unfolding rows_b rows_d
 row-before-duplicate = (refl, refl)
 
--- the sequences 3 00 001 and 3 00 002 before these records
+-- a table with the sequences 3 00 001 and 3 00 002, to which the records are added
 abbrev two_sequences : List d.Sequence
 two_sequences = record { fxy = 0xC001; members = 0x0101 ∷ [] } ∷ record { fxy = 0xC002; members = 0x0101 ∷ [] } ∷ []
 
@@ -351,7 +351,7 @@ unfolding on_literals
 others-before-size = (refl, refl, refl, refl)
 
 -- ---- Faults in several records: the header is checked first, then each record. An empty line is
--- no record.
+-- not a record.
 
 -- rule: first-record-decides
 first-record-at-fault :
@@ -364,7 +364,7 @@ first-record-at-fault :
 unfolding table_b rows_b rows_d
 first-record-at-fault = (refl, refl, refl, refl, refl, refl)
 
--- cycles are looked for last: a later invalid record of a table with a cycle is reported
+-- The search for cycles comes last: an invalid record after the rows of a cycle is reported.
 -- rule: fault-43-last
 records-before-cycle :
     (rows_d (codes "300001,300001\n") ≡ Ok 1)

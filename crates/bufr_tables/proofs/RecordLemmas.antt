@@ -1,4 +1,4 @@
--- Steps of a reader of records, its rows and its numbers.
+-- Steps of a record reader, its rows and its numbers.
 use Rattle.std.proofs.lemmas.Grind.{common_steps}
 use Rattle.std.proofs.Common.{◌≡◌, ℕ, neg_ℤ, ◌+◌, ◌^◌, ◌<◌, ◌≤◌, Bool, true, false, List, [], ◌∷◌, ◌++◌, length, Option, Some, None, refl, ap, ◌∙◌, add-one, arith, suc, zero, Bor, inl, inr, sym, drop, get_or, Result, Ok, Err, ◌≢◌, ◌-◌, ◌*◌, min, take, ℤ, pos, option_map, IsSome, if◌then◌else◌, ◌==◌, ◌&&◌, not, option_and_then}
 use Rattle.std.proofs.lemmas.Bool.{cases_Bool}
@@ -27,12 +27,12 @@ use Rattle.bufr_tables.specs.declared.fault.TableFault.TheVariants.{Header, Row,
 use Rattle.csv.specs.declared.parser.State.TheVariants as st
 use Rattle.csv.specs.declared.parser.Terminator.TheVariants as term
 
--- after the octet that ends a record no record has begun
+-- After the octet that ends a record, no record has begun.
 after_end-between : (t : Terminator) (c : ℕ) → ends_at_end (after_end t c) ≡ false
 after_end-between term.CRLF c = elim (cases_Bool (c == 13)) [ inl e ↦ rw e refl | inr e ↦ rw e refl ]
 after_end-between (term.Any t) c = refl
 
--- an action that ends the record leaves no record begun
+-- After an action that ends the record, no record has begun.
 abbrev Ends : State × Action → Type 0
 Ends move = is_end move.1 ≡ true → ends_at_end move.0 ≡ false
 
@@ -62,8 +62,8 @@ step-between cfg st.AfterQuote c = Ends-cond (cfg.quoting && cfg.double_quote &&
 step-between cfg st.InComment c = Ends-cond (c == 10) _ _ (λ e. cc e) (λ e. cc e)
 step-between cfg st.AfterCr c = Ends-cond (c == 10) _ _ (λ e. cc e) (start_record-between cfg c)
 
--- a record leaves the reader between two records, with fewer octets where it stood between two
--- before
+-- A read record leaves the reader between two records. If the reader was between two records
+-- before, fewer octets remain.
 pub record Leaves (s : State) (xs : List ℕ) (read : Read) : Type 0 where
   pub between : ends_at_end read.1 ≡ false
   pub most : length read.2 ≤ length xs
@@ -87,7 +87,7 @@ next_record-leaves cfg s fields field (c ∷ xs) read is =
     by true e is more = let same = same_Some _ _ is in rw (← same) (record { between = step-between cfg s c e; most = omega arith; fewer = λ _. omega arith })
     by false e is more = let h = more is in record { between = h.between; most = omega (arith, h.most); fewer = λ _. omega (arith, h.most) }
 
--- more turns than octets give the same records
+-- If there are more turns than octets, their number makes no difference.
 pub records_from-enough : (cfg : Config) (n m : ℕ) (s : State) (xs : List ℕ) → ends_at_end s ≡ false → length xs < n → length xs < m
     → records_from cfg n s xs ≡ records_from cfg m s xs
 unfolding records_from
@@ -104,7 +104,7 @@ records_from-enough cfg (suc n) (suc m) s xs between a b = by (next_record cfg s
         let less : length read.2 < length xs = left.fewer between in
         ap (λ (rest : List Record). read.0 ∷ rest) (more read.1 read.2 left.between (omega arith) (omega arith))
 
--- what a read that found a record did
+-- the effects of a read that found a record
 pub record Found (a : State) (before : Option (List ℕ)) (b : State) (after : Option (List ℕ)) (fields : Record) : Type 0 where
   pub records : records_after a before ≡ fields ∷ records_after b after
   pub known : IsSome after
@@ -135,7 +135,7 @@ found-record a b None after fields between known read = cc known
 found-record a b (Some xs) None fields between known read = absurd read
 found-record a b (Some xs) (Some ys) fields between known read = found-next a b xs ys fields between read
 
--- a read that found none
+-- a read that found no record
 found-no_more : (a b : State) (xs ys : List ℕ) (fields : Record) → NextIs (next_record default_config a [] [] xs) false fields b ys → records_after a (Some xs) ≡ []
 unfolding records_from
 found-no_more a b xs ys fields next = grind (arith, common_steps)
@@ -146,7 +146,7 @@ found-end a b None after fields known read = refl
 found-end a b (Some xs) None fields known read = absurd read
 found-end a b (Some xs) (Some ys) fields known read = found-no_more a b xs ys fields read
 
--- a text without its mark is no longer than with it
+-- A text without its byte order mark is no longer than with it.
 pub stripped-count : (text : List ℕ) (m : ℕ) → length text < m → 0 + length (strip_bom text) < m
 unfolding strip_bom
 stripped-count [] m h = omega arith
@@ -154,11 +154,11 @@ stripped-count (a ∷ []) m h = omega arith
 stripped-count (a ∷ b ∷ []) m h = omega arith
 stripped-count (a ∷ b ∷ c ∷ rest) m h = grind (arith, common_steps)
 
--- after the start of a text the reader reads from its buffer
+-- After the check for a byte order mark, the reader reads from its buffer.
 pending-is : (reader : Reader (Bor (List ℕ))) → reader.bom_checked ≡ true → text_left reader ≡ pending_of (Some reader.rdr.now) reader
 pending-is reader with_open_group = rw with_open_group refl
 
--- what a read does that found a record
+-- the effects on the record reader, if a record was found
 module _ (old new : RecordReader) (was : IsBetween old) (read : ReadRecord (λ s. Some s.now) old.reader new.reader true (record_given new)) where
   pub reader-found : Found (reader_state old.reader) (text_left old.reader) (reader_state new.reader) (text_left new.reader) (record_given new)
   reader-found =
@@ -183,7 +183,7 @@ module _ (old new : RecordReader) (was : IsBetween old) (read : ReadRecord (λ s
     fewer = λ _. reader-found.fewer;
   }
 
--- what a read does that found none
+-- the effects on the record reader, if no record was found
 pub gives-end : (old new : RecordReader) (fields : Record) → IsBetween old → ReadRecord (λ s. Some s.now) old.reader new.reader false fields → GivesNext old new false
 gives-end old new fields was read = record {
   next = found-end _ (reader_state new.reader) _ _ fields was.known (rw was.config at read.0);
@@ -194,7 +194,7 @@ gives-end old new fields was read = record {
 
 -- ---- The rows of a table, one record after another.
 
--- records of other lengths
+-- A record with another number of fields does not match the names.
 pub other-length : (names : List (Bor (List ℕ))) (r : Record) → (length r ≡ length names → ⊥) → pointwise bytes_eq r (field_texts names) ≡ false
 other-length [] [] other = absurd (other refl)
 other-length [] (field ∷ fields) other = refl
@@ -205,11 +205,11 @@ other-length (name ∷ names) (field ∷ fields) other = by (bytes_eq field name
     by true e = e
     by false e = refl
 
--- fields that are equal to names one by one
+-- Fields that match the names one by one are equal to the names.
 pub names-are : (r : Record) (names : List (List ℕ)) → pointwise bytes_eq r names ≡ true → r ≡ names
 names-are r names e = (slice_eq-Decides bytes_eq-Decides r names true (sym e)).0 refl
 
--- the fields from one place on
+-- The fields from an index on match if the first of them matches and the others match.
 fields-at : (names : List (Bor (List ℕ))) (r : Record) (place : ℕ) (d : Bor (List ℕ)) → length r ≡ length names → place < length names
     → pointwise bytes_eq (drop place r) (drop place (field_texts names))
     ≡ (bytes_eq (field_of r place) (get_or names place d).now && pointwise bytes_eq (drop (suc place) r) (drop (suc place) (field_texts names)))
@@ -219,7 +219,7 @@ fields-at (name ∷ names) [] place d same inside = absurd (omega arith)
 fields-at (name ∷ names) (field ∷ fields) zero d same inside = refl
 fields-at (name ∷ names) (field ∷ fields) (suc place) d same inside = fields-at names fields place d (omega (arith, same)) (omega arith)
 
--- one field, distinguished from its name or not
+-- one field, which was compared with its name
 module _ (names : List (Bor (List ℕ))) (r : Record) (place : ℕ) (d : Bor (List ℕ)) (field : List ℕ) (differs : Bool) (same : length r ≡ length names) (inside : place < length names)
     (is : field ≡ field_of r place) (reported : differs ≡ not (bytes_eq field (get_or names place d).now))
     (so_far : pointwise bytes_eq r (field_texts names) ≡ pointwise bytes_eq (drop place r) (drop place (field_texts names))) where
@@ -239,36 +239,36 @@ module _ (names : List (Bor (List ℕ))) (r : Record) (place : ℕ) (d : Bor (Li
       by false e is_not = cc is_not
 
 module _ (A : Type 0) (names : List (List ℕ)) (with_record : ℕ → A → Record → Result A TableFault) (none : A) (records : List Record) where
-  -- after the header
+  -- The header was read.
   pub table-opened : (r : RecordReader) → IsOpened names records r → table_of names with_record none records ≡ table_from with_record (r.number + 1) none (records_left r)
   unfolding table_of
   table-opened r is = rw (is.header, is.number, is.rest) refl
 
-  -- without the header
+  -- There is no valid header.
   pub table-closed : has_header names records ≡ false → table_of names with_record none records ≡ Err Header
   unfolding table_of
   table-closed is = rw is refl
 
 module _ (A : Type 0) (with_record : ℕ → A → Record → Result A TableFault) (old new : RecordReader) (found : Bool) (step : GivesNext old new found)
     (answer : Result A TableFault) (table : A) (so_far : answer ≡ table_from with_record (old.number + 1) table (records_left old)) where
-  -- one record more
+  -- Another record is added.
   pub table-more : (more : A) → found ≡ true → with_record new.number table (record_given new) ≡ Ok more → answer ≡ table_from with_record (new.number + 1) more (records_left new)
   unfolding table_from
   table-more more is row = so_far ∙ rw step.next (rw (is, ← step.number is, row) refl)
 
-  -- a record at fault
+  -- A record is invalid.
   pub table-fault : (fault : TableFault) → found ≡ true → with_record new.number table (record_given new) ≡ Err fault → answer ≡ Err fault
   unfolding table_from
   table-fault fault is row = so_far ∙ rw step.next (rw (is, ← step.number is, row) refl)
 
-  -- the end
+  -- There are no more records.
   pub table-end : found ≡ false → answer ≡ Ok table
   unfolding table_from
   table-end is = so_far ∙ rw step.next (rw is refl)
 
--- ---- The answer of a call whose memory may run out.
+-- ---- The result of a call that may run out of memory.
 
--- a fault that is expected, unless it is want of memory
+-- The fault is the expected one, unless it is `Memory`.
 pub gives-fault : (A : Type 0) (expected answer : Result A TableFault) (fault : TableFault) → answer ≡ Err fault → (fault ≢ Memory → expected ≡ Err fault) → ReturnsUnlessMemory expected answer
 gives-fault A expected answer fault is same = rw is same
 
@@ -291,7 +291,7 @@ unfolding table_of
 table-no_cycle [] fxy e = cc e
 table-no_cycle (first ∷ rest) fxy e = grind (arith, common_steps, rows-no_cycle)
 
--- the same of a read of Table D, which comes to the cycles only after all records
+-- The same for a read of Table D, which looks for cycles only after all records.
 pub reads-fault : (records : List Record) (answer : Result (List Sequence) TableFault) (fault : TableFault) → answer ≡ Err fault → (fault ≢ Memory → table_d_of records ≡ Err fault)
     → ReadsTableD records answer
 reads-fault records answer Header is given = rw is given
@@ -302,7 +302,7 @@ reads-fault records answer TableSize is given = rw is given
 reads-fault records answer Csv is given = rw is given
 reads-fault records answer Memory is given = rw is given
 
--- ---- Digits one after another, and numbers past their bits.
+-- ---- Digits one after another, and numbers that do not fit.
 
 digit_at : (digits : List ℕ) (i : ℕ) → list_all is_ascii_digit digits ≡ true → i < length digits → is_ascii_digit (get_or digits i 0) ≡ true
 digit_at digits i all inside = by (is_ascii_digit (get_or digits i 0)) refl
@@ -311,7 +311,7 @@ digit_at digits i all inside = by (is_ascii_digit (get_or digits i 0)) refl
     by true e = e
     by false e = cc (all, list_all_at is_ascii_digit digits i 0 inside e)
 
--- the number so far, held at most m
+-- the number so far, capped at m
 pub number_more : (digits : List ℕ) (i number m tens digit more : ℕ) → i < length digits → list_all is_ascii_digit digits ≡ true
     → number ≡ min (digits_value 10 (take i digits)) m
     → tens ≡ min (number * 10) m → digit ≡ get_or digits i 0 - 48 → more ≡ min (tens + digit) m
@@ -322,7 +322,7 @@ number_more digits i number m tens digit more inside all is by_ten last sum =
     let own : digit_value d + 48 ≡ d = digit_value_digit d (grind (arith, nat_tests), grind (arith, nat_tests)) in
     omega (arith, digits_value_more 10 digits i inside, own, is, by_ten, last, sum)
 
--- ---- The number, where 64 bits hold it.
+-- ---- The number, if it fits in 64 bits.
 
 abbrev pub negated : ℕ → ℤ
 negated n = neg_ℤ (pos n)
@@ -330,7 +330,7 @@ negated n = neg_ℤ (pos n)
 abbrev pub if_i64 : ℤ → Option ℤ
 if_i64 z = only_if (fits_i64 z) z
 
--- a magnitude past 64 bits fits no more than the greatest of 64 bits
+-- A magnitude that does not fit in 64 bits does not fit an `i64`, even if it is capped.
 pub fitting-capped : (n : ℕ) → if_i64 (pos (min n (2 ^ 64 - 1))) ≡ if_i64 (pos n)
 fitting-capped n = grind arith
 
@@ -342,13 +342,13 @@ pub fitting-negated_capped : (n : ℕ) → if_i64 (negated (min n (2 ^ 64 - 1)))
 fitting-negated_capped zero = refl
 fitting-negated_capped (suc n) = grind (arith, common_steps)
 
--- what follows from the number that digits write, whether there is one or not
+-- the `i64` of a capped number, if there is a number
 capped_then : (o : Option ℕ) (f : ℕ → ℤ) (m : ℕ) → ((n : ℕ) → if_i64 (f (min n (2 ^ 64 - 1))) ≡ if_i64 (f n))
     → Some m ≡ option_map (λ n. min n (2 ^ 64 - 1)) o → if_i64 (f m) ≡ option_and_then if_i64 (option_map f o)
 capped_then None f m same is = cc is
 capped_then (Some n) f m same is = grind (arith, common_steps)
 
--- what an `i64` holds of a magnitude that was held at most the greatest `u64`
+-- the `i64` of a text, from a magnitude that is capped at the greatest `u64`
 pub i64_of-negative : (text digits : List ℕ) (m : ℕ) (result : Option ℤ) → (get_or text 0 0 == 45) ≡ true → digits ≡ drop 1 text
     → Some m ≡ option_map (λ n. min n (2 ^ 64 - 1)) (natural_of digits) → result ≡ if_i64 (negated m) → result ≡ i64_of text
 unfolding i64_of integer_of

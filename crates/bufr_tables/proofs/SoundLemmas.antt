@@ -1,4 +1,4 @@
--- What is true of each tree that the expansion gives.
+-- Properties of every tree that the expansion returns.
 use Rattle.std.proofs.lemmas.Grind.{common_steps}
 use Rattle.std.proofs.lemmas.Bool.Decides.{nat_tests}
 use Rattle.std.proofs.Common.{◌≡◌, ◌≢◌, ℕ, zero, suc, ◌+◌, ◌<◌, ◌≤◌, ◌==◌, Bool, true, false, not, ◌&&◌, ◌||◌, List, [], ◌∷◌, length, take, Option, Some, None, Result, Ok, Err, refl, sym, ◌∙◌, ap, subst, arith, inl, inr, ◌++◌, drop, append_assoc, IfOk, nat_le, nat_lt, ok_or, slice_index, if◌then◌else◌}
@@ -9,7 +9,7 @@ use Rattle.std.proofs.lemmas.List.{append-nil, take-append-drop}
 use Rattle.bufr_tables.specs.declared.fault.TemplateFault.TheVariants as fault
 use Rattle.bufr_tables.specs.declared.template.Cell.TheVariants as cell
 
--- the two steps of one that went well
+-- both steps of a sequence that succeeded
 pub record Steps {A B : Type 0} (first : Result A TemplateFault) (next : A → Result B TemplateFault) (last : B) : Type 0 where
   pub middle : A
   pub first_is : first ≡ Ok middle
@@ -19,7 +19,7 @@ pub steps : {A B : Type 0} (first : Result A TemplateFault) (next : A → Result
 steps (Ok a) next last h = record { middle = a; first_is = refl; then_is = h }
 steps (Err why) next last h = absurd cc
 
--- a step that is a test
+-- the same, if the first step is a test
 pub record Tested {B : Type 0} (test : Bool) (next : Result B TemplateFault) (last : B) : Type 0 where
   pub met : test ≡ true
   pub then_is : next ≡ Ok last
@@ -28,7 +28,7 @@ pub tested : {B : Type 0} (test : Bool) (why : TemplateFault) (next : Result B T
 tested true why next last h = record { met = refl; then_is = h }
 tested false why next last h = absurd cc
 
--- what holds of a tree, with room for so many groups round a node
+-- the properties of a tree with at most `room` groups around any node
 pub record IsFine (known : ℕ → Bool) (room : ℕ) (given : Bool) (tree : Tree) : Type 0 where
   pub groups : EveryGroupConsumes tree
   pub is_known : IsKnownAfter known given tree
@@ -42,7 +42,7 @@ or_true : (a : Bool) → a ≡ true → (given : Bool) → (given || a) ≡ true
 or_true a h true = refl
 or_true a h false = h
 
--- with the first width given too
+-- If the elements are known, they are also known after an operator that gives a width.
 known_given : (known : ℕ → Bool) (given : Bool) (tree : Tree) → IsKnownAfter known false tree → IsKnownAfter known given tree
 known_given known given bare h = tt
 known_given known given (element fxy rest) h = (or_true (known fxy) h.0 given, h.1)
@@ -86,7 +86,7 @@ fine-join known room given a b h more = record {
   shallow = omega (arith, depth-join a b, h.shallow, more.shallow);
 }
 
--- what is expanded within gives fine trees, with less room
+-- The inner expansion returns trees with these properties, and with less room.
 abbrev pub IsInnerFine : (ℕ → Bool) → ℕ → Option Expansion → Type 0
 IsInnerFine known room None = Unit {0}
 IsInnerFine known room (Some expand) = (room' : ℕ) × (room' < room) × ((places : ℕ) (list : List ℕ) (tree : Tree) → expand places list ≡ Ok tree → IsFine known room' false tree)
@@ -100,7 +100,7 @@ fine_plainly known room given rest e = subst (λ g. IsFine known room g rest) e
 pub part_is : (a b : ExpandedPart) → ◌≡◌ {A = Result ExpandedPart TemplateFault} (Ok a) (Ok b) → a ≡ b
 part_is a b h = cc
 
--- an element, and the rest after it
+-- an element, followed by the remaining list
 element_joins : (tables : Tables) (room : ℕ) (given : Bool) (places d : ℕ) (first : ExpandedPart) (rest : Tree) → f_of d ≡ 0 → element_part tables given places d ≡ Ok first
     → IsFine tables.known room (gives_width d) rest → IsFine tables.known room given (join first.tree rest)
 element_joins tables room given places d first rest f h fine =
@@ -115,7 +115,7 @@ or_met : (gives begins : Bool) → (not gives || begins) ≡ true → gives ≡ 
 or_met true begins h e = h
 or_met false begins h e = absurd cc
 
--- an operator, and the rest after it
+-- an operator, followed by the remaining list
 operator_joins : (known : ℕ → Bool) (room : ℕ) (given : Bool) (places d : ℕ) (after : List ℕ) (first : ExpandedPart) (rest : Tree) → f_of d ≡ 2 → operator_part places d after ≡ Ok first
     → (begins_with_element after ≡ true → first.taken ≡ 0 → is_element_first rest ≡ true) → IsFine known room (gives_width d) rest → IsFine known room given (join first.tree rest)
 operator_joins known room given places d after first rest f h begins fine =
@@ -129,7 +129,7 @@ operator_joins known room given places d after first rest f h begins fine =
     subst (λ (p : ExpandedPart). IsFine known room given (join p.tree rest)) e
     (record { groups = fine.groups; is_known = fine.is_known; legal = (f, (legal.met, (begin, fine.legal))); shallow = fine.shallow })
 
--- the body of a group
+-- the properties of a group's body
 pub record IsFineBody (known : ℕ → Bool) (room : ℕ) (body : Tree) : Type 0 where
   pub fine : IsFine known room false body
   pub deeper : 1 + depth body ≤ room
@@ -156,7 +156,7 @@ body_fine known room (Some expand) fine places own d after body h =
       full = full.met;
     })
 
--- a group of a fixed count, and the rest after it
+-- a fixed group, followed by the remaining list
 fixed_joins : (known : ℕ → Bool) (room : ℕ) (inner : Option Expansion) → IsInnerFine known room inner → (given : Bool) (places d : ℕ) (after : List ℕ) (first : ExpandedPart) (rest : Tree)
     → 0 < y_of d → fixed_part inner places d after ≡ Ok first → IsFine known room false rest → IsFine known room given (join first.tree rest)
 fixed_joins known room inner fine given places d after first rest y h plain =
@@ -171,7 +171,7 @@ fixed_joins known room inner fine given places d after first rest y h plain =
       shallow = omega (arith, body.deeper, plain.shallow);
     })
 
--- a delayed group, and the rest after it
+-- a delayed group, followed by the remaining list
 delayed_joins : (tables : Tables) (room : ℕ) (inner : Option Expansion) → IsInnerFine tables.known room inner → (given : Bool) (places d : ℕ) (after : List ℕ) (first : ExpandedPart) (rest : Tree)
     → delayed_part tables inner places d after ≡ Ok first → IsFine tables.known room false rest → IsFine tables.known room given (join first.tree rest)
 delayed_joins tables room inner fine given places d [] first rest h plain = absurd cc
@@ -199,14 +199,14 @@ by_y_joins (suc count) tables room inner fine given places d after first rest e 
     let some : (suc count == 0) ≡ false = grind (arith, nat_tests) in
     fixed_joins tables.known room inner fine given places d after first rest (subst (λ n. 0 < n) e (omega arith)) (rw some at h) plain
 
--- a group, and the rest after it
+-- a group of either kind, followed by the remaining list
 group_joins : (tables : Tables) (room : ℕ) (inner : Option Expansion) → IsInnerFine tables.known room inner → (given : Bool) (places d : ℕ) (after : List ℕ) (first : ExpandedPart) (rest : Tree)
     → group_part tables inner places d after ≡ Ok first → IsFine tables.known room false rest → IsFine tables.known room given (join first.tree rest)
 group_joins tables room inner fine given places d after first rest h plain =
     let shaped = tested (nat_lt 0 (x_of d)) (fault.GroupShape d) (if y_of d == 0 then delayed_part tables inner places d after else fixed_part inner places d after) first h in
     by_y_joins (y_of d) tables room inner fine given places d after first rest refl shaped.then_is plain
 
--- a sequence, and the rest after it
+-- a sequence, followed by the remaining list
 sequence_joins : (tables : Tables) (room : ℕ) (inner : Option Expansion) → IsInnerFine tables.known room inner → (given : Bool) (places d : ℕ) (first : ExpandedPart) (rest : Tree)
     → sequence_part tables inner places d ≡ Ok first → IsFine tables.known room false rest → IsFine tables.known room given (join first.tree rest)
 sequence_joins tables room None fine given places d first rest h plain =
@@ -242,14 +242,14 @@ part_joins tables room inner fine given places d after first rest h begins more 
         (part-sequence tables inner given places d after (suc (suc (suc f))) e (λ x. omega arith) (λ x. omega arith) (λ x. omega arith) ∙ h)
         (fine_plainly tables.known room (gives_width d) rest (no_width d (suc (suc (suc f))) e (omega arith)) more)
 
--- a list that begins with an element gives a tree that does
+-- A list that begins with an element has a tree that begins with an element.
 level_begins : (tables : Tables) (inner : Option Expansion) (given : Bool) (places : ℕ) (after : List ℕ) (rest : Tree) → begins_with_element after ≡ true
     → level tables inner given 0 places after ≡ Ok rest → is_element_first rest ≡ true
 unfolding level
 level_begins tables inner given places [] rest b h = absurd cc
 level_begins tables inner given places (d ∷ after) rest b h = grind (arith, common_steps, steps, part-element, eqb-true, tested, part_is, tree_is)
 
--- what a list gives is fine
+-- The tree of a list has these properties.
 level_fine : (tables : Tables) (room : ℕ) (inner : Option Expansion) → IsInnerFine tables.known room inner → (given : Bool) (skip places : ℕ) (list : List ℕ) (tree : Tree)
     → level tables inner given skip places list ≡ Ok tree → IsFine tables.known room given tree
 unfolding level
@@ -271,7 +271,7 @@ unfolding inner_of
 inner_fine tables zero = tt
 inner_fine tables (suc room) = (room, omega arith, λ places list tree h. level_fine tables room (inner_of tables room) (inner_fine tables room) false 0 places list tree h)
 
--- the tree of a whole list is fine, and takes bits
+-- the properties of the tree of a whole list, which also takes bits
 pub record IsFineWhole (known : ℕ → Bool) (tree : Tree) : Type 0 where
   pub sound : IsSound tree
   pub is_known : IsKnown known tree
@@ -288,7 +288,7 @@ tree_fine tables list tree h =
     subst (IsFineWhole tables.known) (tree_is one.middle tree full.then_is)
     (record { sound = (fine.groups, full.met); is_known = fine.is_known; legal = fine.legal; shallow = fine.shallow })
 
--- ---- The tree that the expansion gives says what the list says.
+-- ---- The leaves of the expanded tree are those that the list describes.
 
 pub leaves-join : (a b : Tree) → leaves (join a b) ≡ leaves a ++ leaves b
 leaves-join bare b = refl
@@ -297,7 +297,7 @@ leaves-join (operator fxy rest) b = ap (λ l. fxy ∷ l) (leaves-join rest b)
 leaves-join (fixed count body rest) b = ap (λ l. leaves body ++ l) (leaves-join rest b) ∙ sym (append_assoc (leaves body) (leaves rest) (leaves b))
 leaves-join (delayed factor body rest) b = ap (λ l. factor ∷ l) (ap (λ l. leaves body ++ l) (leaves-join rest b) ∙ sym (append_assoc (leaves body) (leaves rest) (leaves b)))
 
--- one list after another
+-- two lists, one after the other
 says-append : (members : ℕ → Option (List ℕ)) (a b said more : List ℕ) → ListsLeaves members a said → ListsLeaves members b more → ListsLeaves members (a ++ b) (said ++ more)
 says-append members a b said more says_nothing h = h
 says-append members a b said more (says_itself d after rest f s) h = says_itself d (after ++ b) (rest ++ more) f (says-append members after b rest more s h)
@@ -306,12 +306,12 @@ says-append members a b said more (says_sequence d inner after inside rest f m i
     subst (ListsLeaves members (d ∷ (after ++ b))) (sym (append_assoc inside rest more))
     (says_sequence d inner (after ++ b) inside (rest ++ more) f m i (says-append members after b rest more s h))
 
--- what is expanded within says what its list says
+-- The inner expansion returns a tree with the leaves of its list.
 abbrev pub InnerSays : (ℕ → Option (List ℕ)) → Option Expansion → Type 0
 InnerSays members None = Unit {0}
 InnerSays members (Some expand) = (places : ℕ) (list : List ℕ) (tree : Tree) → expand places list ≡ Ok tree → ListsLeaves members list (leaves tree)
 
--- a part says what its descriptors say
+-- A part has the leaves of its descriptors.
 abbrev PartSays : (ℕ → Option (List ℕ)) → ℕ → List ℕ → ExpandedPart → Type 0
 PartSays members d after p = ListsLeaves members (d ∷ take p.taken after) (leaves p.tree)
 
@@ -436,7 +436,7 @@ unfolding inner_of
 inner_says tables zero = tt
 inner_says tables (suc room) = λ places list tree h. level_says tables (inner_of tables room) (inner_says tables room) false 0 places list tree h
 
--- the tree of a whole list says what the list says
+-- The tree of a whole list has the leaves of the list.
 pub tree_says : (tables : Tables) (list : List ℕ) (tree : Tree) → tree_of tables list ≡ Ok tree → ListsLeaves tables.members list (leaves tree)
 unfolding tree_of
 tree_says tables list tree h =
@@ -446,18 +446,18 @@ tree_says tables list tree h =
     subst (λ t. ListsLeaves tables.members list (leaves t)) (tree_is one.middle tree full.then_is)
     (level_says tables (inner_of tables max_open) (inner_says tables max_open) false 0 1 list one.middle one.first_is)
 
--- no descriptors have the same fault by all tables
+-- An empty list has the same fault with every table set.
 pub nothing-answered : (tables : Tables) → tree_of tables [] ≡ Err (fault.EmptyGroup 0)
 unfolding tree_of level
 nothing-answered tables = refl
 
 -- ---- The expansion of a whole list.
 
--- what is left of the definition after the list
+-- the check of the definition that follows the expansion of the list
 after_list : List ℕ → Result Tree TemplateFault → Result Tree TemplateFault
 after_list list expanded = expanded >>= λ tree. unless (consumes tree) (fault.EmptyGroup (slice_index list 0)) >>= λ _. Ok tree
 
--- the list, as the code begins it
+-- The code starts the list with the same number of places as the definition.
 same_start : (tables : Tables) (list : List ℕ) (start : BuilderModel) → start ≡ growth [] 0 0 false
     → level tables (inner_of tables max_open) false 0 1 list ≡ level tables (inner_of tables max_open) false 0 (places_so_far start) list
 same_start tables list start e = ap (λ (g : BuilderModel). level tables (inner_of tables max_open) false 0 (places_so_far g) list) (sym e)
@@ -467,7 +467,7 @@ pub whole-fault : (tables : Tables) (list : List ℕ) (start : BuilderModel) (wh
 unfolding tree_of after_list
 whole-fault tables list start why e refuses other = ap (after_list list) (same_start tables list start e ∙ refuses other)
 
--- what is after no cells
+-- the builder after a tree is pushed onto an empty one
 put_tree : (start new : BuilderModel) (tree : Tree) → start ≡ growth [] 0 0 false → new ≡ push_tree start tree → new ≡ growth (cells_of tree 0 []) 0 (depth tree) (consumes tree)
 put_tree start new tree es e = grind (arith, common_steps)
 
@@ -477,7 +477,7 @@ pub whole-empty : (tables : Tables) (list : List ℕ) (start new : BuilderModel)
 unfolding tree_of after_list
 whole-empty tables list start new first es puts empty ef = grind (arith, common_steps)
 
--- a tree is defined, and its cells have been flattened
+-- The tree of the list is defined, and the builder has its cells.
 pub record IsWhole (tables : Tables) (list : List ℕ) (new : BuilderModel) : Type 0 where
   pub tree : Tree
   pub is_defined : tree_of tables list ≡ Ok tree
@@ -511,12 +511,12 @@ whole-flattened tables list new cells whole e within =
       legal = fine.legal;
     }
 
--- the cells of a template have been built
+-- The cells are a template, and their tree is the one defined for the list.
 pub record IsBuilt (tables : Tables) (list : List ℕ) (cells : List Cell) (depth_reported : ℕ) : Type 0 where
   pub is_kept : IsTemplate cells depth_reported (trees_of_cells cells)
   pub is_defined : tree_of tables list ≡ Ok (trees_of_cells cells)
 
--- with the end of the template after the cells
+-- The end of the template is appended to the cells.
 pub whole-built : (tables : Tables) (list : List ℕ) (new : BuilderModel) (cells : List Cell) → IsWhole tables list new → cells ≡ new.cells ++ cell.Finish ∷ [] → length new.cells + new.groups < 65535
     → IsBuilt tables list cells new.deep
 whole-built tables list new cells whole e within =

@@ -1,4 +1,4 @@
--- The rows of Table B, and what is kept of them.
+-- The rows of Table B, and how the code stores them.
 use Rattle.std.proofs.lemmas.Grind.{common_steps}
 use Rattle.std.proofs.Common.{◌≡◌, ◌≢◌, ℕ, ◌+◌, ◌-◌, ◌<◌, ◌≤◌, Bool, true, false, List, [], ◌∷◌, ◌++◌, length, Option, Some, None, refl, sym, ap, ◌∙◌, arith, suc, eqb, inl, inr, option_map, get_or, set, length-append, rules, tests, append_assoc, append-nil, codes, ℤ, subst, Result, Ok, Err, cond, map, nat_eq, ◌==◌, ◌||◌, if◌then◌else◌, IfSome, slice_range, is_some, nat_le}
 use Rattle.std.specs.Str.{bytes_eq}
@@ -16,9 +16,9 @@ use Rattle.bufr_tables.specs.declared.table_b.Stored.{Stored}
 use Rattle.bufr_tables.specs.declared.table_b.Kind.{Kind}
 use Rattle.bufr_tables.specs.declared.fault.TableFault.TheVariants.{Csv, Duplicate, Header}
 
--- ---- A list of keys with one more key, and how many keys there are.
+-- ---- A list of keys to which a key is added, and the number of keys.
 
--- a key that is not in the list is not its first, and not in the rest
+-- A key that is not in the list is neither its first key nor among the others.
 pub record Absent (k : ℕ) (keys : List ℕ) (key : ℕ) : Type 0 where
   pub first : (k == key) ≡ false
   pub rest : place_of keys key ≡ None
@@ -34,19 +34,19 @@ absent-parts k keys key absent = by (k == key) refl absent
     by true e absent = cc absent
     by false e absent = record { first = e; rest = none _ absent }
 
--- a key that is not in the list, added after
+-- the index of a key that is appended to a list without it
 pub place_of-added : (keys : List ℕ) (key : ℕ) → place_of keys key ≡ None → place_of (keys ++ key ∷ []) key ≡ Some (length keys)
 place_of-added [] key absent = let same : (key == key) ≡ true = search (rules, tests) in rw same refl
 place_of-added (k ∷ keys) key absent =
     let parts = absent-parts k keys key absent in
     rw (parts.first, place_of-added keys key parts.rest) refl
 
--- another key
+-- The result for any other key is unchanged.
 pub place_of-other : (keys : List ℕ) (key other : ℕ) → key ≢ other → place_of (keys ++ key ∷ []) other ≡ place_of keys other
 place_of-other [] key other differ = let e : (key == other) ≡ false = search (rules, tests) in rw e refl
 place_of-other (k ∷ keys) key other differ = ap (λ (o : Option ℕ). if k == other then Some 0 else option_map suc o) (place_of-other keys key other differ)
 
--- a place is inside the list
+-- An index that is found is inside the list.
 pub place_of-inside : (keys : List ℕ) (key : ℕ) → IfSome (place_of keys key) (λ place. place < length keys)
 place_of-inside [] key = tt
 place_of-inside (k ∷ keys) key = by (k == key) (place_of keys key) (place_of-inside keys key)
@@ -75,7 +75,7 @@ distinct-added (k ∷ keys) key distinct absent =
     let parts = absent-parts k keys key absent in
     (unlike-added keys k key distinct.0 parts.first, distinct-added keys key distinct.1 parts.rest)
 
--- there are at most as many keys as numbers below n
+-- There are at most n distinct keys below n.
 has-below : (keys : List ℕ) (q n : ℕ) → AllByRecursion (λ k. k < n) keys → list_any (eqb q) keys ≡ true → q < n
 has-below [] q n below has = cc has
 has-below (k ∷ keys) q n below has = by (eqb q k) refl has (has-below keys q n below.1)
@@ -87,18 +87,18 @@ has-below (k ∷ keys) q n below has = by (eqb q k) refl has (has-below keys q n
 pub count-below : (keys : List ℕ) (n : ℕ) → AllByRecursion (λ k. k < n) keys → IsDistinct nat_eq keys → length keys ≤ n
 count-below keys n below distinct = length-le_from_distinct_below keys n distinct (λ q has. has-below keys q n below has)
 
--- one key more fits the directory
+-- If a key below n is missing, the list has fewer than n keys.
 pub count-added : (keys : List ℕ) (key n : ℕ) → AllByRecursion (λ k. k < n) keys → IsDistinct nat_eq keys → key < n → place_of keys key ≡ None → length keys < n
 count-added keys key n below distinct small absent =
     omega (arith, count-below (keys ++ key ∷ []) n (below-added keys key n below small) (distinct-added keys key distinct absent), length-append keys (key ∷ []))
 
--- the marks of one key more
+-- the marks of the directory, after a key is added
 pub marks-added : (keys : List ℕ) (key : ℕ) (marks : List ℕ) (n : ℕ) → length marks ≡ n → key < n → place_of keys key ≡ None
     → ((other : ℕ) → other < n → get_or marks other 0 ≡ mark_of (place_of keys other))
     → (other : ℕ) → other < n → get_or (set marks key (length keys + 1)) other 0 ≡ mark_of (place_of (keys ++ key ∷ []) other)
 marks-added keys key marks n size small absent was other inside = grind (arith, common_steps, cases_eq, inl, place_of-added, get_or-set_same, inr, place_of-other, get_or-set_other)
 
--- a mark that is not 0 is that of a place inside the list
+-- A mark other than 0 is that of an index inside the list.
 pub mark-inside : (keys : List ℕ) (key mark : ℕ) → mark ≡ mark_of (place_of keys key) → mark ≢ 0 → mark - 1 < length keys
 mark-inside keys key mark is some = by (place_of keys key) (place_of-inside keys key) is
   where
@@ -106,10 +106,9 @@ mark-inside keys key mark is some = by (place_of keys key) (place_of-inside keys
     by None inside is = absurd (some is)
     by (Some place) inside is = omega (arith, inside)
 
--- a search for what f makes of the elements of a list, where the test looks for a key: the
--- directory of the keys answers it
+-- The directory of the keys answers a search by key among the values that `f` gives for a list.
 module _ (X Y : Type 0) (f : X → Y) (p : Y → Bool) (k : X → ℕ) (key : ℕ) where
-  -- the test of each element is that of its key
+  -- The test of each value compares the key of its element.
   abbrev pub Same : List X → Type 0
   Same xs = AllByRecursion (λ x. p (f x) ≡ (k x == key)) xs
 
@@ -139,7 +138,7 @@ module _ (X Y : Type 0) (f : X → Y) (p : Y → Bool) (k : X → ℕ) (key : �
       by false None e found more = cc found
       by false (Some at) e found more = rw (← same_Some _ _ found) (more at d e)
 
--- ---- What Table B keeps of its elements.
+-- ---- What Table B stores of its elements.
 
 abbrev pub fxys_of : List Stored → List ℕ
 fxys_of stored = map (λ s. s.fxy) stored
@@ -148,7 +147,7 @@ all-same : (octets : List ℕ) (fxy : ℕ) (stored : List Stored) → AllByRecur
 all-same octets fxy [] = tt
 all-same octets fxy (s ∷ stored) = (refl, all-same octets fxy stored)
 
--- the directory has a descriptor exactly where the rows have it
+-- The directory contains a descriptor if and only if the rows do.
 pub entry-absent : (octets : List ℕ) (stored : List Stored) (fxy : ℕ) → place_of (fxys_of stored) fxy ≡ None → entry_of (rows_kept octets stored) fxy ≡ None
 entry-absent octets stored fxy = find-absent Stored Row (row_kept octets) (λ row. row.fxy == fxy) (λ s. s.fxy) fxy stored (all-same octets fxy stored)
 
@@ -162,14 +161,14 @@ entry-found octets stored fxy place d = find-found Stored Row (row_kept octets) 
 unlike : (a b : ℕ) → a < 16384 → 16384 ≤ b → (a == b) ≡ false
 unlike a b small large = search (rules, tests)
 
--- all are elements, so no other descriptor is there
+-- All rows are those of elements, so no other descriptor has a row.
 pub entry-other : (octets : List ℕ) (stored : List Stored) (fxy : ℕ) → AllByRecursion (λ s. s.fxy < 16384) stored → 16384 ≤ fxy → entry_of (rows_kept octets stored) fxy ≡ None
 entry-other octets [] fxy elements large = refl
 entry-other octets (s ∷ stored) fxy elements large =
     let here : (s.fxy == fxy) ≡ false = unlike s.fxy fxy elements.0 large in
     rw here (entry-other octets stored fxy elements.1 large)
 
--- octets after the block leave the rows as they are
+-- Octets that are appended to the block leave the rows unchanged.
 pub range-append : (xs ys : List ℕ) (i j : ℕ) → i ≤ j → j ≤ length xs → slice_range (xs ++ ys) i j ≡ slice_range xs i j
 range-append xs ys i j before inside = grind (arith, common_steps)
 
@@ -203,7 +202,7 @@ all-push P (t ∷ stored) s all here = (all.0, all-push P stored s all.1 here)
 range-after : (before xs more : List ℕ) (i j : ℕ) → i ≡ length before → j ≡ i + length xs → slice_range (before ++ (xs ++ more)) i j ≡ xs
 range-after before xs more i j at to = grind (arith, common_steps)
 
--- a row that was pushed onto a block is there
+-- A row that was appended to a block can be read back.
 module _ (before digits name unit : List ℕ) where
   abbrev line_started : List ℕ
   line_started = before ++ digits ++ codes " "
@@ -266,7 +265,7 @@ module _ (before digits name unit : List ℕ) where
         ap (λ t. slice_range t (start + 7) end) (parts ∙ ap (λ t. line_started ++ t) (sym (append-nil (commented []))))
         ∙ range-after line_started (commented []) [] (start + 7) end after_start long
 
--- its places are right where its row is
+-- A row is stored if its three offsets are those of the appended text.
 pub row-stored : (before : List ℕ) (row : ParsedRow) (s : Stored) (block : List ℕ) → block ≡ row_pushed before (fxy_text row.fxy) row.name.now row.unit.now
     → s.start ≡ length before → s.middle ≡ length (named before (fxy_text row.fxy) row.name.now row.unit.now) → s.end ≡ length block
     → (slice_range block (s.start + 11) s.middle ≡ row.name.now → slice_range block (s.middle + 2) (s.end - 2) ≡ row.unit.now → row_kept block s ≡ row_parsed row)
@@ -290,20 +289,20 @@ row-stored before row s block is at to ends says =
       };
     }
 
--- an element is its X and Y
+-- The key of an element consists of its X and Y.
 pub element-key : (fxy : ℕ) → fxy < 16384 → key_of fxy ≡ fxy
 element-key fxy small = omega arith
 
--- a descriptor that is not of an element has no row
+-- A descriptor that is not an element has no row.
 pub entry-not_element : (octets : List ℕ) (stored : List Stored) (fxy : ℕ) → AllByRecursion (λ s. s.fxy < 16384) stored → f_of fxy ≢ 0 → entry_of (rows_kept octets stored) fxy ≡ None
 entry-not_element octets stored fxy elements other = grind (arith, common_steps, entry-other)
 
--- the row that is found is that of the element at its place
+-- The row that is found is that of the element at its index.
 pub entry-row : (octets : List ℕ) (stored : List Stored) (fxy place : ℕ) (s : Stored) → place_of (fxys_of stored) fxy ≡ Some place
     → s ≡ get_or stored place s → Some (row_kept octets s) ≡ entry_of (rows_kept octets stored) fxy
 entry-row octets stored fxy place s found at = rw (entry-found octets stored fxy place s found, ← at) refl
 
--- the rows with one more element
+-- the rows after another element is added
 pub rows_kept-push : (old new : List ℕ) (stored : List Stored) (s : Stored) (row : ParsedRow) → AllByRecursion (IsRowKept old) stored → ExtendsBlock old new
     → IsStored new row s → rows_kept new (stored ++ s ∷ []) ≡ rows_kept old stored ++ row_parsed row ∷ []
 rows_kept-push old new stored s row kept grows is = grind (arith, common_steps, map-append, rows_kept-append)
@@ -313,7 +312,7 @@ kept-grown old new stored kept grows = rw grows.1 (all-kept old grows.0 stored k
 
 -- ---- The limits of each row of Table B.
 
--- a test that was passed, and the value after it
+-- a test that succeeded, and the value that follows
 passed : {A P : Type 0} (test : Bool) (x y : A) → only_if test x ≡ Some y → (test ≡ true → x ≡ y → P) → P
 passed true x y is go = go refl (cc is)
 passed false x y is go = absurd (cc is)
@@ -330,7 +329,7 @@ width-allowed : (kind : Kind) (text : List ℕ) (width : ℕ) → width_of kind 
 unfolding width_of
 width-allowed kind text width is = grind (arith, common_steps)
 
--- a row that a record writes
+-- The row of a record is within the limits.
 pub row-limits : (r : Record) (row : Row) → row_of r ≡ Some row → IsRow row
 unfolding row_of
 row-limits r row is =
@@ -349,17 +348,17 @@ row-limits r row is =
       factor = test;
     }))))))))
 
--- one row more within the limits
+-- Another row within the limits is added.
 pub rows-push : (rows : List Row) (row : Row) → AllByRecursion IsRow rows → IsRow row → AllByRecursion IsRow (rows ++ row ∷ [])
 rows-push [] row all here = (here, tt)
 rows-push (first ∷ rows) row all here = (all.0, rows-push rows row all.1 here)
 
--- octets after the block leave the rows within the limits
+-- Rows stay within the limits when octets are appended to the block.
 pub limits-grown : (old new : List ℕ) (stored : List Stored) → AllByRecursion (IsRowKept old) stored → ExtendsBlock old new → AllByRecursion IsRow (rows_kept old stored)
     → AllByRecursion IsRow (rows_kept new stored)
 limits-grown old new stored kept grows all = rw (grows.1, rows_kept-append old grows.0 stored kept) all
 
--- the row that is found is one of them
+-- A row that is found is one of the rows, so it is within the limits.
 pub found-limits : (rows : List Row) (fxy : ℕ) (row : Row) → AllByRecursion IsRow rows → entry_of rows fxy ≡ Some row → IsRow row
 found-limits [] fxy row all is = absurd (cc is)
 found-limits (first ∷ rows) fxy row all is = by (nat_eq first.fxy fxy) is (found-limits rows fxy row all.1)
@@ -374,7 +373,7 @@ found-limits (first ∷ rows) fxy row all is = by (nat_eq first.fxy fxy) is (fou
 same_Ok : (x y : List Row) → ◌≡◌ {A = Result (List Row) TableFault} (Ok x) (Ok y) → x ≡ y
 same_Ok x y e = cc e
 
--- a record that adds a row
+-- The record adds a row.
 pub record AddsRow (rows : List Row) (r : Record) (longer : List Row) : Type 0 where
   pub row : Row
   pub written : row_of r ≡ Some row
@@ -398,7 +397,7 @@ same-keys : (fxy : ℕ) (rows : List Row) → AllByRecursion (λ row. (row.fxy =
 same-keys fxy [] = tt
 same-keys fxy (row ∷ rows) = (refl, same-keys fxy rows)
 
--- what the records from one on add
+-- the rows that the remaining records add
 pub record AddRows (rows : List Row) (rs : List Record) (table : List Row) : Type 0 where
   pub more : List Row
   pub longer : table ≡ rows ++ more

@@ -15,7 +15,7 @@ use Rattle.bufr_tables.specs.declared.fault.TableFault.TheVariants.{Csv, Duplica
 abbrev pub IsSequence : MemberRange → Type 0
 IsSequence run = (49152 ≤ run.fxy) × (run.fxy < 65536)
 
--- sequences differ in X and Y alone
+-- Descriptors of sequences differ in X and Y only.
 key-is : (a : ℕ) → 49152 ≤ a → a < 65536 → key_of a ≡ a - 49152
 key-is a low high = omega arith
 
@@ -30,7 +30,7 @@ all-same : (members : List ℕ) (fxy : ℕ) (runs : List MemberRange) → 49152 
 all-same members fxy [] low high all = tt
 all-same members fxy (run ∷ runs) low high all = (same-key run.fxy fxy all.0.0 all.0.1 low high, all-same members fxy runs low high all.1)
 
--- the directory has a descriptor exactly where the table has it
+-- The directory contains a descriptor if and only if the table does.
 module _ (members : List ℕ) (runs : List MemberRange) (fxy : ℕ) (all : AllByRecursion IsSequence runs) where
   pub members-absent : 49152 ≤ fxy → fxy < 65536 → place_of (map run_key runs) (key_of fxy) ≡ None → members_of (sequences_kept members runs) fxy ≡ None
   members-absent low high absent =
@@ -51,7 +51,7 @@ module _ (members : List ℕ) (runs : List MemberRange) (fxy : ℕ) (all : AllBy
       let row = find-found MemberRange Sequence (sequence_kept members) (λ s. s.fxy == fxy) run_key (key_of fxy) runs place run (all-same members fxy runs low high all) found in
       rw (row, ← at) refl
 
--- a descriptor that is not of a sequence has no members
+-- A descriptor that is not a sequence has no members.
 unlike : (a b : ℕ) → 49152 ≤ a → a < 65536 → b / 16384 ≢ 3 → (a == b) ≡ false
 unlike a b low high other = let differ : a ≢ b = λ e. other (omega arith) in search (rules, tests)
 
@@ -68,7 +68,7 @@ is_last-at members (r ∷ []) (suc i) fxy run last at = absurd (omega arith)
 is_last-at members (r ∷ t ∷ runs) zero fxy run last at = absurd (omega arith)
 is_last-at members (r ∷ t ∷ runs) (suc i) fxy run last at = is_last-at members (t ∷ runs) i fxy run (omega arith) at
 
--- one member more
+-- a range with one more member
 abbrev pub longer : MemberRange → MemberRange
 longer run = record { fxy = run.fxy; start = run.start; end = run.end + 1 }
 
@@ -101,7 +101,7 @@ sequences_kept-append members more (r ∷ runs) inside =
     let rest = sequences_kept-append members more runs inside.1 in
     cc
 
--- what a longer last run keeps
+-- properties of the ranges that hold after the last range grows
 pub runs-more : (n m : ℕ) (runs : List MemberRange) → n ≤ m → AllByRecursion (IsMemberRange n) runs → AllByRecursion (IsMemberRange m) runs
 runs-more n m [] more inside = tt
 runs-more n m (r ∷ runs) more inside = ((inside.0.0, omega (arith, inside.0.1)), runs-more n m runs more inside.1)
@@ -145,7 +145,7 @@ last-end n (r ∷ []) (suc i) run ends last at = absurd (omega arith)
 last-end n (r ∷ t ∷ runs) zero run ends last at = absurd (omega arith)
 last-end n (r ∷ t ∷ runs) (suc i) run ends last at = last-end n (t ∷ runs) i run ends (omega arith) at
 
--- one sequence more
+-- a new sequence with its first member
 pub sequences_kept-begun : (members : List ℕ) (member : ℕ) (runs : List MemberRange) (run : MemberRange) (fxy : ℕ) → AllByRecursion (IsMemberRange (length members)) runs
     → run ≡ record { fxy = fxy; start = length members; end = length members + 1 }
     → sequences_kept (members ++ member ∷ []) (runs ++ run ∷ []) ≡ sequences_kept members runs ++ record { fxy = fxy; members = member ∷ [] } ∷ []
@@ -155,7 +155,7 @@ pub some-runs : (members : List ℕ) (runs : List MemberRange) → sequences_kep
 some-runs members [] some = absurd (some refl)
 some-runs members (run ∷ runs) some = omega arith
 
--- the descriptor at a place
+-- the descriptor at an index
 pub fxy-at : (members : List ℕ) (runs : List MemberRange) (place : ℕ) (run : MemberRange) → place < length (sequences_kept members runs) → run ≡ get_or runs place run
     → run.fxy ≡ slice_index (fxys_of (sequences_kept members runs)) place
 fxy-at members [] place run inside at = absurd (omega arith)
@@ -164,7 +164,7 @@ fxy-at members (r ∷ runs) (suc place) run inside at = fxy-at members runs plac
 
 -- ---- The members of a sequence are those that the rows give it.
 
--- what one sequence gives
+-- the members that one sequence contributes to a descriptor
 abbrev only : ℕ → List ℕ → ℕ → List ℕ
 only sequence members fxy = if sequence == fxy then members else []
 
@@ -174,7 +174,7 @@ same-tests a b c e = rw (eqb-true a c e) refl
 flip-tests : (a b : ℕ) → (a == b) ≡ false → (b == a) ≡ false
 flip-tests a b e = search (rules, tests)
 
--- a search that finds nothing begins with another
+-- If a search finds nothing, the first sequence is not the one, and neither are the others.
 record Lacks (s : Sequence) (table : List Sequence) (fxy : ℕ) : Type 0 where
   first : (s.fxy == fxy) ≡ false
   rest : members_of table fxy ≡ None
@@ -186,7 +186,7 @@ lacks s table fxy absent = by (s.fxy == fxy) refl absent
     by true e absent = cc absent
     by false e absent = record { first = e; rest = absent }
 
--- a sequence after a table that lacks it
+-- a sequence that is appended to a table without it
 begun-listed : (table : List Sequence) (new : Sequence) (fxy : ℕ) → members_of table new.fxy ≡ None
     → members_or_none (table ++ new ∷ []) fxy ≡ members_or_none table fxy ++ only new.fxy new.members fxy
 begun-listed [] new fxy absent = grind (arith, common_steps)
@@ -202,13 +202,13 @@ begun-listed (s ∷ table) new fxy absent =
         rw differs (sym (append-nil s.members))
     by false e other on = on
 
--- the last sequence is among those after the first
+-- A descriptor that differs from all those of the table differs from the last one.
 last-differs : (table : List Sequence) (fxy sequence : ℕ) → is_last table sequence ≡ true → AllByRecursion (λ y. nat_eq fxy y ≡ false) (fxys_of table) → (fxy == sequence) ≡ false
 last-differs [] fxy sequence last apart = cc last
 last-differs (s ∷ []) fxy sequence last apart = rw (← eqb-true s.fxy sequence last) apart.0
 last-differs (s ∷ t ∷ table) fxy sequence last apart = last-differs (t ∷ table) fxy sequence last apart.1
 
--- one member more of the last sequence
+-- The last sequence gets another member.
 extended-listed : (table : List Sequence) (sequence member fxy : ℕ) → is_last table sequence ≡ true → IsDistinct nat_eq (fxys_of table)
     → members_or_none (extended table member) fxy ≡ members_or_none table fxy ++ only sequence (member ∷ []) fxy
 unfolding IsDistinct
@@ -231,7 +231,7 @@ extended-fxys [] member = refl
 extended-fxys (s ∷ []) member = refl
 extended-fxys (s ∷ t ∷ table) member = ap (λ (ks : List ℕ). s.fxy ∷ ks) (extended-fxys (t ∷ table) member)
 
--- a row that begins no second run
+-- a row that does not begin a second run of a sequence
 record Added (table : List Sequence) (row : Member) : Type 0 where
   members : (fxy : ℕ) → members_or_none (added table row) fxy ≡ members_or_none table fxy ++ only row.sequence (row.fxy ∷ []) fxy
   distinct : IsDistinct nat_eq (fxys_of (added table row))
@@ -264,7 +264,7 @@ row-added table row distinct fresh = by (is_last table row.sequence) refl (membe
     }
     by false e (Some members) m fresh = cc fresh
 
--- a record that adds a row
+-- The record adds a row.
 record AddsRow (table : List Sequence) (r : Record) (longer : List Sequence) : Type 0 where
   row : Member
   written : member_of r ≡ Some row
@@ -289,7 +289,7 @@ record-adds n table r longer is = by (length r == 2) (member_of r) refl is
     by true None e is = cc is
     by true (Some row) e is = found row (begins_again table row) (nat_le 65536 (n - 2)) refl e is
 
--- what the records from one on add
+-- the rows that the remaining records add
 record AddRows (before : List Sequence) (rs : List Record) (table : List Sequence) : Type 0 where
   rows : List Member
   written : map member_of rs ≡ map Some rows

@@ -1,10 +1,10 @@
--- Worked examples of the expansion, computed.
+-- Worked examples of the expansion, computed from the definitions.
 use Rattle.std.proofs.Common.{◌≡◌, ℕ, Option, zero, suc, ◌+◌, ◌*◌, ◌==◌, ◌||◌, Bool, false, cond, List, [], ◌∷◌, length, Some, None, Result, Ok, Err, refl}
 use Rattle.bufr_tables.specs.Prelude.{TemplateFault, Cell, f_of, y_of, cells_of, trees_of_cells, Tree, bare, element, operator, fixed, delayed, places, depth, Tables, tree_of, inner_of, level, part_of, ◌>>=◌}
 use Rattle.bufr_tables.specs.declared.fault.TemplateFault.TheVariants as fault
 use Rattle.bufr_tables.specs.declared.template.Cell.TheVariants as cell
 
--- a descriptor of six digits
+-- the descriptor with this F, X and Y
 abbrev fxy : ℕ → ℕ → ℕ → ℕ
 fxy f x y = f * 16384 + (x * 256 + y)
 
@@ -12,7 +12,7 @@ is_one_of : List ℕ → ℕ → Bool
 is_one_of [] d = false
 is_one_of (e ∷ es) d = d == e || is_one_of es d
 
--- the sequence 3 60 192, and a chain of those that hold the next one twice
+-- tables with a few elements and the sequence 3 60 192
 tables : Tables
 unfolding is_one_of
 tables = record {
@@ -24,16 +24,14 @@ given : List ℕ → Result Tree TemplateFault
 unfolding tables tree_of inner_of level part_of is_one_of
 given list = tree_of tables list
 
--- how many places, and how many groups round one node
+-- the number of places, and the greatest number of groups around a node
 measured : Result Tree TemplateFault → Result (ℕ × ℕ) TemplateFault
 measured tree = tree >>= λ t. Ok (places t, depth t)
 
--- the cells
 flattened : Result Tree TemplateFault → Result (List Cell) TemplateFault
 flattened tree = tree >>= λ t. Ok (cells_of t 0 (cell.Finish ∷ []))
 
--- so many replications, each of one pass over all that is left of so many descriptors, and an
--- element
+-- n replications, each of which passes once over all the descriptors after it, and an element
 nested : ℕ → List ℕ
 nested zero = fxy 0 1 1 ∷ []
 nested (suc n) = fxy 1 (n + 1) 1 ∷ nested n
@@ -78,8 +76,8 @@ measures :
 unfolding given measured flattened nested
 measures = (refl, refl, refl, refl, refl, refl)
 
--- a chain of seventeen sequences that each hold the next one twice, and the last one an element
--- twice
+-- a chain of seventeen sequences, each of which contains the next one twice; the last one contains
+-- an element twice
 doubled : ℕ → Option (List ℕ)
 doubled d = cond (f_of d == 3) (cond (y_of d == 17) (Some (fxy 0 1 1 ∷ fxy 0 1 1 ∷ [])) (Some ((d + 1) ∷ (d + 1) ∷ []))) None
 

@@ -17,14 +17,15 @@ is_one_of (e ∷ es) d = if d == e then true else is_one_of es d
 group : List ℕ → List ℕ
 group list = (100001 + 1000 * length list) ∷ list
 
--- n such groups, one inside another
+-- n such groups, nested
 groups : ℕ → List ℕ → List ℕ
 groups zero inside = inside
 groups (suc n) inside = group (groups n inside)
 
--- The sequences. 3 00 Y holds the next sequence twice, up to 3 00 015, which holds 0 01 001 twice:
--- it has 2 ^ (16 - Y) elements. 3 01 Y holds the next sequence, up to 3 01 033, which holds
--- 0 01 001. So do 3 02 Y and 3 03 Y, up to 3 02 016 with 16 groups and 3 03 016 with 17.
+-- The sequences. 3 00 Y contains the next sequence twice, up to 3 00 015, which contains 0 01 001
+-- twice: it has 2 ^ (16 - Y) elements. 3 01 Y contains the next sequence, up to 3 01 033, which
+-- contains 0 01 001. Likewise 3 02 Y and 3 03 Y, up to 3 02 016 with 16 groups and 3 03 016 with
+-- 17 groups.
 members : ℕ → Option (List ℕ)
 unfolding word group groups
 members d =
@@ -53,7 +54,7 @@ no_factors : Tables
 unfolding word
 no_factors = record { known = λ d. d == word 1001; members = members }
 
--- what a list of descriptors means
+-- the tree that a list of descriptors defines, or its fault
 means_by : Tables → List ℕ → Result Tree TemplateFault
 unfolding word is_one_of group groups members tables no_factors tree_of inner_of level part_of
 means_by by list = tree_of by (map word list)
@@ -62,7 +63,7 @@ means : List ℕ → Result Tree TemplateFault
 unfolding means_by
 means list = means_by tables list
 
--- what it means if this many places are taken, and this many groups and sequences may be open
+-- the same, if this many places are used and this many groups and sequences may still be opened
 after_by : Tables → (places room : ℕ) → List ℕ → Result Tree TemplateFault
 unfolding word is_one_of group groups members tables no_factors inner_of level part_of
 after_by by places room list = level by (inner_of by room) false 0 places (map word list)
@@ -71,7 +72,7 @@ after : (places room : ℕ) → List ℕ → Result Tree TemplateFault
 unfolding after_by
 after places room list = after_by tables places room list
 
--- what it means if all places are taken
+-- the same, if all places are used
 at_full : List ℕ → Result Tree TemplateFault
 unfolding after
 at_full list = after 65535 32 list
@@ -90,7 +91,7 @@ numbers : ℕ → ℕ → List ℕ
 numbers from zero = []
 numbers from (suc more) = from ∷ numbers (from + 1) more
 
--- the operands among these that operator 2 X may have if an element follows
+-- the given operands that operator 2 X may have if an element follows
 allowed : ℕ → List ℕ → List ℕ
 allowed x [] = []
 allowed x (y ∷ ys) =
@@ -123,7 +124,7 @@ operands-of-precisions : operands 7 ≡ numbers 0 19
 unfolding numbers allowed operands means
 operands-of-precisions = refl
 
--- the operators among these that may have one of the operands 0, 1, 18, 63 and 255
+-- the given operators that may have one of the operands 0, 1, 18, 63 and 255
 known-operators : List ℕ → List ℕ
 known-operators [] = []
 known-operators (x ∷ xs) =
@@ -135,7 +136,7 @@ operators-there-are : known-operators (numbers 0 64) ≡ 1 ∷ 2 ∷ 3 ∷ 5 ∷
 unfolding numbers allowed known-operators means
 operators-there-are = refl
 
--- ---- Elements: Table B has them, or the operator before them gives their width.
+-- ---- Elements are in Table B, or the operator before them gives their width.
 
 -- rule: fault-20, 2-06-y-unknown-element
 elements-known :
@@ -147,7 +148,7 @@ elements-known :
 unfolding accepts means
 elements-known = (refl, refl, refl, refl, refl)
 
--- an element follows 2 06 Y in the same list
+-- An element follows 2 06 Y in the same list.
 -- rule: fault-28, 2-06-y-before-an-element
 widths-before-elements :
     (accepts (206012 ∷ 1001 ∷ []) ≡ true)
@@ -161,7 +162,7 @@ widths-before-elements :
 unfolding accepts means
 widths-before-elements = (refl, refl, refl, refl, refl, refl, refl)
 
--- no other descriptor of class 06 gives a width
+-- No other descriptor with X = 06 gives a width.
 -- rule: fault-20, 2-06-y-unknown-element
 widths-of-the-next :
     (means (6001 ∷ 12102 ∷ []) ≡ Err (UnknownElement (word 12102)))
@@ -170,7 +171,7 @@ widths-of-the-next :
 unfolding means
 widths-of-the-next = (refl, refl, refl)
 
--- ---- Replications: their X, their factor, and the descriptors that are left.
+-- ---- Replications: X, the factor, and the remaining descriptors.
 
 -- rule: fault-23
 groups-of-none :
@@ -180,7 +181,7 @@ groups-of-none :
 unfolding accepts means
 groups-of-none = (refl, refl, refl)
 
--- only 0 31 000, 0 31 001 and 0 31 002 are factors, though Table B has others of class 31
+-- Only 0 31 000, 0 31 001 and 0 31 002 are factors, though Table B has others of class 31.
 -- rule: fault-24, delayed-replication
 factors-there-are :
     (accepts (101000 ∷ 31000 ∷ 1001 ∷ []) ≡ true)
@@ -193,7 +194,7 @@ factors-there-are :
 unfolding accepts means
 factors-there-are = (refl, refl, refl, refl, refl, refl, refl)
 
--- no factor has another F or class, and none may be missing
+-- A factor must follow, with F = 0 and class 31.
 -- rule: fault-24, delayed-replication
 factors-by-class :
     (means (101000 ∷ 30001 ∷ 1001 ∷ []) ≡ Err (NoFactor (word 101000)))
@@ -212,7 +213,7 @@ factors-in-table-b :
 unfolding accepts means means_by
 factors-in-table-b = (refl, refl)
 
--- X descriptors are left in the list, the sequence or the group; the factor is not among them
+-- X descriptors must remain in the list, the sequence or the group, not counting the factor.
 -- rule: fault-23, replication-in-one-list, delayed-replication
 descriptors-left :
     (accepts (102002 ∷ 1001 ∷ 1001 ∷ []) ≡ true)
@@ -226,7 +227,7 @@ descriptors-left :
 unfolding accepts means
 descriptors-left = (refl, refl, refl, refl, refl, refl, refl, refl)
 
--- ---- Sequences: Table D has them.
+-- ---- Sequences are in Table D.
 
 -- rule: fault-21
 sequences-known :
@@ -235,7 +236,7 @@ sequences-known :
 unfolding accepts means
 sequences-known = (refl, refl)
 
--- ---- At most 32 groups and sequences are open together.
+-- ---- At most 32 groups and sequences are open at the same time.
 
 -- rule: fault-26
 groups-open :
@@ -251,7 +252,7 @@ delayed-groups-open :
 unfolding accepts means group groups
 delayed-groups-open = (refl, refl)
 
--- sequences are not counted in the depth of a template
+-- Sequences do not count towards the depth of a template.
 -- rule: fault-26
 sequences-open :
     (measures (301002 ∷ []) ≡ Ok (2, 0))
@@ -269,7 +270,7 @@ both-open :
 unfolding means measures group groups
 both-open = (refl, refl, refl, refl)
 
--- groups and sequences that have ended are not open
+-- A group or sequence that has ended is no longer open.
 -- rule: fault-26
 open-one-after-another : accepts (groups 32 (1001 ∷ []) ++ groups 32 (1001 ∷ []) ++ 301002 ∷ 301002 ∷ []) ≡ true
 unfolding accepts means group groups
@@ -278,7 +279,7 @@ open-one-after-another = refl
 -- ---- At most 65,535 places: one for each element and operator, two more for each fixed group and
 -- three for each delayed one, and one for the end.
 
--- 65,534 elements fit, and one more does not
+-- 65,534 elements fit; one more does not.
 -- rule: fault-27
 elements-that-fit : measures (numbers 300001 15) ≡ Ok (65535, 0)
 unfolding means measures numbers
@@ -313,7 +314,7 @@ places-of-delayed-groups :
 unfolding after
 places-of-delayed-groups = (refl, refl, refl)
 
--- a sequence takes no place itself
+-- A sequence itself takes no place.
 -- rule: fault-27
 places-of-sequences :
     (is_ok (after 65533 32 (360192 ∷ [])) ≡ true)
@@ -323,7 +324,7 @@ places-of-sequences :
 unfolding after
 places-of-sequences = (refl, refl, refl, refl)
 
--- ---- Each group, and the whole list, takes bits.
+-- ---- Each group takes bits, and so does the whole list.
 
 -- rule: fault-25, groups-take-bits
 groups-that-take-none :
@@ -334,7 +335,7 @@ groups-that-take-none :
 unfolding means
 groups-that-take-none = (refl, refl, refl, refl)
 
--- an element takes bits, and so do an inserted text, a delayed group, and a fixed group of these
+-- Elements, inserted texts and delayed groups take bits, and so does a fixed group of these.
 -- rule: fault-25, groups-take-bits
 groups-that-take-some :
     (accepts (101002 ∷ 1001 ∷ []) ≡ true)
@@ -347,7 +348,7 @@ groups-that-take-some :
 unfolding accepts means
 groups-that-take-some = (refl, refl, refl, refl, refl, refl, refl)
 
--- the fault of a whole list names its first descriptor
+-- The fault of a whole list names the first descriptor of the list.
 -- rule: fault-25, groups-take-bits
 lists-that-take-none :
     (means (201000 ∷ []) ≡ Err (EmptyGroup (word 201000)))
@@ -447,7 +448,7 @@ unknown-sequence-before-depth : means (groups 32 (300099 ∷ [])) ≡ Err (Unkno
 unfolding means group groups
 unknown-sequence-before-depth = refl
 
--- a sequence takes no place, so 27 is never its fault
+-- A sequence takes no place, so it never causes fault 27.
 -- rule: order-at-a-sequence
 sequences-at-full :
     (at_full (300099 ∷ []) ≡ Err (UnknownSequence (word 300099)))
@@ -483,7 +484,7 @@ no-element-before-size = refl
 
 -- ---- Faults at several descriptors: the first is reported, depth first and from left to right.
 
--- a replication comes before its body, and its body before the descriptors that follow
+-- A replication is checked before its body, and its body before the descriptors that follow.
 -- rule: first-descriptor-decides
 first-from-the-left :
     (means (12102 ∷ 204001 ∷ []) ≡ Err (UnknownElement (word 12102)))
@@ -494,7 +495,7 @@ first-from-the-left :
 unfolding means
 first-from-the-left = (refl, refl, refl, refl, refl)
 
--- depth and places of a group are checked before its body
+-- The depth and the places of a group are checked before its body.
 -- rule: first-descriptor-decides
 group-before-its-body :
     (at_full (101002 ∷ 12102 ∷ []) ≡ Err (TemplateSize (word 101002)))
@@ -502,7 +503,7 @@ group-before-its-body :
 unfolding at_full after
 group-before-its-body = (refl, refl)
 
--- 25 is checked at the end of a group's body, and at last for the whole list
+-- Fault 25 is checked at the end of a group's body, and at the end for the whole list.
 -- rule: first-descriptor-decides
 empty-when-done :
     (means (102001 ∷ 201000 ∷ 12102 ∷ []) ≡ Err (UnknownElement (word 12102)))

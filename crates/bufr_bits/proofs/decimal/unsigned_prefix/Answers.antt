@@ -2,7 +2,7 @@ use Rattle.std.proofs.Common.{◌≡◌, ◌⊎◌, inl, inr, ◌≤◌, ◌+◌
 use Rattle.bufr_bits.proofs.ShortLemmas.{fraction_fits, rest_is, prefix_alone, prefix_pointed}
 use Rattle.bufr_bits.proofs.decimal.unsigned_prefix.Goals as goal
 
--- a zero that comes first is alone
+-- A zero that comes first is the only digit before the point.
 first_zero : (d count : ℕ) → ((d ≡ 48) × (count ≤ 1)) ⊎ (d ≡ 48 → ⊥) → d ≡ 48 → count ≤ 1
 first_zero d count (inl h) e = h.1
 first_zero d count (inr h) e = absurd (h e)

@@ -3,8 +3,8 @@ use Rattle.bufr_bits.specs.Prelude.{counted}
 use Rattle.bufr_text.specs.Prelude.{MovesPrefix, Stays}
 use Rattle.bufr_cli.proofs.buffered.write_out.Given as goal
 
--- a prefix was written, the rest is left, and no call failed; while octets are left, no write took
--- all of its octets
+-- A prefix was written, the other octets remain, and no call failed. While octets remain, no write
+-- accepted all of its octets.
 abbrev pub invariant-loop-rest : goal.invariant-loop-rest
 invariant-loop-rest g l = record {
   so_far : MovesPrefix (g.S.Sink.taken l.fn.sink) (g.S.Sink.taken l.sink) l.octets l.rest;

@@ -4,7 +4,7 @@ use Rattle.bufr_cli.specs.Prelude.{FlushesAtMost, input_of, writers_of}
 use Rattle.bufr_cli.proofs.RunLemmas.{RunSoFar}
 use Rattle.bufr_cli.proofs.run_pieces.run_pieces.Given as goal
 
--- pieces were written, and no device failed
+-- Pieces were written, and no device failed.
 abbrev pub invariant-loop-verdict : goal.invariant-loop-verdict
 invariant-loop-verdict g l = record {
   ran : RunSoFar (g.P.PieceWriter.reaches l.next) (input_of g.R.Source l.fn.r) (input_of g.R.Source l.r) (writers_of g.W.Sink l.fn.w g.E.Sink l.fn.e) (writers_of g.W.Sink l.w g.E.Sink l.e) l.tally
@@ -15,6 +15,6 @@ invariant-loop-verdict g l = record {
   memory : g.P.PieceWriter.takes_memory l.next ≡ g.P.PieceWriter.takes_memory l.fn.next;
 }
 
--- a piece is one more in the tally, and a read is one more
+-- Each piece raises the tally by one, and each read raises the number of reads by one.
 abbrev pub decreases-loop-verdict : goal.decreases-loop-verdict
 decreases-loop-verdict g l = (2 ^ 63 - (l.tally.accepted + l.tally.refused)) + (max_reads - g.P.PieceWriter.reads l.next)

@@ -5,7 +5,7 @@ use Rattle.bufr_frame.proofs.ScanLemmas.{none-so, none-stated, end-so, found-at-
 use Rattle.bufr_frame.proofs.finder.find_event.Goals.{then-m-lt-SECTION_0, else-m-lt-SECTION_0, else-not-ended-via-then-not-ended+else-m-max, else-not-ended-via-else-not-ended}
 use Rattle.bufr_frame.proofs.finder.find_event.Goals as goal
 
--- the length that is stated there
+-- the declared length
 short : (s : List ℕ) (place size : ℕ) → length (take (length s - place) (drop place s)) < 8 → size ≡ 0 → IsStatedLength (drop place s) size
 short s place size few is = (is ∙ sym (short-here (drop place s) (omega (arith, few, ap length (take_rest s place)))), omega (arith, is))
 

@@ -6,7 +6,7 @@ use Rattle.bufr_frame.specs.Prelude.{has_word_at}
 use Rattle.bufr_frame.proofs.ScanLemmas.{absent-there, first-there, found-after, none-after, nowhere-more}
 use Rattle.bufr_frame.proofs.finder.find_word.Goals as goal
 
--- the octets from an index on, and what the code asks of them
+-- the octets from an index on, and how the code compares them
 abbrev rest-from : (s : List ℕ) (place : ℕ) → List ℕ
 rest-from s place = take (length s - place) (drop place s)
 

@@ -1,7 +1,7 @@
 use Rattle.std.proofs.Common.{◌≡◌, ◌≤◌, ◌-◌, vec_len, vec_capacity, take}
 use Rattle.bufr_frame.proofs.input.fill_up.Given as goal
 
--- the octets before stay, and there is room for all places
+-- The existing octets and the capacity are unchanged, and there are at most `len` octets.
 abbrev pub invariant-places : goal.invariant-places
 invariant-places l = record {
   before : take (vec_len l.fn.octets) l.grown.items ≡ l.fn.octets.items;

@@ -4,7 +4,7 @@ use Rattle.bufr_frame.specs.Prelude.{AddsReads, max_reads}
 use Rattle.bufr_frame.proofs.FinderLemmas.{ReadSoFar}
 use Rattle.bufr_frame.proofs.input.read_to_end.Given as goal
 
--- octets were read and are held, at least one by each of the reads, which were counted and did not fail
+-- Octets were read and buffered, at least one by each read. Reads were counted, and none failed.
 abbrev pub invariant-loop-reads : goal.invariant-loop-reads
 invariant-loop-reads g l = record {
   so_far : ReadSoFar (g.R.Source.left l.fn.r) (g.R.Source.left l.r) l.fn.octets.items l.octets.items;

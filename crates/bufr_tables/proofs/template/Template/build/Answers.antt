@@ -14,7 +14,7 @@ returns-then-not-growing-clause-fault c = λ other.
     whole-empty (tables_of c.args.table_b.now c.args.table_d.now) c.args.descriptors.now (growth c.in_ok-cells.cells.items 0 0 false) (builder_model c.list.new.growing) _ (search rules)
     c.in_ok-list.ensures c.if-not-growing.true (search rules)
 
--- what has been built
+-- The cells that the code returns are a template for the list.
 built : (c : goal.In_ok-push_cell) → IsBuilt (tables_of c.args.table_b.now c.args.table_d.now) c.args.descriptors.now c.push_cell.new.cells.items c.list.new.growing.depth
 built c =
     whole-built (tables_of c.args.table_b.now c.args.table_d.now) c.args.descriptors.now (builder_model c.list.new.growing) c.push_cell.new.cells.items
