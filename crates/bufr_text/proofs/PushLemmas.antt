@@ -206,6 +206,11 @@ puts_retold old new at r h1 h2 = grind (arith, nat_tests, common_steps)
 pub puts_then : (old mid new : List ℕ) (at end : ℕ) (r : Option ℕ) (s t : List ℕ) {all : List ℕ} → Puts old at s mid (Some end) → Puts mid end t new r → s ++ t ≡ all → Puts old at all new r
 puts_then old mid new at end r s t h1 h2 h3 = grind (arith, nat_tests, common_steps)
 
+-- a prefix of a text is put, and then more of it
+pub text_put_on : (text rest here more old new : List ℕ) (at end : ℕ) → text ≡ take at old ++ rest → Puts old at here new (Some end) → rest ≡ here ++ more → text ≡ take end new ++ more
+text_put_on text rest here more old new at end so next is =
+    so ∙ ap (λ l. take at old ++ l) is ∙ sym (append_assoc (take at old) here more) ∙ ap (λ l. l ++ more) (sym next.1)
+
 -- a text is first
 pub puts_first : (s rest first : List ℕ) → first ≡ s → (length s ≤ length (first ++ rest)) × (take (length s) (first ++ rest) ≡ s)
 puts_first s rest first is = rw is (omega (arith, length-append s rest), take-append_seam s rest)

@@ -1,5 +1,5 @@
 //! A writer of lines: octets put into a block of memory, and handed on to a sink.
-ghost use Rattle.std.specs.Prelude.{◌≡◌, ◌≤◌, ◌+◌, ◌++◌, [], Ok, length, take, decimal, replicate, ◌<◌, Some, drop, codes, true};
+ghost use Rattle.std.specs.Prelude.{List, ℕ, ◌≡◌, ◌≤◌, ◌+◌, ◌++◌, [], Ok, length, take, decimal, replicate, ◌<◌, Some, drop, codes, true};
 ghost use Rattle.bufr_bits.specs.Prelude.{counted, decimal_text_of};
 ghost use Rattle.bufr_tables.specs.Prelude.{row_of_entry, row_comment, row_line_start};
 ghost use Rattle.bufr_text.specs.Prelude.{Pushes, PushesSomehow, Writes, CountsWrites, zero_padded, Puts, escaped, hex_digit, hex_text, is_unescaped, quoted};
@@ -108,6 +108,61 @@ fn fill_run(octets: &[u8], free: &mut [u8]) -> usize
         len += 1;
     }
     len
+}
+
+/// An octet of a text as it is or its escape, at the start of a block, and how many octets it has.
+#[inline(always)]
+// rule: text-escapes
+fn escape(octet: u8) -> ([u8; 4], usize)
+    ensures few { result.1 ≤ 4 }
+    ensures text { take result.1 result.0 ≡ escaped octet }
+{
+    if is_unescaped(octet) {
+        return ([octet, 0, 0, 0], 1);
+    }
+    if octet == b'"' || octet == b'\\' {
+        return ([b'\\', octet, 0, 0], 2);
+    }
+    let (high, low) = (hex_digit(octet / 16), hex_digit(octet % 16));
+    ([b'\\', b'x', high, low], 4)
+}
+
+/// Puts an octet of a text, as it is or by its escape, where there is room for any. Returns the
+/// index after it.
+#[inline(always)]
+fn put_escaped(octet: u8, free: &mut [u8], at: usize) -> usize
+    requires { at + 4 ≤ length free.old }
+    ensures { Puts free.old at (escaped octet) free.new (Some result) }
+{
+    let (block, count) = escape(octet);
+    free[at..at + 4].copy_from_slice(&block);
+    at + count
+}
+
+/// Fills a prefix with the octets at the start of a text, as far as there is room. Returns how many
+/// of the text, and how many of the prefix.
+#[inline(always)]
+fn fill_text(octets: &[u8], free: &mut [u8]) -> (usize, usize)
+    ensures within { result.0 ≤ length octets.now }
+    ensures room { result.1 ≤ length free.new }
+    ensures text { quoted octets.now
+        ≡ take result.1 free.new ++ quoted (drop result.0 octets.now) }
+{
+    // Most texts have no escape.
+    let mut taken = fill_run(octets, free);
+    let mut len = taken;
+    while taken < octets.len() && free.len() - len >= 4 {
+        let octet = octets[taken];
+        taken += 1;
+        len = put_escaped(octet, free, len);
+        // After an octet without an escape there are mostly more.
+        if is_unescaped(octet) {
+            let run = fill_run(suffix(octets, taken), &mut free[len..]);
+            taken += run;
+            len += run;
+        }
+    }
+    (taken, len)
 }
 
 impl<'b, 'w, W: Sink> LineWriter<'b, 'w, W> {
@@ -339,42 +394,35 @@ impl<'b, 'w, W: Sink> LineWriter<'b, 'w, W> {
 
     /// Pushes an octet of a text, as it is or by its escape.
     #[inline(never)]
-    // rule: text-escapes
     fn push_escaped(&mut self, octet: u8)
         ensures { Pushes self.old (escaped octet) self.new }
     {
-        if is_unescaped(octet) {
-            return self.push(&[octet]);
-        }
-        if octet == b'"' || octet == b'\\' {
-            return self.push(&[b'\\', octet]);
-        }
-        self.push(&[b'\\', b'x', hex_digit(octet / 16), hex_digit(octet % 16)]);
+        let (block, count) = escape(octet);
+        self.push(&block[..count]);
     }
 
-    /// Pushes the octets at the start of a text that need no escape, as far as there is room.
-    /// Returns how many.
+    /// Pushes the octets at the start of a text, as far as there is room. Returns how many.
     #[tactic(auto, using(crate::proofs::PushLemmas::held_steps))]
     #[inline(always)]
-    fn push_run(&mut self, octets: &[u8]) -> usize
+    fn push_start(&mut self, octets: &[u8]) -> usize
         ensures within { result ≤ length octets.now }
-        ensures pushes { Pushes self.old (take result octets.now) self.new }
-        ensures text { quoted octets.now
-            ≡ take result octets.now ++ quoted (drop result octets.now) }
+        ensures pushes { (text : List ℕ) × (Pushes self.old text self.new
+            × (quoted octets.now ≡ text ++ quoted (drop result octets.now))) }
     {
-        let len = fill_run(octets, &mut self.octets[self.len..]);
+        let (taken, len) = fill_text(octets, &mut self.octets[self.len..]);
         self.len += len;
-        len
+        taken
     }
 
-    /// Pushes the octets of a text, and the quote that closes it. Few texts have escapes.
+    /// Pushes the octets of a text, and the quote that closes it.
     // rule: text-quoted, text-inserted
     pub(crate) fn push_quoted(&mut self, octets: &[u8])
         ensures { Pushes self.old (quoted octets.now) self.new }
     {
         let mut rest = octets;
         while !rest.is_empty() {
-            rest = suffix(rest, self.push_run(rest));
+            rest = suffix(rest, self.push_start(rest));
+            // A block that is full is handed on.
             if let Some((octet, more)) = rest.split_first() {
                 self.push_escaped(*octet);
                 rest = more;
