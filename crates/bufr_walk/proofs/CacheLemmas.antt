@@ -1,9 +1,12 @@
 -- What is cached: specs by their keys, and lists of descriptors in slots.
 use Rattle.std.proofs.lemmas.Grind.{common_steps}
-use Rattle.std.proofs.Common.{◌≡◌, ◌≢◌, ℕ, zero, suc, inl, inr, Contains, slice_set, get_or, drop, refl, ◌⊎◌, ◌∙◌, ◌-◌, ◌+◌, ◌*◌, ◌<◌, arith, sym, ◌^◌, false, List, Ok, ap, subst, ◌≤◌, [], ◌∷◌, ◌++◌, length, length-append, nat_lt}
-use Rattle.bufr_walk.specs.Prelude.{Lists, with_room, IsKept, MayStay, list_of, lists_of, OperatorModel, IsKey, is_defining, element_spec, factor_spec, unsigned_field, IsFieldKey, descriptor_of, key_word, spec_of, FieldSpec, is_reference, IsSpecBy, IsOther, TableField}
+use Rattle.std.proofs.Common.{◌==◌, ℤ, unsigned_abs, Bool, true, Option, Some, None, IfSome, if◌then◌else◌, ◌≡◌, ◌≢◌, ℕ, zero, suc, inl, inr, Contains, slice_set, get_or, drop, refl, ◌⊎◌, ◌∙◌, ◌-◌, ◌+◌, ◌*◌, ◌<◌, arith, sym, ◌^◌, false, List, Ok, ap, subst, ◌≤◌, [], ◌∷◌, ◌++◌, length, length-append, nat_lt}
+use Rattle.bufr_walk.specs.Prelude.{Lists, with_room, IsKept, MayStay, list_of, lists_of, OperatorModel, IsKey, is_defining, element_spec, factor_spec, unsigned_field, IsFieldKey, descriptor_of, key_word, spec_of, FieldSpec, is_reference, IsSpecBy, IsOther, TableField, IsSpecFor, IsSpecKey, spec_key, HasOctets, Dependence, OnNothing, OnWidth, OnReference, by_reference, dependence, dependence_number, HasNumber, Redefined, redefined, current_reference, Kind, spec_by_kind, new_reference_spec, local_width_spec, listed_by}
 use Rattle.std.proofs.lemmas.Bool.Decides.{nat_tests}
-use Rattle.bufr_tables.specs.Prelude.{Row, Sequence}
+use Rattle.std.proofs.lemmas.Bool.{eqb-true}
+use Rattle.bufr_tables.specs.Prelude.{Row, Sequence, entry_of}
+use Rattle.bufr_tables.specs.declared.table_b.Kind.TheVariants as kind
+use Rattle.bufr_walk.specs.declared.spec_cache.SpecKey.{SpecKey}
 use Rattle.bufr_walk.proofs.WalkLemmas.{fitted_role, element_cases, kind_role}
 use Rattle.std.specs.List.{All, remove}
 use Rattle.std.proofs.lemmas.List.{map-append, drop-map, length-map, length-drop}
@@ -17,26 +20,32 @@ with_word s key word h = record {
   is = omega (arith, h.is);
   new_reference_width = h.new_reference_width;
   new_references = h.new_references;
-  width_change = h.width_change;
-  scale_change = h.scale_change;
-  precision_increase = h.precision_increase;
-  character_octets = h.character_octets;
-  local_width = h.local_width;
+  octets = h.octets;
 }
 
 -- the last octet of a number
 last_octet : (a b x y : ℕ) → a < 256 → b < 256 → a + 256 * x ≡ b + 256 * y → (a ≡ b) × (x ≡ y)
 last_octet a b x y p q e = (omega arith, omega arith)
 
--- a key has one list of operators and one word
-pub same_key : (a b : OperatorModel) (v w key : ℕ) → IsKey a v key → IsKey b w key → (a ≡ b) × (v ≡ w)
-same_key a b v w key h g = grind (arith, common_steps, last_octet)
+-- five octets and what is above them
+five_octets : (a b c d e v : ℕ) (a' b' c' d' e' w : ℕ) → a < 256 → b < 256 → c < 256 → d < 256 → e < 256 → a' < 256 → b' < 256 → c' < 256 → d' < 256 → e' < 256
+    → a + 256 * b + 65536 * c + 16777216 * d + 4294967296 * e + 1099511627776 * v ≡ a' + 256 * b' + 65536 * c' + 16777216 * d' + 4294967296 * e' + 1099511627776 * w
+    → (a ≡ a') × (b ≡ b') × (c ≡ c') × (d ≡ d') × (e ≡ e') × (v ≡ w)
+five_octets a b c d e v a' b' c' d' e' w ha hb hc hd he ga gb gc gd ge same =
+    let one = last_octet a a' (b + 256 * (c + 256 * (d + 256 * (e + 256 * v)))) (b' + 256 * (c' + 256 * (d' + 256 * (e' + 256 * w)))) ha ga (omega (arith, same)) in
+    let two = last_octet b b' (c + 256 * (d + 256 * (e + 256 * v))) (c' + 256 * (d' + 256 * (e' + 256 * w))) hb gb one.1 in
+    let three = last_octet c c' (d + 256 * (e + 256 * v)) (d' + 256 * (e' + 256 * w)) hc gc two.1 in
+    let four = last_octet d d' (e + 256 * v) (e' + 256 * w) hd gd three.1 in
+    let five = last_octet e e' v w he ge four.1 in
+    (one.0, two.0, three.0, four.0, five.0, five.1)
 
--- ---- The specs that are cached, and their keys.
+-- a word and what is above it
+last_word : (v w m n : ℕ) → v < 131072 → w < 131072 → v + 131072 * m ≡ w + 131072 * n → (v ≡ w) × (m ≡ n)
+last_word v w m n p q e = (omega arith, omega arith)
 
--- a spec that is found under the key of a field is the field's
-pub spec_got : (table : List Row) (s : OperatorModel) (f : TableField) (key : ℕ) (spec : FieldSpec) → IsFieldKey s f key → IsSpecBy table key spec → spec_of table s f ≡ Ok spec
-spec_got table s f key spec h g = g.is s f h.word (h.is g.few)
+word_small : (f : TableField) → descriptor_of f < 65536 → key_word f < 131072
+word_small (field.Element fxy) h = omega (arith, h)
+word_small (field.Factor fxy) h = omega (arith, h)
 
 -- fields with the same word are the same
 same_field : (f g : TableField) → descriptor_of f < 65536 → descriptor_of g < 65536 → key_word f ≡ key_word g → f ≡ g
@@ -45,17 +54,219 @@ same_field (field.Element v) (field.Factor w) p q e = absurd (omega (arith, e, p
 same_field (field.Factor v) (field.Element w) p q e = absurd (omega (arith, e, q))
 same_field (field.Factor v) (field.Factor w) p q e = let same : v ≡ w = omega (arith, e) in ap field.Factor same
 
--- the spec of a field may be cached under its key
-pub spec_cached : (table : List Row) (s : OperatorModel) (f : TableField) (key : ℕ) (spec : FieldSpec) → IsFieldKey s f key → spec_of table s f ≡ Ok spec → key < 2 ^ 62 → IsSpecBy table key spec
-spec_cached table s f key spec h found few = record {
-  few = few;
-  is = λ t g word k.
-      let e = same_key s t (key_word f) (key_word g) key (h.is few) k in
-      subst (λ x. spec_of table x g ≡ Ok spec) e.0 (subst (λ x. spec_of table s x ≡ Ok spec) (same_field f g h.word word e.1) found);
-}
+-- two numbers have one dependence
+same_dependence : (d e : Dependence) (number : ℤ) → dependence_number d ≡ dependence_number e → HasNumber d number → HasNumber e number → d ≡ e
+same_dependence OnNothing OnNothing number e p q = refl
+same_dependence OnNothing (OnWidth w) number e p q = absurd (omega (arith, e))
+same_dependence OnNothing (OnReference s) number e p q = absurd (omega (arith, e))
+same_dependence (OnWidth v) OnNothing number e p q = absurd (omega (arith, e))
+same_dependence (OnWidth v) (OnWidth w) number e p q = ap OnWidth (ap unsigned_abs (sym p ∙ q))
+same_dependence (OnWidth v) (OnReference s) number e p q = absurd (omega (arith, e))
+same_dependence (OnReference r) OnNothing number e p q = absurd (omega (arith, e))
+same_dependence (OnReference r) (OnWidth w) number e p q = absurd (omega (arith, e))
+same_dependence (OnReference r) (OnReference s) number e p q = ap OnReference (sym p ∙ q)
+
+-- operators that differ in nothing that the spec of this field depends on
+record AreSameFor (a b : OperatorModel) (f : TableField) : Type 0 where
+  width_change : a.width_change ≡ b.width_change
+  scale_change : a.scale_change ≡ b.scale_change
+  precision_increase : a.precision_increase ≡ b.precision_increase
+  character_octets : a.character_octets ≡ b.character_octets
+  local_width : a.local_width ≡ b.local_width
+  dependence : dependence a (descriptor_of f) ≡ dependence b (descriptor_of f)
+
+-- a key has one field, and operators that are the same for it
+same_key : (a b : OperatorModel) (f g : TableField) (key : SpecKey) → IsSpecKey a f key → IsSpecKey b g key → (f ≡ g) × AreSameFor a b f
+same_key a b f g key h k =
+    let m = dependence_number (dependence a (descriptor_of f)) in
+    let n = dependence_number (dependence b (descriptor_of g)) in
+    let six = five_octets a.width_change a.scale_change a.precision_increase a.character_octets a.local_width (key_word f + 131072 * m)
+    b.width_change b.scale_change b.precision_increase b.character_octets b.local_width (key_word g + 131072 * n) h.octets.width_change h.octets.scale_change h.octets.precision_increase h.octets.character_octets h.octets.local_width
+    k.octets.width_change k.octets.scale_change k.octets.precision_increase k.octets.character_octets k.octets.local_width (sym h.is ∙ k.is) in
+    let word = last_word (key_word f) (key_word g) m n (word_small f h.word) (word_small g k.word) six.5 in
+    let field : f ≡ g = same_field f g h.word k.word word.0 in
+    let number : HasNumber (dependence b (descriptor_of f)) key.number = rw field k.number in
+    let tie : m ≡ dependence_number (dependence b (descriptor_of f)) = word.1 ∙ ap (λ x. dependence_number (dependence b (descriptor_of x))) (sym field) in (
+      field,
+      record {
+        width_change = six.0;
+        scale_change = six.1;
+        precision_increase = six.2;
+        character_octets = six.3;
+        local_width = six.4;
+        dependence = same_dependence (dependence a (descriptor_of f)) (dependence b (descriptor_of f)) key.number tie h.number number;
+      },
+    )
+
+-- ---- The spec of a field by what it depends on.
 
 none_defining : (n : ℕ) → n ≡ 0 → nat_lt 0 n ≡ false
 none_defining n h = grind (arith, nat_tests)
+
+some_defining : (n : ℕ) → 0 < n → nat_lt 0 n ≡ true
+some_defining n h = grind (arith, nat_tests)
+
+not_defining : (n : ℕ) → nat_lt 0 n ≡ false → n ≡ 0
+not_defining n h = grind (arith, nat_tests)
+
+same_is : (n : ℕ) → (n == n) ≡ true
+same_is n = grind (arith, nat_tests)
+
+-- the redefined references that the spec of a field depends on
+abbrev alone : ℕ → Dependence → List Redefined
+alone fxy OnNothing = []
+alone fxy (OnWidth width) = []
+alone fxy (OnReference reference) = record { fxy = fxy; reference = reference } ∷ []
+
+-- the width of a reference that is being defined
+abbrev width_in : Dependence → ℕ
+width_in OnNothing = 0
+width_in (OnWidth width) = width
+width_in (OnReference reference) = 0
+
+current_alone : (known : List Redefined) (fxy : ℕ) (listed : ℤ) → current_reference known fxy listed ≡ current_reference (alone fxy (by_reference (redefined known fxy))) fxy listed
+current_alone [] fxy listed = refl
+current_alone (r ∷ known) fxy listed = by (r.fxy == fxy) (current_alone known fxy listed)
+  where
+    by : (b : Bool) → current_reference known fxy listed ≡ current_reference (alone fxy (by_reference (redefined known fxy))) fxy listed
+        → (if b then r.reference else current_reference known fxy listed) ≡ current_reference (alone fxy (by_reference (if b then Some r.reference else redefined known fxy))) fxy listed
+    by true more = sym (ap (λ b. if b then r.reference else listed) (same_is fxy))
+    by false more = more
+
+width_alone : (s : OperatorModel) (fxy : ℕ) → s.new_reference_width ≡ width_in (dependence s fxy)
+width_alone s fxy = by (is_defining s) refl
+  where
+    none : (o : Option ℤ) → width_in (by_reference o) ≡ 0
+    none None = refl
+    none (Some r) = refl
+
+    by : (b : Bool) → is_defining s ≡ b → s.new_reference_width ≡ width_in (if b then OnWidth s.new_reference_width else by_reference (redefined s.new_references fxy))
+    by true e = refl
+    by false e = not_defining s.new_reference_width e ∙ sym (none (redefined s.new_references fxy))
+
+-- the spec of a value, where the reference is the same
+kind_alone : (k : Kind) (s : OperatorModel) (row : Row) (known : List Redefined) → current_reference s.new_references row.fxy row.reference ≡ current_reference known row.fxy row.reference
+    → spec_by_kind k s row ≡ spec_by_kind k (record s { new_references = known }) row
+kind_alone kind.Character s row known e = refl
+kind_alone kind.Coded s row known e = rw e refl
+kind_alone kind.Numeric s row known e = rw e refl
+
+defined_alone : (k : Kind) (s : OperatorModel) (fxy : ℕ) (known : List Redefined) → new_reference_spec k s fxy ≡ new_reference_spec k (record s { new_references = known }) fxy
+defined_alone kind.Character s fxy known = refl
+defined_alone kind.Coded s fxy known = refl
+defined_alone kind.Numeric s fxy known = refl
+
+local_alone : (o : Option Row) (s : OperatorModel) (fxy : ℕ) (known : List Redefined) → local_width_spec o s fxy ≡ local_width_spec o (record s { new_references = known }) fxy
+local_alone None s fxy known = refl
+local_alone (Some row) s fxy known = refl
+
+listed_alone : (o : Option Row) (s : OperatorModel) (fxy : ℕ) → IfSome o (λ row. row.fxy ≡ fxy) → listed_by o s fxy ≡ listed_by o (record s { new_references = alone fxy (dependence s fxy) }) fxy
+listed_alone None s fxy is = refl
+listed_alone (Some row) s fxy is = by (is_defining s)
+  where
+    by : (b : Bool) → (if b then new_reference_spec row.kind s fxy else spec_by_kind row.kind s row)
+        ≡ (if b then new_reference_spec row.kind (record s { new_references = alone fxy (if b then OnWidth s.new_reference_width else by_reference (redefined s.new_references fxy)) }) fxy
+        else spec_by_kind row.kind (record s { new_references = alone fxy (if b then OnWidth s.new_reference_width else by_reference (redefined s.new_references fxy)) }) row)
+    by true = defined_alone row.kind s fxy []
+    by false = kind_alone row.kind s row (alone fxy (by_reference (redefined s.new_references fxy))) (rw is (current_alone s.new_references fxy row.reference))
+
+-- the row that is found is that of the descriptor
+row_found : (table : List Row) (fxy : ℕ) → IfSome (entry_of table fxy) (λ row. row.fxy ≡ fxy)
+row_found [] fxy = tt
+row_found (row ∷ table) fxy = by (row.fxy == fxy) (eqb-true row.fxy fxy) (row_found table fxy)
+  where
+    by : (b : Bool) → (b ≡ true → row.fxy ≡ fxy) → IfSome (entry_of table fxy) (λ r. r.fxy ≡ fxy) → IfSome (if b then Some row else entry_of table fxy) (λ r. r.fxy ≡ fxy)
+    by true is more = is refl
+    by false is more = more
+
+spec_alone : (table : List Row) (s : OperatorModel) (f : TableField) → spec_of table s f ≡ spec_of table (record s { new_references = alone (descriptor_of f) (dependence s (descriptor_of f)) }) f
+spec_alone table s (field.Factor fxy) = refl
+spec_alone table s (field.Element fxy) = by (nat_lt 0 s.local_width)
+  where
+    by : (b : Bool) → (if b then local_width_spec (entry_of table fxy) s fxy else listed_by (entry_of table fxy) s fxy)
+        ≡ (if b then local_width_spec (entry_of table fxy) (record s { new_references = alone fxy (dependence s fxy) }) fxy
+        else listed_by (entry_of table fxy) (record s { new_references = alone fxy (dependence s fxy) }) fxy)
+    by true = local_alone (entry_of table fxy) s fxy (alone fxy (dependence s fxy))
+    by false = listed_alone (entry_of table fxy) s fxy (row_found table fxy)
+
+abbrev operators : (width scale precision octets local new : ℕ) (known : List Redefined) → OperatorModel
+operators width scale precision octets local new known = record {
+  width_change = width;
+  scale_change = scale;
+  new_reference_width = new;
+  precision_increase = precision;
+  character_octets = octets;
+  local_width = local;
+  new_references = known;
+}
+
+-- operators that are the same for a field give it the same spec
+same_spec : (table : List Row) (a b : OperatorModel) (f : TableField) → AreSameFor a b f → spec_of table a f ≡ spec_of table b f
+same_spec table a b f h =
+    let fxy = descriptor_of f in
+    let width : a.new_reference_width ≡ b.new_reference_width = width_alone a fxy ∙ ap width_in h.dependence ∙ sym (width_alone b fxy) in
+    let known : alone fxy (dependence a fxy) ≡ alone fxy (dependence b fxy) = ap (alone fxy) h.dependence in
+    let all : operators a.width_change a.scale_change a.precision_increase a.character_octets a.local_width a.new_reference_width (alone fxy (dependence a fxy))
+    ≡ operators b.width_change b.scale_change b.precision_increase b.character_octets b.local_width b.new_reference_width (alone fxy (dependence b fxy)) =
+    rw (known, h.width_change, h.scale_change, h.precision_increase, h.character_octets, h.local_width, width) refl in
+    spec_alone table a f ∙ ap (λ s. spec_of table s f) all ∙ sym (spec_alone table b f)
+
+-- ---- The specs that are cached, and their keys.
+
+-- a spec that is found under the key of a field is the field's
+pub spec_got : (table : List Row) (s : OperatorModel) (f : TableField) (key : ℕ) (spec : FieldSpec) → IsFieldKey s f key → IsSpecBy table key spec → spec_of table s f ≡ Ok spec
+spec_got table s f key spec h g = g.is s f h.word (h.is g.few)
+
+-- the spec of a field may be cached under its key
+pub spec_cached : (table : List Row) (s : OperatorModel) (f : TableField) (key : SpecKey) (spec : FieldSpec) → IsSpecKey s f key → key.operators < 2 ^ 62 → spec_of table s f ≡ Ok spec → IsSpecFor table key spec
+spec_cached table s f key spec h few found = record {
+  few = few;
+  is = λ t g k.
+      let same = same_key s t f g key h k in
+      subst (λ x. spec_of table t x ≡ Ok spec) same.0 (sym (same_spec table s t f same.1) ∙ found);
+}
+
+-- a spec that is found under the whole key of a field is the field's
+pub spec_got_by : (table : List Row) (s : OperatorModel) (f : TableField) (key : SpecKey) (spec : FieldSpec) → IsSpecKey s f key → IsSpecFor table key spec → spec_of table s f ≡ Ok spec
+spec_got_by table s f key spec h g = g.is s f h
+
+-- the whole key of a field, part by part
+pub with_dependence : (s : OperatorModel) (f : TableField) (d : Dependence) (key : SpecKey) → HasOctets s → descriptor_of f < 65536 → dependence s (descriptor_of f) ≡ d
+    → key.operators ≡ spec_key s 0 + 1099511627776 * key_word f + 144115188075855872 * dependence_number d → HasNumber d key.number → IsSpecKey s f key
+with_dependence s f d key octets word is key_is number = record {
+  word = word;
+  is = omega (arith, key_is, ap dependence_number is);
+  number = subst (λ x. HasNumber x key.number) (sym is) number;
+  octets = octets;
+}
+
+pub width_dependence : (s : OperatorModel) (fxy : ℕ) → 0 < s.new_reference_width → dependence s fxy ≡ OnWidth s.new_reference_width
+width_dependence s fxy some = ap (λ b. if b then OnWidth s.new_reference_width else by_reference (redefined s.new_references fxy)) (some_defining s.new_reference_width some)
+
+pub other_dependence : (s : OperatorModel) (fxy : ℕ) (o : Option ℤ) → s.new_reference_width ≤ 0 → o ≡ redefined s.new_references fxy → dependence s fxy ≡ by_reference o
+other_dependence s fxy o none is =
+    ap (λ b. if b then OnWidth s.new_reference_width else by_reference (redefined s.new_references fxy)) (none_defining s.new_reference_width (omega (arith, none))) ∙ ap by_reference (sym is)
+
+plain_dependence : (s : OperatorModel) (fxy : ℕ) → s.new_reference_width ≡ 0 → s.new_references ≡ [] → dependence s fxy ≡ OnNothing
+plain_dependence s fxy none empty =
+    ap (λ b. if b then OnWidth s.new_reference_width else by_reference (redefined s.new_references fxy)) (none_defining s.new_reference_width none) ∙ ap (λ known. by_reference (redefined known fxy)) empty
+
+-- without redefined references the operators are the whole key
+plain_key : (s : OperatorModel) (f : TableField) (key : SpecKey) → descriptor_of f < 65536 → IsKey s (key_word f) key.operators → IsSpecKey s f key
+plain_key s f key word h =
+    let nothing : dependence s (descriptor_of f) ≡ OnNothing = plain_dependence s (descriptor_of f) h.new_reference_width h.new_references in
+    record {
+      word = word;
+      is = h.is ∙ ap (spec_key s) (omega (arith, ap dependence_number nothing));
+      number = subst (λ d. HasNumber d key.number) (sym nothing) tt;
+      octets = h.octets;
+    }
+
+pub plain_spec : (table : List Row) (key : SpecKey) (operators : ℕ) (spec : FieldSpec) → key.operators ≡ operators → IsSpecFor table key spec → IsSpecBy table operators spec
+plain_spec table key operators spec e h = record {
+  few = rw (← e) h.few;
+  is = λ s f word k. h.is s f (plain_key s f key word (rw e k));
+}
 
 -- while no reference is being defined, no element is one
 element_plain : (table : List Row) (s : OperatorModel) (fxy : ℕ) (spec : FieldSpec) → s.new_reference_width ≡ 0 → element_spec table s fxy ≡ Ok spec → is_reference spec.role ≡ false

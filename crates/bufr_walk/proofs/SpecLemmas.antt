@@ -1,7 +1,8 @@
 -- Each spec that is built is a specification.
 use Rattle.std.proofs.lemmas.Grind.{common_steps}
-use Rattle.std.proofs.Common.{◌≡◌, ℕ, ◌*◌, ◌≤◌, ◌^◌, Bool, true, false, List, [], ◌∷◌, subst, refl, arith, ◌∙◌, ap, ℤ, pos, ◌*ℤ◌, ◌==◌, nat_le, if◌then◌else◌, nat_lt, cond, Some, ◌%◌, unsigned_abs}
+use Rattle.std.proofs.Common.{◌≡◌, ℕ, ◌*◌, ◌≤◌, ◌^◌, Bool, true, false, List, [], ◌∷◌, ◌++◌, ◌+◌, ◌<◌, length, drop, get_or, sym, subst, refl, arith, ◌∙◌, ap, ℤ, pos, ◌*ℤ◌, ◌==◌, nat_le, if◌then◌else◌, nat_lt, cond, Some, ◌%◌, unsigned_abs}
 use Rattle.std.proofs.lemmas.Bool.{eqb-true}
+use Rattle.std.proofs.lemmas.List.{drop_more}
 use Rattle.std.proofs.lemmas.Int.{unsigned_abs-mul}
 use Rattle.std.proofs.Math.Nat.{mul-le-mul_left, mul-le-mul_right, pow-le-pow_right}
 use Rattle.std.proofs.lemmas.Bool.Decides.{nat_tests}
@@ -12,8 +13,9 @@ use Rattle.std.specs.BTreeMap.{insert_entry, is_at}
 use Rattle.std.specs.Map.{lookup}
 use Rattle.std.specs.Option.{unwrap_or}
 use Rattle.std.specs.Cmp.{unsigned_tied}
-use Rattle.bufr_walk.specs.Prelude.{Kind, Redefined, current_reference, with_reference, known_by, text_spec, Role, FieldSpec, IsSpec, HasWidth, HasRole, HasMissing, is_reference, number_field}
+use Rattle.bufr_walk.specs.Prelude.{Kind, Redefined, current_reference, redefined, with_reference, with_all, last_of, known_by, text_spec, Role, FieldSpec, IsSpec, HasWidth, HasRole, HasMissing, is_reference, number_field}
 use Rattle.bufr_tables.specs.declared.table_b.Kind.TheVariants as kind
+use Rattle.bufr_walk.specs.declared.references.NewReference.{NewReference}
 use Rattle.bufr_walk.specs.declared.spec.NumberParts.{NumberParts}
 use Rattle.bufr_walk.specs.declared.spec.Role.TheVariants as role
 use Rattle.bufr_walk.proofs.PlainLemmas.{is_reference_role, numeric_width}
@@ -59,50 +61,79 @@ known_more (e ∷ kept) fxy reference = by (nat_lt fxy e.0) (fxy == e.0) (known_
     by false true more = refl
     by false false more = let r : Redefined = record { fxy = e.0; reference = e.1 } in ap (λ known. r ∷ known) more
 
-not_below : (n : ℕ) → nat_lt n n ≡ false
-not_below n = grind (arith, nat_tests)
-
-same_is : (n : ℕ) → (n == n) ≡ true
-same_is n = grind (arith, nat_tests)
-
-with_first : (fxy : ℕ) (old reference : ℤ) (known : List Redefined) → with_reference fxy reference (record { fxy = fxy; reference = old } ∷ known) ≡ record { fxy = fxy; reference = reference } ∷ known
-with_first fxy old reference known = grind (arith, common_steps, nat_lt, not_below, same_is)
-
--- of two references of an element the second counts
-pub with_again : (fxy : ℕ) (old reference : ℤ) (known : List Redefined) → with_reference fxy reference (with_reference fxy old known) ≡ with_reference fxy reference known
-with_again fxy old reference [] = with_first fxy old reference []
-with_again fxy old reference (r ∷ known) = by (nat_lt fxy r.fxy) (fxy == r.fxy) refl refl (with_again fxy old reference known)
-  where
-    among : (x : Redefined) (more : List Redefined) (below same : Bool) → List Redefined
-    among x more below same =
-        if below then record { fxy = fxy; reference = reference } ∷ x ∷ more
-        else if same then record x { reference = reference } ∷ more
-        else x ∷ with_reference fxy reference more
-
-    by : (below same : Bool) → nat_lt fxy r.fxy ≡ below → (fxy == r.fxy) ≡ same
-        → with_reference fxy reference (with_reference fxy old known) ≡ with_reference fxy reference known
-        → with_reference fxy reference (if below then record { fxy = fxy; reference = old } ∷ r ∷ known else if same then record r { reference = old } ∷ known else r ∷ with_reference fxy old known)
-        ≡ among r known below same
-    by true same p q again = with_first fxy old reference (r ∷ known)
-    by false true p q again = ap (λ b. among (record r { reference = old }) known b (fxy == r.fxy)) p ∙ ap (λ b. among (record r { reference = old }) known false b) q
-    by false false p q again =
-        ap (λ b. among r (with_reference fxy old known) b (fxy == r.fxy)) p ∙ ap (λ b. among r (with_reference fxy old known) false b) q
-        ∙ ap (λ more. r ∷ more) again
-
 same_either_way : (a b : ℕ) → (a == b) ≡ (b == a)
 same_either_way a b = grind (arith, nat_tests)
 
 -- the reference that the map of words has, where it has one
-pub reference_found : (kept : List (ℕ × ℤ)) (fxy : ℕ) (listed : ℤ) → unwrap_or (lookup (is_at (nat_cmp fxy)) kept) listed ≡ current_reference (known_by kept) fxy listed
-reference_found [] fxy listed = refl
-reference_found (e ∷ kept) fxy listed = by (is_eq (nat_cmp fxy e.0)) (e.0 == fxy) (unsigned_tied fxy e.0 ∙ same_either_way fxy e.0) (reference_found kept fxy listed)
+pub reference_found : (kept : List (ℕ × ℤ)) (fxy : ℕ) → lookup (is_at (nat_cmp fxy)) kept ≡ redefined (known_by kept) fxy
+reference_found [] fxy = refl
+reference_found (e ∷ kept) fxy = by (is_eq (nat_cmp fxy e.0)) (e.0 == fxy) (unsigned_tied fxy e.0 ∙ same_either_way fxy e.0) (reference_found kept fxy)
   where
-    by : (a b : Bool) → a ≡ b → unwrap_or (lookup (is_at (nat_cmp fxy)) kept) listed ≡ current_reference (known_by kept) fxy listed
-        → unwrap_or (cond a (Some e.1) (lookup (is_at (nat_cmp fxy)) kept)) listed ≡ (if b then e.1 else current_reference (known_by kept) fxy listed)
+    by : (a b : Bool) → a ≡ b → lookup (is_at (nat_cmp fxy)) kept ≡ redefined (known_by kept) fxy
+        → cond a (Some e.1) (lookup (is_at (nat_cmp fxy)) kept) ≡ (if b then Some e.1 else redefined (known_by kept) fxy)
     by true true q more = refl
     by false false q more = more
     by true false q more = absurd cc
     by false true q more = absurd cc
+
+-- the redefined reference counts, where there is one
+pub current_or : (known : List Redefined) (fxy : ℕ) (listed : ℤ) → unwrap_or (redefined known fxy) listed ≡ current_reference known fxy listed
+current_or [] fxy listed = refl
+current_or (r ∷ known) fxy listed = by (r.fxy == fxy) (current_or known fxy listed)
+  where
+    by : (b : Bool) → unwrap_or (redefined known fxy) listed ≡ current_reference known fxy listed
+        → unwrap_or (if b then Some r.reference else redefined known fxy) listed ≡ (if b then r.reference else current_reference known fxy listed)
+    by true more = refl
+    by false more = more
+
+-- a reference that is added is that of its element
+redefined_with : (known : List Redefined) (f : ℕ) (reference : ℤ) (fxy : ℕ) → redefined (with_reference f reference known) fxy ≡ (if f == fxy then Some reference else redefined known fxy)
+redefined_with [] f reference fxy = refl
+redefined_with (r ∷ known) f reference fxy = by (nat_lt f r.fxy) (f == r.fxy) refl (redefined_with known f reference fxy)
+  where
+    bool_clash : true ≡ false → ⊥
+    bool_clash e = absurd cc
+
+    last : (a b : Bool) → ((a ≡ true) → b ≡ false) → (if b then Some r.reference else (if a then Some reference else redefined known fxy))
+        ≡ (if a then Some reference else (if b then Some r.reference else redefined known fxy))
+    last true true h = absurd (bool_clash (h refl))
+    last true false h = refl
+    last false true h = refl
+    last false false h = refl
+
+    apart : (f == r.fxy) ≡ false → (f == fxy) ≡ true → (r.fxy == fxy) ≡ false
+    apart p q = grind (arith, nat_tests)
+
+    by : (below same : Bool) → (f == r.fxy) ≡ same → redefined (with_reference f reference known) fxy ≡ (if f == fxy then Some reference else redefined known fxy)
+        → redefined (if below then record { fxy = f; reference = reference } ∷ r ∷ known else if same then record r { reference = reference } ∷ known else r ∷ with_reference f reference known) fxy
+        ≡ (if f == fxy then Some reference else (if r.fxy == fxy then Some r.reference else redefined known fxy))
+    by true same p more = refl
+    by false true p more =
+        let e : f ≡ r.fxy = eqb-true f r.fxy p in
+        rw e (over (r.fxy == fxy))
+      where
+        over : (b : Bool) → (if b then Some reference else redefined known fxy) ≡ (if b then Some reference else (if b then Some r.reference else redefined known fxy))
+        over true = refl
+        over false = refl
+    by false false p more = ap (λ o. if r.fxy == fxy then Some r.reference else o) more ∙ last (f == fxy) (r.fxy == fxy) (apart p)
+
+-- the last of several counts
+pub last_found : (recent : List NewReference) (known : List Redefined) (word : ℕ) → last_of recent word (redefined known word) ≡ redefined (with_all recent known) word
+last_found [] known word = refl
+last_found (n ∷ recent) known word =
+    ap (last_of recent word) (sym (redefined_with known n.word n.reference word)) ∙ last_found recent (with_reference n.word n.reference known) word
+
+-- the first of those that are left is added to the map
+pub sorted_more : (recent : List NewReference) (i : ℕ) (d : NewReference) (kept more : List (ℕ × ℤ)) → i < length recent → more ≡ insert_entry nat_cmp kept (get_or recent i d).word (get_or recent i d).reference
+    → with_all (drop (i + 1) recent) (known_by more) ≡ with_all (drop i recent) (known_by kept)
+sorted_more recent i d kept more h e =
+    let n = get_or recent i d in
+    ap (λ es. with_all (drop (i + 1) recent) (known_by es)) e ∙ ap (with_all (drop (i + 1) recent)) (known_more kept n.word n.reference) ∙ ap (λ xs. with_all xs (known_by kept)) (sym (drop_more recent i d h))
+
+-- one more is put behind several
+pub all_more : (recent : List NewReference) (n : NewReference) (known : List Redefined) → with_all (recent ++ n ∷ []) known ≡ with_reference n.word n.reference (with_all recent known)
+all_more [] n known = refl
+all_more (m ∷ recent) n known = all_more recent n (with_reference m.word m.reference known)
 
 pub power_small : (y : ℕ) → y ≤ 18 → 10 ^ y ≤ 10 ^ 18
 power_small y h = pow-le-pow_right {n = 10} (omega arith) h

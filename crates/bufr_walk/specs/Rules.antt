@@ -6,6 +6,9 @@ use Rattle.bufr_tables.specs.Prelude.{x_of, y_of, Row, entry_of}
 pub use Rattle.bufr_walk.specs.declared.spec.TurnRefusal.{TurnRefusal}
 use Rattle.bufr_walk.specs.Content.{Taken, Role, Kind, FieldSpec}
 use Rattle.bufr_walk.specs.declared.operators.OperatorOperands.{OperatorOperands}
+use Rattle.bufr_walk.specs.declared.references.NewReference.{NewReference}
+use Rattle.bufr_walk.specs.declared.references.References.{References}
+use Rattle.bufr_walk.specs.declared.spec_cache.SpecKey.{SpecKey}
 pub use Rattle.bufr_walk.specs.declared.operators.TableField.{TableField}
 use Rattle.bufr_walk.specs.declared.spec.TurnRefusal.TheVariants as refusal
 use Rattle.bufr_walk.specs.declared.spec.Taken.TheVariants as taken
@@ -251,6 +254,26 @@ abbrev pub known_by : List (ℕ × ℤ) → List Redefined
 known_by [] = []
 known_by (e ∷ more) = record { fxy = e.0; reference = e.1 } ∷ known_by more
 
+-- the redefined references with more of them, the last one last
+abbrev pub with_all : List NewReference → List Redefined → List Redefined
+with_all [] known = known
+with_all (n ∷ more) known = with_all more (with_reference n.word n.reference known)
+
+-- the redefined references that are kept
+abbrev pub known_of : References → List Redefined
+known_of r = with_all r.recent.items (known_by r.sorted.entries)
+
+-- the last of some redefined references that has this word, else the one before them
+abbrev pub last_of : List NewReference → ℕ → Option ℤ → Option ℤ
+last_of [] word before = before
+last_of (n ∷ more) word before =
+    last_of more word (if n.word == word then Some n.reference else before)
+
+-- the redefined reference of an element, if it has one
+abbrev pub redefined : List Redefined → ℕ → Option ℤ
+redefined [] fxy = None
+redefined (r ∷ more) fxy = if r.fxy == fxy then Some r.reference else redefined more fxy
+
 -- operands and redefined references together
 abbrev pub operator_model : OperatorOperands → List Redefined → OperatorModel
 operator_model o known = record {
@@ -277,16 +300,20 @@ spec_key s word =
     * s.character_octets
     + 4294967296 * s.local_width + 1099511627776 * word
 
--- the key of operators and a word, where no reference is being defined and none was redefined
-pub record IsKey (s : OperatorModel) (word key : ℕ) : Type 0 where
-  pub is : key ≡ spec_key s word
-  pub new_reference_width : s.new_reference_width ≡ 0
-  pub new_references : s.new_references ≡ []
+-- each operand in the key is an octet
+pub record HasOctets (s : OperatorModel) : Type 0 where
   pub width_change : s.width_change < 256
   pub scale_change : s.scale_change < 256
   pub precision_increase : s.precision_increase < 256
   pub character_octets : s.character_octets < 256
   pub local_width : s.local_width < 256
+
+-- the key of operators and a word, where no reference is being defined and none was redefined
+pub record IsKey (s : OperatorModel) (word key : ℕ) : Type 0 where
+  pub is : key ≡ spec_key s word
+  pub new_reference_width : s.new_reference_width ≡ 0
+  pub new_references : s.new_references ≡ []
+  pub octets : HasOctets s
 
 -- the key of the operators; a number from 2^62 on is no key
 pub record IsOperatorKey (s : OperatorModel) (key : ℕ) : Type 0 where
@@ -313,3 +340,40 @@ pub record IsFieldKey (s : OperatorModel) (f : TableField) (key : ℕ) : Type 0 
   pub most : key < 2 ^ 63
   pub word : descriptor_of f < 65536
   pub is : key < 2 ^ 62 → IsKey s (key_word f) key
+
+-- what the specification of a field depends on beside operands and its descriptor: on nothing, on
+-- the width of a reference that is being defined, or on a redefined reference
+pub data Dependence : Type 0 where
+  OnNothing : Dependence
+  OnWidth : (width : ℕ) → Dependence
+  OnReference : (reference : ℤ) → Dependence
+
+abbrev pub by_reference : Option ℤ → Dependence
+by_reference None = OnNothing
+by_reference (Some reference) = OnReference reference
+
+-- on what the specification of the field of a descriptor depends
+abbrev pub dependence : OperatorModel → ℕ → Dependence
+dependence s fxy =
+    if is_defining s then OnWidth s.new_reference_width
+    else by_reference (redefined s.new_references fxy)
+
+-- its number in the key of the cache
+abbrev pub dependence_number : Dependence → ℕ
+dependence_number OnNothing = 0
+dependence_number (OnWidth width) = 1
+dependence_number (OnReference reference) = 2
+
+-- the number beside the key
+abbrev pub HasNumber : Dependence → ℤ → Type 0
+HasNumber OnNothing number = Unit {0}
+HasNumber (OnWidth width) number = number ≡ pos width
+HasNumber (OnReference reference) number = number ≡ reference
+
+-- the whole key of a field
+pub record IsSpecKey (s : OperatorModel) (f : TableField) (key : SpecKey) : Type 0 where
+  pub word : descriptor_of f < 65536
+  pub is : key.operators ≡ spec_key s
+      (key_word f + 131072 * dependence_number (dependence s (descriptor_of f)))
+  pub number : HasNumber (dependence s (descriptor_of f)) key.number
+  pub octets : HasOctets s

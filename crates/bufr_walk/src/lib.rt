@@ -16,6 +16,7 @@ mod lists;
 mod operators;
 mod plain;
 mod reading;
+mod references;
 mod spec;
 mod spec_cache;
 mod visitor;

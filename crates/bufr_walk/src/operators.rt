@@ -1,15 +1,15 @@
 //! The operators in force, and the specification of a field under them.
 ghost use Rattle.std.specs.Prelude.{◌≡◌, ◌≤◌, ◌<◌, ◌*◌, ◌+◌, ◌^◌, ◌+ℤ◌, ◌*ℤ◌, ◌==◌, pos, unsigned_abs, List, Result, Ok, Err, Some, OnOk, IfErr, true, false};
 ghost use Rattle.bufr_tables.specs.Prelude.{row_of_entry, is_legal_operator, IsRow};
-ghost use Rattle.bufr_walk.specs.Prelude.{if_valid_width, spec_by_kind, unsigned_field, scale_change_of, operator_width, OperatorModel, Redefined, current_reference, AreOperands, known_by, operator_model, IsOperatorKey, HasRole, descriptor_of, begin, after_operator, IsFieldKey, spec_of};
+ghost use Rattle.bufr_walk.specs.Prelude.{if_valid_width, spec_by_kind, unsigned_field, scale_change_of, operator_width, OperatorModel, Redefined, current_reference, AreOperands, known_of, operator_model, IsOperatorKey, HasRole, descriptor_of, key_word, spec_key, HasOctets, begin, after_operator, IsFieldKey, IsSpecKey, spec_of};
 ghost use Rattle.bufr_tables.specs.declared.table_b.Kind.TheVariants as kinds;
 ghost use Rattle.bufr_walk.specs.declared.operators.OperatorOperands.{OperatorOperands};
 
+use crate::references::References;
 use crate::spec::{NumberParts, Role, Spec, TurnRefusal};
-use crate::spec_cache::NO_KEY;
+use crate::spec_cache::{NO_KEY, SpecKey};
 use bufr_tables::{Entry, Fxy, Kind, TableB};
 use std::alloc::Global;
-use std::collections::BTreeMap;
 use std::marker::Model;
 
 /// The operand Y of each operator in force, 0 where none is, as in `OperatorModel` of `specs/`.
@@ -33,6 +33,12 @@ const NO_OPERATORS: OperatorOperands = OperatorOperands {
     local_width: 0,
 };
 
+/// What is added to the key of a reference that is being defined.
+const DEFINING: u64 = 0x200_0000_0000_0000;
+
+/// What is added to the key of an element whose reference was redefined.
+const REDEFINED: u64 = 0x400_0000_0000_0000;
+
 /// A field that is looked up in Table B: an element, or the factor of a replication.
 #[derive(Clone, Copy)]
 pub(crate) enum TableField {
@@ -50,36 +56,47 @@ impl TableField {
             TableField::Element(fxy) | TableField::Factor(fxy) => fxy,
         }
     }
+
+    /// The number of its descriptor and its kind in a key.
+    #[inline(always)]
+    fn key_word(&self) -> u64
+        ensures value { result ≡ key_word self.now }
+        ensures word { descriptor_of self.now < 65536 }
+    {
+        match *self {
+            TableField::Element(fxy) => u64::from(fxy.word()),
+            TableField::Factor(fxy) => u64::from(fxy.word()) + 0x1_0000,
+        }
+    }
 }
 
-/// The operators in force, and the references that the data defined, by the word of their
-/// descriptor. Data may define thousands of references, and each item looks for its own.
+/// The operators in force, and the references that the data defined.
 #[derive(Drop)]
 pub(crate) struct OperatorState {
     pub(crate) operands: OperatorOperands,
-    pub(crate) new_references: BTreeMap<u16, i64>,
+    pub(crate) new_references: References,
     /// The part of the operators in the key of a spec, or [`NO_KEY`].
     pub(crate) key: u64,
 }
 
 impl Model for OperatorState {
-    ghost use Rattle.bufr_walk.specs.Rules.{OperatorModel, AreOperands, known_by, operator_model, IsOperatorKey};
+    ghost use Rattle.bufr_walk.specs.Rules.{OperatorModel, AreOperands, known_of, operator_model, IsOperatorKey};
 
     ghost Value = { OperatorModel };
 
-    ghost view = { λ a. operator_model a.operands (known_by a.new_references.entries) };
+    ghost view = { λ a. operator_model a.operands (known_of a.new_references) };
 
     ghost invariant = { λ a. AreOperands a.operands
-        × IsOperatorKey (operator_model a.operands (known_by a.new_references.entries)) a.key };
+        × IsOperatorKey (operator_model a.operands (known_of a.new_references)) a.key };
 }
 
-/// The operands in one number. [`NO_KEY`] where a reference is being defined or was redefined.
-pub(crate) fn key_by(operands: OperatorOperands, new_references: &BTreeMap<u16, i64>) -> u64
-    ensures { IsOperatorKey (operator_model operands (known_by new_references.now.entries)) result }
+/// The operands in one number, without the width of references that are being defined.
+#[inline(always)]
+fn operand_key(operands: OperatorOperands) -> u64
+    ensures value { (known : List Redefined) → result ≡ spec_key (operator_model operands known) 0 }
+    ensures octets { (known : List Redefined) → HasOctets (operator_model operands known) }
+    ensures few { result < 2 ^ 40 }
 {
-    if operands.new_reference_width > 0 || !new_references.is_empty() {
-        return NO_KEY;
-    }
     u64::from(operands.width_change)
         + 0x100 * u64::from(operands.scale_change)
         + 0x1_0000 * u64::from(operands.precision_increase)
@@ -87,18 +104,25 @@ pub(crate) fn key_by(operands: OperatorOperands, new_references: &BTreeMap<u16, 
         + 0x1_0000_0000 * u64::from(operands.local_width)
 }
 
+/// The operands in one number. [`NO_KEY`] where a reference is being defined or was redefined.
+pub(crate) fn key_by(operands: OperatorOperands, new_references: &References) -> u64
+    ensures { IsOperatorKey (operator_model operands (known_of new_references.now)) result }
+{
+    if operands.new_reference_width > 0 || !new_references.is_empty() {
+        return NO_KEY;
+    }
+    operand_key(operands)
+}
+
 /// The reference that the data defined for an element, or that of Table B.
-#[tactic(auto, using(crate::proofs::SpecLemmas::reference_found))]
+#[tactic(auto, using(crate::proofs::SpecLemmas::current_or))]
 #[inline(always)]
 // rule: new-reference-of-quantities
-fn reference_of(new_references: &BTreeMap<u16, i64>, entry: &Entry<'_>) -> i64
-    ensures { result ≡ current_reference (known_by new_references.now.entries)
+fn reference_of(new_references: &References, entry: &Entry<'_>) -> i64
+    ensures { result ≡ current_reference (known_of new_references.now)
         (row_of_entry entry.now).fxy (row_of_entry entry.now).reference }
 {
-    if new_references.is_empty() {
-        return entry.reference();
-    }
-    let redefined = new_references.get(&entry.fxy().word()).copied();
+    let redefined = new_references.get(entry.fxy().word());
     redefined.unwrap_or(entry.reference())
 }
 
@@ -235,22 +259,43 @@ impl OperatorState {
     {
         OperatorState {
             operands: NO_OPERATORS,
-            new_references: BTreeMap::new(alloc),
+            new_references: References::new(alloc),
             key: 0,
         }
     }
 
-    /// The key for the spec of a field.
+    /// The key for the spec of a field, where no reference is being defined or was redefined.
     #[tactic(auto, using(crate::proofs::CacheLemmas::with_word))]
     #[inline(always)]
     pub(crate) fn key(&self, field: &TableField) -> u64
         ensures { IsFieldKey self.now field.now result }
     {
-        match *field {
-            TableField::Element(fxy) => self.key + 0x100_0000_0000 * u64::from(fxy.word()),
-            TableField::Factor(fxy) => {
-                self.key + 0x100_0000_0000 * (u64::from(fxy.word()) + 0x1_0000)
-            }
+        self.key + 0x100_0000_0000 * field.key_word()
+    }
+
+    /// All that the spec of a field depends on.
+    #[inline(always)]
+    pub(crate) fn spec_key(&self, field: &TableField) -> SpecKey
+        ensures is { IsSpecKey self.now field.now result }
+        ensures few { result.operators < 2 ^ 62 }
+    {
+        let operators = operand_key(self.operands) + 0x100_0000_0000 * field.key_word();
+        let width = self.operands.new_reference_width;
+        if width > 0 {
+            return SpecKey {
+                operators: operators + DEFINING,
+                number: i64::from(width),
+            };
+        }
+        match self.new_references.get(field.fxy().word()) {
+            Some(reference) => SpecKey {
+                operators: operators + REDEFINED,
+                number: reference,
+            },
+            None => SpecKey {
+                operators,
+                number: 0,
+            },
         }
     }
 

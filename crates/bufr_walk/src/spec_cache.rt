@@ -1,6 +1,6 @@
 //! The specs of a template's cells, kept from one reading to the next.
 ghost use Rattle.std.specs.Prelude.{◌≡◌, ◌<◌, ◌≤◌, ◌^◌, IfSome};
-ghost use Rattle.bufr_walk.specs.Prelude.{IsSpecBy};
+ghost use Rattle.bufr_walk.specs.Prelude.{IsSpecBy, IsSpecFor};
 
 use crate::spec::{Role, Spec};
 use bufr_tables::{Fxy, TableB};
@@ -10,16 +10,24 @@ use std::marker::Model;
 /// The most cells of a template whose specs are cached.
 const MAX_CELLS: usize = 1024;
 
-/// The least number that is no key: nothing is cached under it.
+/// The least number that is no key of operators: no spec is found by it.
 pub(crate) const NO_KEY: u64 = 0x4000_0000_0000_0000;
 
 /// The key of an entry that has no spec.
 const EMPTY: u64 = u64::MAX;
 
+/// What the spec of a field depends on: the operators and the descriptor in one number, and the
+/// number that the data give: the width of a reference that is being defined, or the reference.
+#[derive(Clone, Copy)]
+pub(crate) struct SpecKey {
+    pub(crate) operators: u64,
+    pub(crate) number: i64,
+}
+
 /// A cached spec and its key.
 #[derive(Clone, Copy)]
 pub(crate) struct CachedSpec {
-    key: u64,
+    key: SpecKey,
     pub(crate) spec: Spec,
 }
 
@@ -89,11 +97,17 @@ impl<'a> SpecCache<'a> {
     {
         self.entries.clear();
         let spec = Spec::text(Role::Element, Fxy::from_word(0), 8, false);
-        let empty = CachedSpec { key: EMPTY, spec };
+        let key = SpecKey {
+            operators: EMPTY,
+            number: 0,
+        };
+        let empty = CachedSpec { key, spec };
         self.entries.resize(cells.min(MAX_CELLS), empty)
     }
 
-    /// The spec that was found last for a cell, if it was found under this key.
+    /// The spec that was found last for a cell, if it was found under this key while no reference
+    /// was redefined.
+    #[tactic(auto, using(crate::proofs::CacheLemmas::plain_spec))]
     #[inline(always)]
     pub(crate) fn get(&self, place: u32, key: u64) -> Option<&Spec>
         requires { key < 2 ^ 63 }
@@ -102,20 +116,36 @@ impl<'a> SpecCache<'a> {
         let place = place as usize;
         if place < self.entries.len() {
             let cached = &self.entries[place];
-            if cached.key == key {
+            if cached.key.operators == key {
                 return Some(&cached.spec);
             }
         }
         None
     }
 
-    /// Caches a spec that was found for a cell under this key, if that is a key.
-    pub(crate) fn insert(&mut self, place: u32, key: u64, spec: &Spec)
-        requires { key < 2 ^ 62 → IsSpecBy self.old key spec.now }
+    /// The spec that was found last for a cell, if it was found under this key.
+    #[inline(always)]
+    pub(crate) fn get_by(&self, place: u32, key: SpecKey) -> Option<&Spec>
+        requires { key.operators < 2 ^ 62 }
+        ensures { IfSome result (λ spec. IsSpecFor self.now key spec.now) }
+    {
+        let place = place as usize;
+        if place < self.entries.len() {
+            let cached = &self.entries[place];
+            if cached.key.operators == key.operators && cached.key.number == key.number {
+                return Some(&cached.spec);
+            }
+        }
+        None
+    }
+
+    /// Caches a spec that was found for a cell under this key.
+    pub(crate) fn insert(&mut self, place: u32, key: SpecKey, spec: &Spec)
+        requires { IsSpecFor self.old key spec.now }
         ensures { self.new ≡ self.old }
     {
         let place = place as usize;
-        if key < NO_KEY && place < self.entries.len() {
+        if place < self.entries.len() {
             self.entries[place] = CachedSpec { key, spec: *spec };
         }
     }

@@ -159,7 +159,6 @@ impl OperatorState {
 
     /// Takes a field. The width of 2 06 Y ends with it, and a new reference is kept. Room for the
     /// reference is made before.
-    #[tactic(auto, using(crate::proofs::SpecLemmas::with_again, crate::proofs::SpecLemmas::known_more))]
     #[inline(never)]
     // rule: last-reference-counts
     pub(crate) fn take<S: Fields>(
@@ -175,16 +174,13 @@ impl OperatorState {
             return self.take_other(spec, fields);
         }
         self.key = NO_KEY;
-        match self.new_references.insert(fxy.word(), 0) {
-            Ok(_) => {}
+        match self.new_references.reserve() {
+            Ok(()) => {}
             Err(_) => return Err(WalkStop::Memory),
         }
         match fields.take(spec) {
             Ok(Taken::Reference(reference)) => {
-                match self.new_references.insert(fxy.word(), reference) {
-                    Ok(_) => {}
-                    Err(_) => unreachable!(),
-                }
+                self.new_references.push(fxy.word(), reference);
                 self.operands.local_width = 0;
                 Ok(Taken::Reference(reference))
             }
@@ -246,7 +242,33 @@ fn end_pass(groups: &mut ArrayVec<Frame, 32>) -> u32
     frame.start
 }
 
-/// Takes the field of a cell, by the spec that is cached for it, or that is found and cached.
+/// Takes the field of a cell by its spec, which is found and cached unless it is cached already.
+#[tactic(auto, using(crate::proofs::CacheLemmas::spec_got_by))]
+#[inline(never)]
+fn take_field_by_key<S: Fields>(
+    field: TableField,
+    place: u32,
+    cache: &mut SpecCache<'_>,
+    fields: &mut S,
+    in_force: &mut OperatorState,
+) -> Result<Taken, WalkStop<S::Fault>>
+    ensures took { TakesField S.takes (spec_of cache.old in_force.old field) fields.old result
+        fields.new }
+    ensures kept { IfOk result
+        (λ t. in_force.new ≡ after_field in_force.old (descriptor_of field) t) }
+    ensures same { cache.new ≡ cache.old }
+{
+    let key = in_force.spec_key(&field);
+    if let Some(spec) = cache.get_by(place, key) {
+        return in_force.take(field.fxy(), spec, fields);
+    }
+    let spec = in_force.spec(cache.table, &field)?;
+    cache.insert(place, key, &spec);
+    in_force.take(field.fxy(), &spec, fields)
+}
+
+/// Takes the field of a cell. No reference is being defined nor was redefined where its spec is
+/// cached under the key of the operators, as nearly always.
 #[tactic(auto, using(crate::proofs::CacheLemmas::spec_got, crate::proofs::CacheLemmas::spec_got_plain))]
 #[inline(always)]
 fn take_field<S: Fields>(
@@ -265,11 +287,7 @@ fn take_field<S: Fields>(
     let key = in_force.key(&field);
     match cache.get(place, key) {
         Some(spec) => in_force.take_other(spec, fields),
-        None => {
-            let spec = in_force.spec(cache.table, &field)?;
-            cache.insert(place, key, &spec);
-            in_force.take(field.fxy(), &spec, fields)
-        }
+        None => take_field_by_key(field, place, cache, fields, in_force),
     }
 }
 

@@ -1,10 +1,5 @@
-use Rattle.std.proofs.Common.{sym}
-use Rattle.bufr_walk.proofs.CacheLemmas.{spec_cached, spec_got_plain}
+use Rattle.bufr_walk.proofs.CacheLemmas.{spec_got_plain}
 use Rattle.bufr_walk.proofs.walker.take_field.Goals as goal
 
 pub take_other-requires : goal.take_other-requires
 take_other-requires g c = spec_got_plain c.args.cache.now c.args.in_force.now c.args.field c.key-key.result c.in-Some.spec.now c.key-key.ensures c.in-Some.ensures
-
-pub insert-requires : goal.insert-requires
-insert-requires g c =
-    spec_cached c.args.cache.now c.args.in_force.now c.args.field c.key-key.result c.in_ok-spec-in-None.spec c.key-key.ensures (sym (rw c.cache.view_is at c.in_ok-spec-in-None.ensures))

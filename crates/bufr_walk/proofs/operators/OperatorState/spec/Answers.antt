@@ -3,7 +3,7 @@ use Rattle.std.specs.Int.{w128}
 use Rattle.std.proofs.Math.Facts.{to_z-of_z}
 use Rattle.std.proofs.lemmas.Bool.Decides.{nat_tests}
 use Rattle.bufr_tables.specs.Prelude.{row_of_entry, Row, entry_of}
-use Rattle.bufr_walk.specs.Prelude.{TurnRefusal, FieldSpec, OperatorModel, begin, element_spec, factor_spec, factor_by, listed_by, local_width_spec, new_reference_spec, spec_by_kind, known_by, operator_model, if_valid_width, unsigned_field, number_field}
+use Rattle.bufr_walk.specs.Prelude.{TurnRefusal, FieldSpec, OperatorModel, begin, element_spec, factor_spec, factor_by, listed_by, local_width_spec, new_reference_spec, spec_by_kind, known_of, operator_model, if_valid_width, unsigned_field, number_field}
 use Rattle.bufr_walk.specs.declared.spec.TurnRefusal.TheVariants as refusal
 use Rattle.bufr_tables.specs.declared.table_b.Kind.TheVariants as kind
 use Rattle.bufr_walk.specs.declared.spec.Role.TheVariants as role
@@ -50,21 +50,21 @@ counted_number row fxy w scale reference width scaled is = rw (width, scaled, is
 
 pub returns-then-width-from : goal.returns-then-width-from
 returns-then-width-from c =
-    let known = known_by c.self.inside.new_references.entries in
+    let known = known_of c.self.inside.new_references in
     rw (← c.self.view_is, c.in-Element.is) (given c.args.table.now (operator_model c.self.inside.operands known) c.in-Element.fxy (row_of_entry c.in-Some.entry) c.spec_by_kind.result
     c.in-Some.ensures.value c.if-operands-gt0.true (sym c.width.ensures ∙ c.if-width-from.true ∙ c.from.ensures)
     (c.spec_by_kind.ensures [] (to_z-of_z {w = w64} {z = c.reference.result} (record { sfits = c.reference.type_inv }) ∙ c.reference.ensures)))
 
 pub returns-in-Some-3 : goal.returns-in-Some-3
 returns-in-Some-3 c =
-    let known = known_by c.self.inside.new_references.entries in
+    let known = known_of c.self.inside.new_references in
     rw (← c.self.view_is, c.in-Element.is) (listed c.args.table.now (operator_model c.self.inside.operands known) c.in-Element.fxy (row_of_entry c.in-Some.entry) c.spec_by_kind-in-Some-3.result
     c.in-Some.ensures.value c.if-operands-gt0.false c.if-operands-gt0-2.false
     (c.spec_by_kind-in-Some-3.ensures known (to_z-of_z {w = w64} {z = c.reference_of-reference.result} (record { sfits = c.reference_of-reference.type_inv }) ∙ c.reference_of-reference.ensures)))
 
 pub returns-in-Some-get : goal.returns-in-Some-get
 returns-in-Some-get c =
-    let known = known_by c.self.inside.new_references.entries in
+    let known = known_of c.self.inside.new_references in
     rw (← c.self.view_is, c.in-Factor-2.is) (counted c.args.table.now (operator_model c.self.inside.operands known) c.in-Factor-2.fxy (row_of_entry c.in-Some-get.entry) c.number.result
     c.in-Some-get.ensures.value c.if-operands-gt0-4.false
     (c.number.ensures ∙ counted_number (row_of_entry c.in-Some-get.entry) c.in-Factor-2.fxy _ _ _ c.width-in-Some-get.ensures

@@ -1,0 +1,104 @@
+//! The references that the data define.
+ghost use Rattle.std.specs.Prelude.{◌≡◌, ◌<◌, [], true, Option, OnOk};
+ghost use Rattle.arrayvec.specs.ArrayVec.{array_vec_len};
+ghost use Rattle.bufr_walk.specs.Prelude.{known_by, known_of, last_of, redefined, with_all, with_reference};
+
+use arrayvec::ArrayVec;
+use std::alloc::{AllocError, Global};
+use std::collections::BTreeMap;
+
+/// A reference that the data defined, and the word of its descriptor.
+#[derive(Clone, Copy, Default)]
+pub(crate) struct NewReference {
+    word: u16,
+    reference: i64,
+}
+
+/// The references that the data defined, in this order: those in a map, then the last few, which
+/// take no memory. Data may define thousands, and each item looks for its own.
+#[derive(Drop)]
+pub(crate) struct References {
+    sorted: BTreeMap<u16, i64>,
+    recent: ArrayVec<NewReference, 8>,
+}
+
+/// Adds references to a map.
+fn sort(sorted: &mut BTreeMap<u16, i64>, recent: &[NewReference]) -> Result<(), AllocError>
+    ensures { OnOk result
+        (known_by sorted.new.entries ≡ with_all recent.now (known_by sorted.old.entries)) }
+{
+    for new in recent {
+        sorted.insert(new.word, new.reference)?;
+    }
+    Ok(())
+}
+
+/// The last of the references that has this word, else the one that was found before.
+fn last_of(recent: &[NewReference], word: u16, before: Option<i64>) -> Option<i64>
+    ensures { result ≡ last_of recent.now word before }
+{
+    let mut found = before;
+    for new in recent {
+        if new.word == word {
+            found = Some(new.reference);
+        }
+    }
+    found
+}
+
+impl References {
+    /// No reference. Takes no memory.
+    pub(crate) fn new(alloc: Global) -> References
+        ensures { known_of result ≡ [] }
+    {
+        References {
+            sorted: BTreeMap::new(alloc),
+            recent: ArrayVec::new(),
+        }
+    }
+
+    /// Whether there is no reference.
+    pub(crate) fn is_empty(&self) -> bool
+        ensures { result ≡ true → known_of self.now ≡ [] }
+    {
+        self.recent.is_empty() && self.sorted.is_empty()
+    }
+
+    /// The reference of an element.
+    #[tactic(auto, using(crate::proofs::SpecLemmas::reference_found, crate::proofs::SpecLemmas::last_found))]
+    pub(crate) fn get(&self, word: u16) -> Option<i64>
+        ensures { result ≡ redefined (known_of self.now) word }
+    {
+        let before = self.sorted.get(&word).copied();
+        last_of(self.recent.as_slice(), word, before)
+    }
+
+    /// Makes room for one more.
+    pub(crate) fn reserve(&mut self) -> Result<(), AllocError>
+        ensures same { OnOk result (known_of self.new ≡ known_of self.old) }
+        ensures room { OnOk result (array_vec_len self.new.recent < 8) }
+    {
+        if self.recent.is_full() {
+            sort(&mut self.sorted, self.recent.as_slice())?;
+            self.recent.clear();
+        }
+        Ok(())
+    }
+
+    /// Adds the reference of an element, where there is room.
+    #[tactic(auto, using(crate::proofs::SpecLemmas::all_more))]
+    pub(crate) fn push(&mut self, word: u16, reference: i64)
+        requires { array_vec_len self.old.recent < 8 }
+        ensures { known_of self.new ≡ with_reference word reference (known_of self.old) }
+    {
+        self.recent.push(NewReference { word, reference });
+    }
+
+    /// Drops all.
+    pub(crate) fn clear(&mut self)
+        ensures { known_of self.new ≡ [] }
+    {
+        self.sorted.clear();
+        self.recent.clear();
+    }
+}
