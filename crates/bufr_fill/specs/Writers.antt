@@ -16,7 +16,7 @@ pub record PlainOutModel : Type 0 where
   pub left : List DraftEntry
   pub bits : List Bool
 
--- a writer from its parts
+-- a writer of plain data from its parts
 abbrev pub plain_out_model : List DraftEntry → List Bool → PlainOutModel
 plain_out_model left bits = record { left = left; bits = bits }
 
@@ -38,8 +38,8 @@ pub record IsFilled (s : PlainOutModel) (spec : FieldSpec) (t : Taken)
   pub bits : s'.bits ≡ s.bits ++ bits_for spec.width content
   pub forth : length s.bits < length s'.bits
 
--- The fault is that of the next item. If the subset has no more items, it is a missing item on the
--- line that ends the subset, or on line 0 after the last entry.
+-- The fault is that of the next item. If the subset has no more items, the fault states the item
+-- that is expected, with the line that ends the subset, or line 0 after the last entry.
 abbrev pub IsFaultOf : FieldSpec → List DraftEntry → DraftFault → Type 0
 IsFaultOf spec [] f = f ≡ at_line 0 (wrong_for spec)
 IsFaultOf spec (Ends line ∷ more) f = f ≡ at_line line (wrong_for spec)
@@ -173,7 +173,7 @@ abbrev pub rows_left : PackedOutModel → List ItemRow
 rows_left s = rows (most_items s.subsets - s.index) s.index s.subsets
 
 -- The fault, by what comes next on the course: a fault of the next row, a refusal of the walk (on
--- the line of the first subset), or an item left over.
+-- the line of the first subset's next item or end), or an item left over.
 abbrev pub IsFaultHere : Next → PackedOutModel → DraftFault → Type 0
 IsFaultHere (take_next spec) s f = pack_across spec (item_row s.index s.subsets) ≡ Err f
 IsFaultHere (refused why) s f = f ≡ at_line (first_line_at s.index s.subsets) (walk_refused why)
