@@ -243,8 +243,7 @@ IsContentOf spec field_content.Missing =
 IsContentOf spec (field_content.Reference value) =
     (is_reference spec.role ≡ true) × (unsigned_abs value < 2 ^ (spec.width - 1))
 
--- The bits are a redefined reference of minus zero: only the sign bit is set. It is never written.
--- (own)
+-- The bits are minus zero, a redefined reference with only the sign bit set. None is written. (own)
 abbrev pub IsMinusZero : Role → List Bool → Type 0
 IsMinusZero role.Reference bits = bits ≡ true ∷ replicate (length bits - 1) false
 IsMinusZero _ bits = ⊥

@@ -84,7 +84,7 @@ abbrev pub IsWrittenAgain : Course → Data → Values → (used : ℕ) → List
 IsWrittenAgain course d values used drafts =
     (w : IsWritten course d.compressed d.subsets values drafts) × (length w.out ≤ used)
 
--- The fault is one of contents that compressed data cannot represent.
+-- The fault means that compressed data cannot represent the contents.
 abbrev pub IsUnlike : ItemFault → Type 0
 IsUnlike item_fault.UnequalFactor = Unit {0}
 IsUnlike item_fault.Increment = Unit {0}
@@ -149,8 +149,8 @@ OfTemplates law =
     → IsLegal template → law (next_item table template)
 
 -- A walk wrote the bits that the definition gives for the drafts, except those in `left`: the pass
--- over all drafts has these items first, with the answers of the walk, and continues as the pass
--- over `left`.
+-- over all drafts begins with these items, which have the answers of the walk, and continues as the
+-- pass over `left`.
 pub record WritesDrafts {D C E : Type 0} (filler : Filler D C E) (course : Course)
     (walked : List TakenField) (old new : List Bool) (drafts left : List D) : Type 0 where
   pub items : List (Item (WrittenItem C))

@@ -243,7 +243,7 @@ impl<'b, 'w, W: Sink> LineWriter<'b, 'w, W> {
         }
     }
 
-    /// [`LineWriter::push`], but never inlined.
+    /// Pushes octets like [`LineWriter::push`], but is never inlined.
     #[inline(never)]
     fn push_out_of_line(&mut self, octets: &[u8])
         ensures { Pushes self.old octets.now self.new }
@@ -304,7 +304,7 @@ impl<'b, 'w, W: Sink> LineWriter<'b, 'w, W> {
         }
     }
 
-    /// Pushes the line of an item that is a number in several pushes.
+    /// Pushes the line of an item that is a number, in several pushes.
     #[inline(never)]
     fn push_long_line(&mut self, entry: Entry<'_>, number: i64, scale: i16)
         ensures { Pushes self.old (row_line_start (row_of_entry entry.entry)
@@ -355,7 +355,7 @@ impl<'b, 'w, W: Sink> LineWriter<'b, 'w, W> {
         }
     }
 
-    /// Pushes the line of an item whose value is missing in several pushes.
+    /// Pushes the line of an item whose value is missing, in several pushes.
     #[inline(never)]
     fn push_long_missing(&mut self, entry: Entry<'_>)
         ensures { Pushes self.old (row_line_start (row_of_entry entry.entry)
@@ -376,7 +376,7 @@ impl<'b, 'w, W: Sink> LineWriter<'b, 'w, W> {
         }
     }
 
-    /// Pushes a number in decimal digits, with zeros before them if it has fewer than `digits`.
+    /// Pushes a number in at least `digits` decimal digits, padded with leading zeros.
     #[inline(always)]
     // rule: listing-time
     pub fn push_padded(&mut self, value: u64, digits: usize)
@@ -429,7 +429,7 @@ impl<'b, 'w, W: Sink> LineWriter<'b, 'w, W> {
         let mut rest = octets;
         while !rest.is_empty() {
             rest = suffix(rest, self.push_start(rest));
-            // The block has no room for the next octet, so this push may write the buffered ones.
+            // If the block has no room for the next octet, this push empties the block.
             if let Some((octet, more)) = rest.split_first() {
                 self.push_escaped(*octet);
                 rest = more;

@@ -196,8 +196,8 @@ course_of r = next_item r.table r.template
 abbrev pub counted_course_of : Read → CountedCourse
 counted_course_of r = counted_item r.table r.template
 
--- total number of turns over the passes that have these items, each up to what comes next after its
--- items
+-- the total number of turns over the passes that have these items, each up to what comes next after
+-- its items
 abbrev pub turns_in : {C : Type 0} → (FieldSpec → C → Taken) → CountedCourse
     → List (List (Item C)) → ℕ
 turns_in gives course [] = 0
@@ -325,8 +325,8 @@ abbrev pub EndsAt : {S E : Type 0} → (S → Call → Result (Unit {0}) E → S
 EndsAt sees s call (show_fault.Visitor e) s' = sees s call (Err e) s'
 EndsAt sees s call show_fault.Memory s' = (s' ≡ s) × NeedsMemory call
 
--- The calls were made: all of them if the result is `Ok`, or else those up to the one with the
--- fault. The steps are those of all turns, or of the turns up to that call.
+-- The calls were made: all of them if the result is `Ok`, or else those up to the fault. The steps
+-- are those of all turns, or of the turns up to the fault.
 abbrev pub Shows : {S E : Type 0} → (S → Call → Result (Unit {0}) E → S → Type 0) → S → List Timed
     → (turns : ℕ) → Result (Unit {0}) (ShowFault E) → S → (steps : ℕ) → Type 0
 Shows sees s [] turns (Ok _) s' steps = (s' ≡ s) × (steps ≡ ticked 0 turns)
