@@ -119,7 +119,8 @@ item_report (item_fault.Walk why) =
     let refused = refusal_parts why in
     (62, codes "walk " ∷ decimal refused.0 ∷ codes " descriptor " ∷ fxy_text refused.1 ∷ [])
 
--- the number of a fault where no document is: too many values have their own
+-- the number of a fault if there is no document: for a refusal of the walk, this is the number that
+-- `dump` reports
 abbrev pub number_of_draft_fault : DraftFault → ℕ
 number_of_draft_fault (draft_fault.Item line (item_fault.Walk why)) = (refusal_parts why).0
 number_of_draft_fault (draft_fault.Item line fault) = (item_report fault).0
@@ -210,25 +211,25 @@ draft_value_of spec (text octets) = text_form octets
 draft_value_of spec missing = missing_form
 draft_value_of spec (reference value) = reference_token (decimal_text_of value (pos 0))
 
--- ---- The content of a field from an item, as the code has it.
+-- ---- The content of a field from an item, as the code represents it.
 
 -- the content that a call returned, or its fault
 abbrev pub returned : {A E : Type 0} → (A → Content) → Result A E → Result Content E
 returned content (Ok a) = Ok (content a)
 returned content (Err e) = Err e
 
--- a text followed by spaces, up to `count` octets
+-- a text padded with spaces to `count` octets
 abbrev pub spaced : (count : ℕ) → List ℕ → List ℕ
 spaced count octets = octets ++ replicate (count - length octets) 32
 
--- the content of a field, whose text has `count` octets
+-- the content of a field; a text is padded with spaces to `count` octets
 abbrev pub padded_content : (count : ℕ) → FieldContent → Content
 padded_content count (field_content.Number raw) = number raw
 padded_content count (field_content.Text octets) = text (spaced count octets.now)
 padded_content count field_content.Missing = missing
 padded_content count (field_content.Reference value) = reference value
 
--- the contents that a field can have; it has room for a text, which does not read as missing
+-- The field can have this content. A text fits into the field and does not read as missing.
 abbrev pub IsContentOf : FieldSpec → FieldContent → Type 0
 IsContentOf spec (field_content.Number raw) =
     (is_character spec.kind ≡ false) × (is_reference spec.role ≡ false)
@@ -242,19 +243,21 @@ IsContentOf spec field_content.Missing =
 IsContentOf spec (field_content.Reference value) =
     (is_reference spec.role ≡ true) × (unsigned_abs value < 2 ^ (spec.width - 1))
 
--- minus zero: the sign bit alone; none is written (own)
+-- The bits are minus zero, a redefined reference with only the sign bit set. None is written. (own)
 abbrev pub IsMinusZero : Role → List Bool → Type 0
 IsMinusZero role.Reference bits = bits ≡ true ∷ replicate (length bits - 1) false
 IsMinusZero _ bits = ⊥
 
--- ---- The one spelling that a dump has of an item. (own)
+-- ---- The normal form of an item, as a dump writes it. (own)
 
--- the text that a dump writes for a decimal at a scale; a text that is no decimal stays
+-- the text that a dump writes for a decimal at a scale; digits that represent no number at this
+-- scale are unchanged
 abbrev pub decimal_again : List ℕ → ℤ → Result ℤ NumberFault → List ℕ
 decimal_again digits scale (Ok value) = decimal_text_of value scale
 decimal_again digits scale (Err why) = digits
 
--- a number by its value at the field's scale, and a text with spaces up to the field's octets
+-- the normal form of a value: a number is spelled by its value at the field's scale, and a text is
+-- padded with spaces to the length of the field
 abbrev pub normal_form : FieldSpec → DraftValue → DraftValue
 normal_form spec (number_token digits) =
     number_token (decimal_again digits spec.scale (decimal_value_of digits spec.scale))
@@ -264,7 +267,7 @@ normal_form spec missing_form = missing_form
 normal_form spec (reference_token digits) =
     reference_token (decimal_again digits (pos 0) (decimal_value_of digits (pos 0)))
 
--- the value of a kind with digits or octets
+-- the value of this kind with these digits or octets
 abbrev pub value_by : ValueKind → (digits : ℕ) → List ℕ → DraftValue
 value_by (value_kind.Decimal places negative) digits octets = number_token
     (short_text (record { digits = digits; places = places; negative = negative }))
@@ -273,16 +276,16 @@ value_by value_kind.Text digits octets = text_form octets
 value_by value_kind.Missing digits octets = missing_form
 value_by value_kind.Reference digits octets = reference_token octets
 
--- the item of a line, or with no kind the end of a subset
+-- the item of a line, or the end of a subset if there is no kind
 abbrev pub entry_by : Option ValueKind → (line fxy digits : ℕ) → List ℕ → DraftEntry
 entry_by None line fxy digits octets = Ends line
 entry_by (Some k) line fxy digits octets = Holds (draft line fxy (value_by k digits octets))
 
--- the entry of a stored one with these octets
+-- the entry that is stored with these octets
 abbrev pub entry_with : StoredEntry → List ℕ → DraftEntry
 entry_with e octets = entry_by e.kind e.line e.fxy e.start octets
 
--- the entries of stored ones, whose octets are in a block
+-- the entries that are stored with their octets in a block
 abbrev pub entries_stored : List ℕ → List StoredEntry → List DraftEntry
 entries_stored block kept = map (λ e. entry_with e (slice_range block e.start e.end)) kept
 
@@ -291,30 +294,31 @@ abbrev pub is_end : DraftEntry → Bool
 is_end (Holds d) = false
 is_end (Ends line) = true
 
--- the octets of a value, if it has any, are in order and inside a block of this size
+-- If values of this kind have octets, their start is not after their end, and they are inside a
+-- block of this size.
 abbrev pub AreOctetsInside : ValueKind → (size start end : ℕ) → Type 0
 AreOctetsInside (value_kind.Decimal places negative) size start end = Unit {0}
 AreOctetsInside _ size start end = (start ≤ end) × (end ≤ size)
 
--- the octets of a stored entry are inside a block of this size
+-- The octets of a stored entry are inside a block of this size.
 abbrev pub IsEntryInside : ℕ → StoredEntry → Type 0
 IsEntryInside size e = IfSome e.kind (λ k. AreOctetsInside k size e.start e.end)
 
--- the octets of all stored entries are inside a block of this size
+-- The octets of all stored entries are inside a block of this size.
 abbrev pub AreInside : ℕ → List StoredEntry → Type 0
 AreInside size kept = AllByRecursion (IsEntryInside size) kept
 
--- how many octets of a block stored entries have
+-- the total number of octets that stored entries have in a block
 abbrev pub octets_stored : List StoredEntry → ℕ
 octets_stored kept = sum_by (λ e. e.end - e.start) kept
 
--- the value of an item
+-- the model of the value of an item
 abbrev pub form_in : given.DraftValue → DraftValue
 form_in (item_value.Number digits) = number_token digits.now
 form_in (item_value.Text octets) = text_form octets.now
 form_in item_value.Missing = missing_form
 form_in (item_value.Reference digits) = reference_token digits.now
 
--- an item
+-- the model of an item
 abbrev pub draft_in : DraftItem → Draft
 draft_in item = draft item.line item.fxy (form_in item.form)

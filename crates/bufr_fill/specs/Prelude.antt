@@ -1,4 +1,4 @@
--- Passes on the names that proofs and other crates cite. Declares nothing.
+-- Re-exports the names that proofs and other crates cite, and declares nothing.
 pub use Rattle.bufr_fill.specs.Draft.{draft, text_form, missing_form, reference_token, subset, at_line, item_too_many, too_many_values, walk_refused, number_token, Draft, DraftEntry, Holds, Ends, Subset, prepend_to_subset, subsets_of, DraftValue, ValueKind, entry_by, value_by, is_end, entry_with, entries_stored, AreOctetsInside, IsEntryInside, AreInside, octets_stored, draft_in, form_in, item_report, expected_text, refusal_parts, number_of_draft_fault, Role, FieldContent, returned, raw_limit, content_of, normal_form, raw_within, is_of, is_marked, wrong_for, content_by_form, padded_content, draft_value_of, raw_of, reference_of, text_within, IsMinusZero, decimal_again, IsContentOf, spaced}
 pub use Rattle.bufr_fill.specs.declared.fault.DraftFault.{DraftFault}
 pub use Rattle.bufr_fill.specs.declared.fault.ItemFault.{ItemFault}

@@ -1,5 +1,5 @@
--- Only contracts need this file. The writers of data, compressed or not; the rows of all subsets,
--- and the k that is found. (own)
+-- Only contracts need this file. The writers of plain and compressed data, the rows of all subsets,
+-- and how the code finds k. (own)
 use Rattle.std.specs.Prelude.{ℕ, ◌≡◌, ◌≤◌, ◌<◌, ◌*◌, ◌^◌, Bool, List, [], ◌∷◌, ◌++◌, length, Option, Some, None, Result, Ok, Err, ◌+◌, ◌-◌, suc, ◌==◌, ◌&&◌, nat_lt, max, min, if◌then◌else◌, take}
 use Rattle.bufr_walk.specs.declared.spec.Taken.{Taken}
 use Rattle.bufr_walk.specs.Prelude.{FieldSpec, Content, answer_of, bits_for, Next, take_next, at_end, astray, refused, FieldFault, answer_first, max_values}
@@ -11,22 +11,23 @@ use Rattle.bufr_fill.specs.declared.packed_out.NumberRange.{NumberRange}
 use Rattle.bufr_fill.specs.declared.fault.DraftFault.TheVariants as draft_fault
 use Rattle.bufr_fill.specs.declared.field_value.FieldContent.TheVariants as field_content
 
--- the writer: the entries that are left, and the bits that were written
+-- a writer of plain data: the remaining entries, and the bits written so far
 pub record PlainOutModel : Type 0 where
   pub left : List DraftEntry
   pub bits : List Bool
 
--- a writer from its parts
+-- a writer of plain data from its parts
 abbrev pub plain_out_model : List DraftEntry → List Bool → PlainOutModel
 plain_out_model left bits = record { left = left; bits = bits }
 
--- what holds of a writer: `index` of `count` entries were taken, each for at most 2,040 bits
+-- the invariant of a writer: it took `index` of `count` entries, and wrote at most 2,040 bits for
+-- each
 pub record IsPlainOut (index count bits : ℕ) : Type 0 where
   pub within : index ≤ count
   pub few : count ≤ 2 ^ 45
   pub room : bits ≤ 2040 * index
 
--- the next item is that of the field, and was written
+-- The next item matches the field, and it was written.
 pub record IsFilled (s : PlainOutModel) (spec : FieldSpec) (t : Taken)
     (s' : PlainOutModel) : Type 0 where
   pub draft : Draft
@@ -37,61 +38,63 @@ pub record IsFilled (s : PlainOutModel) (spec : FieldSpec) (t : Taken)
   pub bits : s'.bits ≡ s.bits ++ bits_for spec.width content
   pub forth : length s.bits < length s'.bits
 
--- the fault of the next item, or of the line that ends the subset, which is 0 after the last
+-- The fault is that of the next item. If the subset has no more items, the fault states the item
+-- that is expected, with the line that ends the subset, or line 0 after the last entry.
 abbrev pub IsFaultOf : FieldSpec → List DraftEntry → DraftFault → Type 0
 IsFaultOf spec [] f = f ≡ at_line 0 (wrong_for spec)
 IsFaultOf spec (Ends line ∷ more) f = f ≡ at_line line (wrong_for spec)
 IsFaultOf spec (Holds d ∷ more) f =
     (why : ItemFault) × (content_of spec d ≡ Err why) × (f ≡ at_line d.line why)
 
--- a property of the fault, where it is one of the dump text and not that memory ran out
+-- The fault has this property, unless memory ran out.
 abbrev pub IfDraftFault : DraftFault → (DraftFault → Type 0) → Type 0
 IfDraftFault (draft_fault.Item line fault) p = p (at_line line fault)
 IfDraftFault draft_fault.Memory p = Unit {0}
 
--- one call: the next item was written, or is at fault, or memory ran out; a fault changes nothing
+-- The next item was written, or it was invalid, or memory ran out; a fault changes nothing.
 abbrev pub PlainFills : PlainOutModel → FieldSpec → Result Taken DraftFault → PlainOutModel → Type 0
 PlainFills s spec (Ok t) s' = IsFilled s spec t s'
 PlainFills s spec (Err e) s' = IfDraftFault e (IsFaultOf spec s.left) × (s' ≡ s)
 
--- the line of the next entry, 0 after the last
+-- the line of the next entry; 0 after the last entry
 abbrev pub line_at : List DraftEntry → ℕ
 line_at [] = 0
 line_at (Holds d ∷ more) = d.line
 line_at (Ends line ∷ more) = line
 
--- the entries after the end of a subset, where the end is next
+-- the entries after the end of a subset if this end is the next entry, or else the fault
 abbrev pub after_end : List DraftEntry → Result (List DraftEntry) DraftFault
 after_end [] = Err (at_line 0 item_too_many)
 after_end (Holds d ∷ more) = Err (at_line d.line item_too_many)
 after_end (Ends line ∷ more) = Ok more
 
--- the end of a subset was passed, or an item is next
+-- The end of a subset was taken, or it is not the next entry; a fault changes nothing.
 abbrev pub EndsSubset : PlainOutModel → Result (Unit {0}) DraftFault → PlainOutModel → Type 0
 EndsSubset s (Ok _) s' = (after_end s.left ≡ Ok s'.left) × (s'.bits ≡ s.bits)
 EndsSubset s (Err e) s' =
     (after_end s.left ≡ Err e) × (s' ≡ s)
 
--- the fault by what comes next: of the item, of the walk on its line, or of an item left over
+-- The fault, by what comes next on the course: a fault of the next item, a refusal of the walk (on
+-- the line of the next entry), or an item left over.
 abbrev pub IsFaultNext : Next → List DraftEntry → DraftFault → Type 0
 IsFaultNext (take_next spec) left f = IsFaultOf spec left f
 IsFaultNext (refused why) left f = f ≡ at_line (line_at left) (walk_refused why)
 IsFaultNext at_end left f = (1 ≤ length left) × (after_end left ≡ Err f)
 IsFaultNext astray left f = ⊥
 
--- the items of the next subset
+-- the items before the next end of a subset
 abbrev pub items_left : List DraftEntry → List Draft
 items_left [] = []
 items_left (Holds d ∷ more) = d ∷ items_left more
 items_left (Ends line ∷ more) = []
 
--- the line that ends the next subset; after the last subset it is 0
+-- the line of the next end of a subset; 0 after the last subset
 abbrev pub end_left : List DraftEntry → ℕ
 end_left [] = 0
 end_left (Holds d ∷ more) = end_left more
 end_left (Ends line ∷ more) = line
 
--- the writer: the subsets, how many items of each were taken, and the bits that were written
+-- a writer of compressed data: the subsets, the number of rows taken, and the bits written so far
 pub record PackedOutModel : Type 0 where
   pub subsets : List Subset
   pub index : ℕ
@@ -101,18 +104,18 @@ pub record PackedOutModel : Type 0 where
 abbrev pub new_packed_out : List Subset → PackedOutModel
 new_packed_out subsets = record { subsets = subsets; index = 0; bits = [] }
 
--- a writer for these subsets, where there is one at least
+-- a new writer for these subsets, or `None` if there are no subsets
 abbrev pub StartsPackedOut : List Subset → Option PackedOutModel → Type 0
 StartsPackedOut subsets None = subsets ≡ []
 StartsPackedOut subsets (Some s) = s ≡ new_packed_out subsets
 
--- the indices of the ends among entries, the first of which has index `from`
+-- the indices of the ends of subsets among entries; the first entry has index `from`
 abbrev pub ends_of : (from : ℕ) → List DraftEntry → List ℕ
 ends_of from [] = []
 ends_of from (Holds d ∷ more) = ends_of (from + 1) more
 ends_of from (Ends line ∷ more) = from ∷ ends_of (from + 1) more
 
--- what holds of a writer: the ends of its subsets, and bounds on its bits and values
+-- the invariant of a writer: the ends of its subsets, and limits on its bits and values
 pub record IsPackedOut (entries : List DraftEntry) (ends : List ℕ) (index bits : ℕ) : Type 0 where
   pub few : length entries ≤ 2 ^ 45
   pub ends_are : ends ≡ ends_of 0 entries
@@ -120,7 +123,7 @@ pub record IsPackedOut (entries : List DraftEntry) (ends : List ℕ) (index bits
   pub room : bits ≤ 2550 * (index * length ends)
   pub values : index * length ends ≤ max_values
 
--- the item of all subsets in a row was written after the bits before
+-- The item of all subsets in a row was appended to the bits.
 pub record IsPutAcross (old new : List Bool) (spec : FieldSpec) (a : ItemRow)
     (t : Taken) : Type 0 where
   pub contents : List Content
@@ -130,14 +133,15 @@ pub record IsPutAcross (old new : List Bool) (spec : FieldSpec) (a : ItemRow)
   pub bits : new ≡ old ++ item
   pub forth : length old < length new
 
--- the next item of all subsets was written
+-- The next item of all subsets was written.
 pub record IsPacked (s : PackedOutModel) (spec : FieldSpec) (t : Taken)
     (s' : PackedOutModel) : Type 0 where
   pub put : IsPutAcross s.bits s'.bits spec (item_row s.index s.subsets) t
   pub index : s'.index ≡ s.index + 1
   pub subsets : s'.subsets ≡ s.subsets
 
--- one call: the next item was packed, or is at fault, or memory ran out; a fault changes nothing
+-- The next item of all subsets was written, or it was invalid, or memory ran out; a fault changes
+-- nothing.
 abbrev pub PackedFills : PackedOutModel → FieldSpec → Result Taken DraftFault → PackedOutModel
     → Type 0
 PackedFills s spec (Ok t) s' = IsPacked s spec t s'
@@ -145,17 +149,17 @@ PackedFills s spec (Err e) s' =
     IfDraftFault e (λ f. pack_across spec (item_row s.index s.subsets) ≡ Err f)
     × (s' ≡ s)
 
--- the end of a cell, or the fault of an item that is left over
+-- the fault of an item that is left over in a subset, or else the result for the other subsets
 abbrev pub and_end : Option Draft → Result (Unit {0}) DraftFault → Result (Unit {0}) DraftFault
 and_end None rest = rest
 and_end (Some d) rest = Err (at_line d.line item_too_many)
 
--- whether all subsets end, or the first item that is left over
+-- success if all subsets end here, or else the fault of the first item that is left over
 abbrev pub all_at_end : List RowCell → Result (Unit {0}) DraftFault
 all_at_end [] = Ok tt
 all_at_end (c ∷ cells) = and_end c.draft (all_at_end cells)
 
--- a call finds that all subsets end, or the first item that is left over
+-- A call returns success if all subsets end here, or else the fault of the first item left over.
 abbrev pub EndsAllSubsets : (index : ℕ) → List Subset → Result (Unit {0}) DraftFault → Type 0
 EndsAllSubsets index subsets (Ok _) = all_at_end (cells_at index subsets) ≡ Ok tt
 EndsAllSubsets index subsets (Err e) = all_at_end (cells_at index subsets) ≡ Err e
@@ -164,25 +168,26 @@ EndsAllSubsets index subsets (Err e) = all_at_end (cells_at index subsets) ≡ E
 abbrev pub first_line_at : (index : ℕ) → List Subset → ℕ
 first_line_at index subsets = first_line (cells_at index subsets)
 
--- the rows that are left
+-- the remaining rows
 abbrev pub rows_left : PackedOutModel → List ItemRow
 rows_left s = rows (most_items s.subsets - s.index) s.index s.subsets
 
--- the fault by what comes next: of the item, of the walk on its line, or of an item left over
+-- The fault, by what comes next on the course: a fault of the next row, a refusal of the walk (on
+-- the line of the first subset's next item or end), or an item left over.
 abbrev pub IsFaultHere : Next → PackedOutModel → DraftFault → Type 0
 IsFaultHere (take_next spec) s f = pack_across spec (item_row s.index s.subsets) ≡ Err f
 IsFaultHere (refused why) s f = f ≡ at_line (first_line_at s.index s.subsets) (walk_refused why)
 IsFaultHere at_end s f = all_at_end (cells_at s.index s.subsets) ≡ Err f
 IsFaultHere astray s f = ⊥
 
--- ---- How the code finds the least k of an item, and what it writes.
+-- ---- How the code finds the least k of an item, and what it writes with this k.
 
--- the number of a content, or another where it is none
+-- the number in a content, or `other` if the content is not a number
 abbrev pub number_or : (other : ℕ) → FieldContent → ℕ
 number_or other (field_content.Number n) = n
 number_or other _ = other
 
--- an increment over a base
+-- the increment of a number over a base; 0 if the content is not a number
 abbrev pub over_of : (base : ℕ) → FieldContent → ℕ
 over_of base (field_content.Number n) = n - base
 over_of base _ = 0
@@ -192,36 +197,38 @@ abbrev pub spread : (base : ℕ) → List FieldContent → ℕ
 spread base [] = 0
 spread base (d ∷ ds) = max (over_of base d) (spread base ds)
 
--- the least number, or the greatest of 64 bits
+-- the least number among contents, or 2^64 - 1 if there are no numbers
 abbrev pub least_number : List FieldContent → ℕ
 least_number [] = 18446744073709551615
 least_number (d ∷ ds) = min (number_or 18446744073709551615 d) (least_number ds)
 
--- the least k from some k on, under 64, whose bits write an increment, else 64
+-- the least k, between `from` and 63, such that k bits can represent the increment `spread`; 64 if
+-- there is none
 unfoldable pub least_from : (may_be_missing : Bool) (spread from : ℕ) → ℕ
 least_from m spread from = first_from (λ k. nat_lt spread (raw_limit m k)) (64 - from) from
 
--- how many octets of a text come before the spaces at its end
+-- the length of a text without its trailing spaces
 abbrev pub trimmed : List ℕ → ℕ
 trimmed [] = 0
 trimmed (o ∷ os) = if (trimmed os == 0) && (o == 32) then 0 else suc (trimmed os)
 
--- how many octets determine a text: those before its last spaces, one more where all are 255
+-- the number of octets that determine a text: those before its trailing spaces, and one more if all
+-- of them are 255
 abbrev pub need : List ℕ → ℕ
 need os =
     if list_all (λ octet. octet == 255) (take (trimmed os) os) then suc (trimmed os) else trimmed os
 
--- how many octets determine a content
+-- the number of octets that determine a content; 1 if it is not a text
 abbrev pub need_of : FieldContent → ℕ
 need_of (field_content.Text octets) = need octets.now
 need_of _ = 1
 
--- how many octets determine each of the contents
+-- the number of octets that are enough to determine each of the contents; at least 1
 abbrev pub most_need : List FieldContent → ℕ
 most_need [] = 1
 most_need (d ∷ ds) = max (need_of d) (most_need ds)
 
--- an item was packed in at most `most` bits, or memory ran out
+-- An item was packed into at most `most` bits, or there was a fault and no bits were added.
 abbrev pub PacksItem : (old new : List Bool) → (expected : Result (List Bool) FieldFault)
     → (most : ℕ) → {E : Type 0} → Result (Unit {0}) E → Type 0
 PacksItem old new expected most (Ok _) =
@@ -229,22 +236,23 @@ PacksItem old new expected most (Ok _) =
     × (length old < length new)
 PacksItem old new expected most (Err _) = new ≡ old
 
--- a content's increment over a base fits k bits
+-- The increment of the content over a base fits into k bits.
 abbrev pub FitsIncrement : (base k : ℕ) → FieldContent → Type 0
 FitsIncrement base k (field_content.Number raw) = raw - base < 2 ^ k
 FitsIncrement base k _ = Unit {0}
 
--- the increment of each content over a base fits k bits
+-- The increment of each content over a base fits into k bits.
 abbrev pub AreShort : (base k : ℕ) → List FieldContent → Type 0
 AreShort base k ds = AllByRecursion (λ (d : FieldContent). FitsIncrement base k d) ds
 
--- the item of all subsets in a row was written, in at most `most` bits
+-- The item of all subsets in a row was written in at most `most` bits.
 pub record IsPutWithin (old new : List Bool) (spec : FieldSpec) (a : ItemRow) (most : ℕ)
     (t : Taken) : Type 0 where
   pub put : IsPutAcross old new spec a t
   pub few : length put.item ≤ most
 
--- the item of all subsets was written, or is at fault, or memory ran out; a fault changes nothing
+-- The item of all subsets was written, or it was invalid, or memory ran out; a fault changes
+-- nothing.
 abbrev pub PutAcross : (old new : List Bool) → FieldSpec → ItemRow → (most : ℕ)
     → Result Taken DraftFault → Type 0
 PutAcross old new spec a most (Ok t) = IsPutWithin old new spec a most t
@@ -263,21 +271,23 @@ abbrev pub entry_here : FieldSpec → DraftEntry → Result Content DraftFault
 entry_here spec (Holds d) = content_here spec (Some d) d.line
 entry_here spec (Ends line) = content_here spec None line
 
--- each content is one that the field can have
+-- Each content is one that the field can have.
 abbrev pub AreContentsOf : FieldSpec → List FieldContent → Type 0
 AreContentsOf spec ds = AllByRecursion (λ (d : FieldContent). IsContentOf spec d) ds
 
--- the contents, whose texts have `count` octets
+-- the contents, with their texts padded to `count` octets
 abbrev pub padded_contents : (count : ℕ) → List FieldContent → List Content
 padded_contents count [] = []
 padded_contents count (d ∷ ds) = padded_content count d ∷ padded_contents count ds
 
--- the least number among contents, or the greatest of 64 bits, and the greatest, or 0
+-- The range of the numbers among contents: the least (2^64 - 1 if there are no numbers) and the
+-- greatest (0 if there are none).
 pub record IsRangeOf (range : NumberRange) (contents : List FieldContent) : Type 0 where
   pub least : range.least ≡ least_number contents
   pub greatest : range.greatest ≡ spread 0 contents
 
--- all cells were converted, and the range of their numbers returned, or the first fault
+-- All cells were converted and the range of their numbers was returned, or there was a fault: that
+-- of the first invalid cell, or out of memory.
 abbrev pub ReturnsRow : (count : ℕ) → FieldSpec → List RowCell → List FieldContent
     → Result NumberRange DraftFault → Type 0
 ReturnsRow count spec cells contents (Ok range) =

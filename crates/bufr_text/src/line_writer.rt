@@ -1,4 +1,4 @@
-//! A writer of lines: octets put into a block of memory, and handed on to a sink.
+//! A writer that buffers lines in a block of memory and writes them to a sink.
 ghost use Rattle.std.specs.Prelude.{List, ℕ, ◌≡◌, ◌≤◌, ◌+◌, ◌++◌, [], Ok, length, take, decimal, replicate, ◌<◌, Some, drop, codes, true};
 ghost use Rattle.bufr_bits.specs.Prelude.{counted, decimal_text_of};
 ghost use Rattle.bufr_tables.specs.Prelude.{row_of_entry, row_comment, row_line_start};
@@ -13,12 +13,14 @@ use bufr_tables::Entry;
 use itoa::Buffer;
 use std::marker::Model;
 
-/// At the end of a line the held octets are handed on where they are at least so many.
+/// At the end of a line, buffered octets are written to the sink if there are at least this many.
 pub(crate) const PAGE: usize = 65_536;
 
-/// A writer of lines over a block of memory and a sink. Where a text does not fit, what is held is
-/// written, then the text. So the block may have any size. [`LineWriter::status`] reports the first
-/// fault; after it nothing is written.
+/// A writer that buffers lines in a block of memory and writes them to a sink.
+///
+/// If a text does not fit into the block, the buffered octets are written first and then the text,
+/// so the block may have any size. [`LineWriter::status`] reports the first fault; nothing is
+/// written after it.
 #[derive(Drop)]
 pub struct LineWriter<'b, 'w, W: Sink> {
     octets: &'b mut [u8],
@@ -52,14 +54,14 @@ impl<'b, 'w, W: Sink> Model for LineWriter<'b, 'w, W> {
 ///
 /// # Errors
 ///
-/// [`RunFault::Write`] where the writer fails or takes nothing; a prefix of the octets was taken.
+/// [`RunFault::Write`] if a write fails or takes no octets; a prefix of the octets was written.
 #[tactic(auto, using(crate::proofs::PushLemmas::write_steps))]
 // rule: one-write-a-line
 pub fn write_all<W: Sink>(octets: &[u8], w: &mut W) -> Result<(), RunFault>
     ensures writes { Writes (W.taken w.old) (W.taken w.new) octets.now result }
     ensures counts { CountsWrites (W.failures w.old) (W.failures w.new) (W.empty_writes w.old)
         (W.empty_writes w.new) result }
-    // Each write is given all that is left, so at most one write takes all that it is given.
+    // Each write is given all remaining octets, so at most one write takes all that it is given.
     ensures whole { W.whole_writes w.new ≤ counted (W.whole_writes w.old) 1 }
     ensures flushes { W.flushes w.new ≡ W.flushes w.old }
 {
@@ -74,7 +76,7 @@ pub fn write_all<W: Sink>(octets: &[u8], w: &mut W) -> Result<(), RunFault>
     Ok(())
 }
 
-/// Writes the octets before an index.
+/// Writes the octets before index `at`.
 fn write_prefix<W: Sink>(octets: &mut [u8], at: usize, w: &mut W) -> Result<(), RunFault>
     requires { at ≤ length octets.old }
     ensures writes { Writes (W.taken w.old) (W.taken w.new) (take at octets.old) result }
@@ -86,7 +88,7 @@ fn write_prefix<W: Sink>(octets: &mut [u8], at: usize, w: &mut W) -> Result<(), 
     write_all(&octets[..at], w)
 }
 
-/// The upper-case hexadecimal digit of a number.
+/// Returns the upper-case hexadecimal digit of a number under 16.
 fn hex_digit(n: u8) -> u8
     requires { n < 16 }
     ensures { result ≡ hex_digit n }
@@ -94,7 +96,8 @@ fn hex_digit(n: u8) -> u8
     if n < 10 { b'0' + n } else { b'A' - 10 + n }
 }
 
-/// Copies the octets at the start that need no escape, as far as there is room. Returns how many.
+/// Copies octets up to the first one that needs an escape, or until `free` is full. Returns the
+/// number of octets copied.
 #[tactic(auto, using(crate::proofs::NumberLemmas::run_steps))]
 #[inline(always)]
 fn fill_run(octets: &[u8], free: &mut [u8]) -> usize
@@ -110,7 +113,8 @@ fn fill_run(octets: &[u8], free: &mut [u8]) -> usize
     len
 }
 
-/// An octet of a text as it is or its escape, at the start of a block, and how many octets it has.
+/// Returns an octet of a text, escaped if necessary: an array that begins with the result, and the
+/// length of the result (1, 2 or 4).
 #[inline(always)]
 // rule: text-escapes
 fn escape(octet: u8) -> ([u8; 4], usize)
@@ -127,8 +131,8 @@ fn escape(octet: u8) -> ([u8; 4], usize)
     ([b'\\', b'x', high, low], 4)
 }
 
-/// Puts an octet of a text, as it is or by its escape, where there is room for any. Returns the
-/// index after it.
+/// Puts an octet of a text at index `at`, escaped if necessary. There must be room for the longest
+/// escape (4 octets). Returns the index after it.
 #[inline(always)]
 fn put_escaped(octet: u8, free: &mut [u8], at: usize) -> usize
     requires { at + 4 ≤ length free.old }
@@ -139,8 +143,9 @@ fn put_escaped(octet: u8, free: &mut [u8], at: usize) -> usize
     at + count
 }
 
-/// Fills a prefix with the octets at the start of a text, as far as there is room. Returns how many
-/// of the text, and how many of the prefix.
+/// Fills the beginning of `free` with octets from the beginning of a text, escaped if necessary, as
+/// far as there is room. Returns how many octets of the text were used, and how many octets of
+/// `free` were filled.
 #[inline(always)]
 fn fill_text(octets: &[u8], free: &mut [u8]) -> (usize, usize)
     ensures within { result.0 ≤ length octets.now }
@@ -148,14 +153,14 @@ fn fill_text(octets: &[u8], free: &mut [u8]) -> (usize, usize)
     ensures text { quoted octets.now
         ≡ take result.1 free.new ++ quoted (drop result.0 octets.now) }
 {
-    // Most texts have no escape.
+    // Most texts need no escapes.
     let mut taken = fill_run(octets, free);
     let mut len = taken;
     while taken < octets.len() && free.len() - len >= 4 {
         let octet = octets[taken];
         taken += 1;
         len = put_escaped(octet, free, len);
-        // After an octet without an escape there are mostly more.
+        // An octet that needs no escape is usually followed by more such octets.
         if is_unescaped(octet) {
             let run = fill_run(suffix(octets, taken), &mut free[len..]);
             taken += run;
@@ -166,7 +171,7 @@ fn fill_text(octets: &[u8], free: &mut [u8]) -> (usize, usize)
 }
 
 impl<'b, 'w, W: Sink> LineWriter<'b, 'w, W> {
-    /// A writer that holds nothing yet, over a block and a sink.
+    /// Creates a writer with an empty buffer in the block `octets`, which writes to the sink `w`.
     pub fn new(octets: &'b mut [u8], w: &'w mut W) -> LineWriter<'b, 'w, W>
         ensures held { result.held ≡ [] }
         ensures taken { result.taken ≡ W.taken w.old }
@@ -186,7 +191,7 @@ impl<'b, 'w, W: Sink> LineWriter<'b, 'w, W> {
         }
     }
 
-    /// Writes what is held and a text after it. Where a write fails, both are let go.
+    /// Writes the buffered octets and then a text. If a write fails, what was not written is lost.
     #[inline(never)]
     fn push_through(&mut self, octets: &[u8])
         ensures pushes { PushesSomehow self.old octets.now self.new }
@@ -199,7 +204,7 @@ impl<'b, 'w, W: Sink> LineWriter<'b, 'w, W> {
         }
     }
 
-    /// Writes what is held. Where a write fails, it is let go.
+    /// Writes the buffered octets. If a write fails, those that were not written are lost.
     #[inline(never)]
     pub fn hand_on(&mut self)
         ensures pushes { PushesSomehow self.old [] self.new }
@@ -213,7 +218,7 @@ impl<'b, 'w, W: Sink> LineWriter<'b, 'w, W> {
         }
     }
 
-    /// Writes what is held where that is at least [`PAGE`] octets, at the end of a line.
+    /// Ends a line: writes the buffered octets if there are at least [`PAGE`].
     #[inline(always)]
     pub(crate) fn end_line(&mut self)
         ensures pushes { Pushes self.old [] self.new }
@@ -238,7 +243,7 @@ impl<'b, 'w, W: Sink> LineWriter<'b, 'w, W> {
         }
     }
 
-    /// Pushes octets, and is not inlined.
+    /// Pushes octets like [`LineWriter::push`], but is never inlined.
     #[inline(never)]
     fn push_out_of_line(&mut self, octets: &[u8])
         ensures { Pushes self.old octets.now self.new }
@@ -246,7 +251,7 @@ impl<'b, 'w, W: Sink> LineWriter<'b, 'w, W> {
         self.push(octets);
     }
 
-    /// Pushes a few octets.
+    /// Pushes an array of octets.
     #[tactic(auto, using(crate::proofs::PushLemmas::held_steps))]
     #[inline(always)]
     pub(crate) fn push_array<const N: usize>(&mut self, octets: [u8; N])
@@ -258,7 +263,7 @@ impl<'b, 'w, W: Sink> LineWriter<'b, 'w, W> {
         }
     }
 
-    /// Pushes a number, as plain decimal digits.
+    /// Pushes a number in decimal digits.
     #[inline(always)]
     pub fn push_decimal(&mut self, value: u64)
         ensures { Pushes self.old (decimal value) self.new }
@@ -266,7 +271,7 @@ impl<'b, 'w, W: Sink> LineWriter<'b, 'w, W> {
         self.push_named(b"", value);
     }
 
-    /// Pushes a name and a number after it.
+    /// Pushes a name and then a number in decimal digits.
     #[tactic(auto, using(crate::proofs::PushLemmas::held_steps))]
     #[inline(always)]
     pub fn push_named(&mut self, name: &[u8], value: u64)
@@ -278,7 +283,7 @@ impl<'b, 'w, W: Sink> LineWriter<'b, 'w, W> {
         }
     }
 
-    /// Pushes a name and a number after it, text by text.
+    /// Pushes a name and then a number in decimal digits, in two pushes.
     #[inline(never)]
     fn push_named_parts(&mut self, name: &[u8], value: u64)
         ensures { Pushes self.old (name.now ++ decimal value) self.new }
@@ -287,7 +292,7 @@ impl<'b, 'w, W: Sink> LineWriter<'b, 'w, W> {
         self.push(Buffer::new().format(value).as_bytes());
     }
 
-    /// Pushes the line of a number that was read by an entry.
+    /// Pushes the line of an item that is a number, from its entry of Table B.
     #[inline(always)]
     pub(crate) fn push_number_line(&mut self, entry: Entry<'_>, number: i64, scale: i16)
         ensures { Pushes self.old (row_line_start (row_of_entry entry.entry)
@@ -299,7 +304,7 @@ impl<'b, 'w, W: Sink> LineWriter<'b, 'w, W> {
         }
     }
 
-    /// Pushes the line of a number that was read by an entry, text by text.
+    /// Pushes the line of an item that is a number, in several pushes.
     #[inline(never)]
     fn push_long_line(&mut self, entry: Entry<'_>, number: i64, scale: i16)
         ensures { Pushes self.old (row_line_start (row_of_entry entry.entry)
@@ -310,7 +315,8 @@ impl<'b, 'w, W: Sink> LineWriter<'b, 'w, W> {
         self.push(entry.comment());
     }
 
-    /// Pushes a number at a scale. No zeros come after the digit 0.
+    /// Pushes the decimal text of a number divided by 10 to the power of `scale`. With a negative
+    /// scale, zeros are appended, except to the number 0.
     #[inline(never)]
     // rule: decimal-sign, decimal-point, decimal-zeros-after
     pub(crate) fn push_scaled(&mut self, value: i128, scale: i16)
@@ -337,7 +343,7 @@ impl<'b, 'w, W: Sink> LineWriter<'b, 'w, W> {
         self.push_zeros(if size == 0 { 0 } else { places });
     }
 
-    /// Pushes the line of a missing value that was read by an entry.
+    /// Pushes the line of an item whose value is missing, from its entry of Table B.
     #[inline(always)]
     pub(crate) fn push_missing_line(&mut self, entry: Entry<'_>)
         ensures { Pushes self.old (row_line_start (row_of_entry entry.entry)
@@ -349,7 +355,7 @@ impl<'b, 'w, W: Sink> LineWriter<'b, 'w, W> {
         }
     }
 
-    /// Pushes the line of a missing value that was read by an entry, text by text.
+    /// Pushes the line of an item whose value is missing, in several pushes.
     #[inline(never)]
     fn push_long_missing(&mut self, entry: Entry<'_>)
         ensures { Pushes self.old (row_line_start (row_of_entry entry.entry)
@@ -360,7 +366,7 @@ impl<'b, 'w, W: Sink> LineWriter<'b, 'w, W> {
         self.push(entry.comment());
     }
 
-    /// Pushes digits `0`.
+    /// Pushes `count` digits `0`.
     #[inline(always)]
     pub(crate) fn push_zeros(&mut self, count: usize)
         ensures { Pushes self.old (replicate count 48) self.new }
@@ -370,7 +376,7 @@ impl<'b, 'w, W: Sink> LineWriter<'b, 'w, W> {
         }
     }
 
-    /// Pushes a number in at least so many digits, zeros before them.
+    /// Pushes a number in at least `digits` decimal digits, padded with leading zeros.
     #[inline(always)]
     // rule: listing-time
     pub fn push_padded(&mut self, value: u64, digits: usize)
@@ -382,7 +388,7 @@ impl<'b, 'w, W: Sink> LineWriter<'b, 'w, W> {
         self.push(text);
     }
 
-    /// Pushes two hexadecimal digits for each octet.
+    /// Pushes two upper-case hexadecimal digits for each octet.
     // rule: text-hexadecimal
     pub(crate) fn push_hex(&mut self, octets: &[u8])
         ensures { Pushes self.old (hex_text octets.now) self.new }
@@ -392,7 +398,7 @@ impl<'b, 'w, W: Sink> LineWriter<'b, 'w, W> {
         }
     }
 
-    /// Pushes an octet of a text, as it is or by its escape.
+    /// Pushes an octet of a text, escaped if necessary.
     #[inline(never)]
     fn push_escaped(&mut self, octet: u8)
         ensures { Pushes self.old (escaped octet) self.new }
@@ -401,7 +407,8 @@ impl<'b, 'w, W: Sink> LineWriter<'b, 'w, W> {
         self.push(&block[..count]);
     }
 
-    /// Pushes the octets at the start of a text, as far as there is room. Returns how many.
+    /// Pushes octets from the beginning of a text, escaped if necessary, as far as there is room in
+    /// the block. Returns how many octets of the text were used.
     #[tactic(auto, using(crate::proofs::PushLemmas::held_steps))]
     #[inline(always)]
     fn push_start(&mut self, octets: &[u8]) -> usize
@@ -414,7 +421,7 @@ impl<'b, 'w, W: Sink> LineWriter<'b, 'w, W> {
         taken
     }
 
-    /// Pushes the octets of a text, and the quote that closes it.
+    /// Pushes the octets of a text, escaped if necessary, and then the closing quote.
     // rule: text-quoted, text-inserted
     pub(crate) fn push_quoted(&mut self, octets: &[u8])
         ensures { Pushes self.old (quoted octets.now) self.new }
@@ -422,7 +429,7 @@ impl<'b, 'w, W: Sink> LineWriter<'b, 'w, W> {
         let mut rest = octets;
         while !rest.is_empty() {
             rest = suffix(rest, self.push_start(rest));
-            // A block that is full is handed on.
+            // If the block has no room for the next octet, this push empties the block.
             if let Some((octet, more)) = rest.split_first() {
                 self.push_escaped(*octet);
                 rest = more;
@@ -431,11 +438,11 @@ impl<'b, 'w, W: Sink> LineWriter<'b, 'w, W> {
         self.push(b"\"");
     }
 
-    /// Whether all that was pushed so far was written or is held.
+    /// Returns whether everything pushed so far was written or is buffered.
     ///
     /// # Errors
     ///
-    /// [`RunFault::Write`] where the sink failed or took nothing; nothing was written since.
+    /// [`RunFault::Write`] if a write failed or took no octets; nothing was written after it.
     #[inline(always)]
     pub fn status(&self) -> Result<(), RunFault>
         ensures { result ≡ self.now.status }
@@ -443,7 +450,7 @@ impl<'b, 'w, W: Sink> LineWriter<'b, 'w, W> {
         self.status
     }
 
-    /// Gives the sink back. What is still held is lost: call [`LineWriter::hand_on`] first.
+    /// Returns the sink. Buffered octets are lost, so call [`LineWriter::hand_on`] first.
     pub fn into_sink(self) -> &'w mut W
         ensures taken { W.taken result.now ≡ self.entry.taken }
         ensures failures { W.failures result.now ≡ self.entry.failures }
@@ -455,7 +462,7 @@ impl<'b, 'w, W: Sink> LineWriter<'b, 'w, W> {
     }
 }
 
-/// A sink that takes nothing: what is pushed stays in the block before it.
+/// A sink that takes no octets, for a writer whose octets must stay in its block.
 #[derive(Drop)]
 pub(crate) struct NoSink {
     pub(crate) empty_writes: u64,
@@ -487,7 +494,7 @@ impl Sink for NoSink {
 }
 
 impl<'b, 'w> LineWriter<'b, 'w, NoSink> {
-    /// The octets that are held.
+    /// Returns the buffered octets.
     #[inline(always)]
     pub(crate) fn held(&self) -> &[u8]
         ensures held { result.now ≡ self.now.held }

@@ -1,20 +1,20 @@
--- the operators in force, and the specification of a field under them
+-- the operators in effect, and the specification of a field under them
 pub mod Rules
 -- the turns of a template, what comes next after some items, and a walk over its cells
 pub mod Course
 -- the steps of a walk: the turns up to what comes next
 pub mod Steps
--- that a walk meets no element that Table B lacks
+-- each element that a walk meets has a row in Table B
 pub mod KnownRows
--- a field: its specification, its content, what it shows, and how it is read
+-- a field: its specification, its content, the value that is shown, and how it is read
 pub mod Content
--- the reading of data by a template, why data cannot be read, and the calls that show a reading
+-- the items of data, why data cannot be read, and the calls that show a reading
 pub mod Reading
--- a pass over a template, the reading of data, which is made of passes, and what reading answers
+-- a pass over a template, reading data in passes, and the result of reading
 pub mod Pass
--- the readers of data, compressed or not, and what a reading keeps of its items
+-- the readers of plain and compressed data, and what a reading stores of its items
 pub mod Readers
--- the lists of descriptors that are kept with their templates, and the specs of their cells
+-- the cached descriptor lists with their templates, and the specs of their cells
 pub mod TemplateCache
--- the names that others cite, from one place
+-- the names that proofs and other crates cite, re-exported
 pub mod Prelude

@@ -14,7 +14,7 @@ use Rattle.bufr_walk.specs.Reading.{DataCoding, plain, packed, would_be_many, Da
 use Rattle.bufr_walk.specs.declared.spec.Role.TheVariants as role
 use Rattle.bufr_tables.specs.Prelude.{Row, Tree}
 
--- ---- A pass, whatever is done with the fields.
+-- ---- A pass that reads or writes fields.
 
 -- a field that was read or written: its content, its answer, and the state after it
 pub record Step (S C : Type 0) : Type 0 where
@@ -22,8 +22,8 @@ pub record Step (S C : Type 0) : Type 0 where
   pub returned : Taken
   pub state : S
 
--- How a pass is made, from field to field: it reads (`reading`) or writes (`filling`). S is the state
--- between two fields, and E is a reason to stop.
+-- How a pass is made, from field to field: it reads (`reading`) or writes (`filling`). S is the
+-- state between two fields, and E is a reason to stop.
 pub record Passing (S C E : Type 0) : Type 0 where
   -- the step at a field: it is read or written, or the reason why not
   pub step : FieldSpec → S → Result (Step S C) E
@@ -74,8 +74,8 @@ module _ {S C E : Type 0} (how : Passing S C E) where
 
   -- The pass along a course, on which `course []` comes next. If that is a field with the answer t,
   -- the pass continues along the course after it, on which `course (t ∷ [])` comes next, and after
-  -- one more answer `course (t ∷ u ∷ [])`. `most` bounds the recursion: it is greater than the number
-  -- of bits (or of items to write), and each field uses at least one of them.
+  -- one more answer `course (t ∷ u ∷ [])`. `most` bounds the recursion: it is greater than the
+  -- number of bits (or of items to write), and each field uses at least one of them.
   abbrev pub pass : (most : ℕ) → Course → S → Pass S C E
   pass zero course s = empty_pass s (Some how.lost)
   pass (suc more) course s =
@@ -116,7 +116,7 @@ abbrev pub read_pass : {C : Type 0} → DataCoding C → (many : ℕ → Bool) �
 read_pass coding many course bits =
     pass (reading coding many) (suc (length bits)) course (record { items = 0; left = bits })
 
--- ---- The reading of data: a pass for each subset, or one for all where they are compressed.
+-- ---- Reading data: one pass for each subset, or a single pass over compressed data.
 
 abbrev pub DataPass : Type 0 → Type 0
 DataPass C = Pass Place C Stop
@@ -184,28 +184,29 @@ abbrev pub fault_of : Data → DataReading → Option WalkFault
 fault_of d r =
     option_map (λ why. fault_at why r.subset (length d.bits - length r.left)) r.stop
 
--- ---- What was read.
+-- ---- The items of a reading, and the calls that show them.
 
 -- the items that were read
 abbrev pub values_read : Read → Values
 values_read r = (reading_of (course_of r) r.source).values
 
--- the calls that show a reading, and the turns of the showing
+-- the calls that show a reading
 abbrev pub calls_of : Read → List Timed
 calls_of r = calls_for r (values_read r)
 
+-- the number of turns that showing a reading takes
 abbrev pub turns_shown : Read → ℕ
 turns_shown r = turns_for r (values_read r)
 
--- what was read are these items of compressed data
+-- A reading has this table, this number of subsets, and these items of compressed data.
 pub record IsPackedOf (p : PackedValues) (r : Read) : Type 0 where
   pub table : p.table ≡ r.table
   pub subsets : p.subsets ≡ r.source.subsets
   pub values : values_read r ≡ together p.items
 
--- ---- The same item by item: each is what comes next, read where the one before ended.
+-- ---- A pass described item by item: each item is read where the one before it ended.
 
--- A pass reads its items from a place on and then ends.
+-- Starting at a place, a pass reads its items and then ends.
 pub record ReadsTo {C : Type 0} (form : DataCoding C) (many : ℕ → Bool) (course : Course)
     (from : Place) (p : DataPass C) : Type 0 where
   pub reads : ReadsItems form course p.items from.left p.state.left
@@ -215,7 +216,7 @@ pub record ReadsTo {C : Type 0} (form : DataCoding C) (many : ℕ → Bool) (cou
 
 -- ---- The turns of passes.
 
--- the turns of the reading of data by a course
+-- the number of turns that reading data by a course takes
 abbrev pub turns_read_in : CountedCourse → (compressed : Bool) → (subsets : ℕ) → List Bool → ℕ
 turns_read_in course false n bits =
     turns_in answer_of course (map (λ p. p.items) (passes_apart (uncounted course) n bits))
@@ -225,10 +226,11 @@ turns_read_in course true n bits =
 abbrev pub turns_read : CountedCourse → Data → ℕ
 turns_read course d = turns_read_in course d.compressed d.subsets d.bits
 
--- ---- Where memory may run out.
+-- ---- When memory may run out.
 
--- It may run out in one of some passes, before the field that comes next after some of its items:
--- a reference, which must be kept, or where that many items want memory.
+-- Memory may run out in one of these passes, before the field that follows some of its items: if
+-- the field is a redefined reference, which must be stored, or if memory is allocated after this
+-- many items (`wants`). `turns` is the number of turns made up to this field.
 pub record RunsShort {C : Type 0} (form : DataCoding C) (wants : ℕ → Bool) (course : CountedCourse)
     (passes : List (DataPass C)) (turns : ℕ) : Type 0 where
   pub done : List (DataPass C)
@@ -244,7 +246,8 @@ pub record RunsShort {C : Type 0} (form : DataCoding C) (wants : ℕ → Bool) (
   pub turns_are : turns ≡ turns_in form.gives course (map (λ p. p.items) done)
       + (course (answers_in form.gives items)).turns
 
--- in one of the passes of a reading; compressed data want memory for each 64th item
+-- Memory may run out in one of the passes of a reading. For compressed data, memory is allocated
+-- for 64 items at a time.
 abbrev pub MayRunShort : CountedCourse → (compressed : Bool) → (subsets : ℕ) → List Bool
     → (turns : ℕ) → Type 0
 MayRunShort course false n bits turns =
@@ -253,10 +256,11 @@ MayRunShort course true n bits turns =
     RunsShort (packed n) (λ items. items % items_at_once == 0) course
     (passes_together (uncounted course) n bits) turns
 
--- ---- What a call that reads answers.
+-- ---- The result of a call that reads data.
 
--- How many bits the items take, or the fault of what stopped the reading; each with the steps of
--- its turns. Or memory ran out where it is wanted.
+-- A call that reads data returns the number of bits that the items take, or the fault that stopped
+-- the reading, or `Memory` if memory ran out (`MayRunShort`). Its steps are those of the turns that
+-- it made.
 -- rule: bits-left-over
 abbrev pub ReadsData : CountedCourse → Data → Result ℕ WalkFault → (steps : ℕ) → Type 0
 ReadsData course d (Ok used) steps =
@@ -269,7 +273,7 @@ ReadsData course d (Err why) steps =
     ⊎ ((why ≡ walk_fault.Memory) × (turns : ℕ)
     × MayRunShort course d.compressed d.subsets d.bits turns × (steps ≡ ticked 0 turns))
 
--- a reading by this table, this template and these data, or a fault
+-- A call returns a reading with this table, this template and these data, or a fault.
 abbrev pub AnswersReading : List Row → Tree → Data → Result Read WalkFault → (steps : ℕ) → Type 0
 AnswersReading table template d (Ok r) steps =
     (r.table ≡ table) × (r.template ≡ template) × (r.source ≡ d)

@@ -63,7 +63,7 @@ ReadsItems form course (i ∷ items) bits suffix =
 abbrev pub max_values : ℕ
 max_values = 134217728
 
--- how many items of compressed data have room at once (own)
+-- the number of items of compressed data for which memory is allocated at once (own)
 abbrev pub items_at_once : ℕ
 items_at_once = 64
 
@@ -94,7 +94,7 @@ abbrev pub each_subset : (subsets : ℕ) → Values → List (List (Item Content
 each_subset n (apart subsets) = subsets
 each_subset n (together items) = subsets_from n 0 items
 
--- how many items a reading keeps: of compressed data each one, of other data none
+-- the number of items that a reading stores: all items of compressed data, none of plain data
 abbrev pub items_kept : Values → ℕ
 items_kept (apart subsets) = 0
 items_kept (together items) = length items
@@ -137,7 +137,8 @@ fault_at (stops.Field (data_fault.TooManyValues f)) subset bit =
 fault_at (stops.Field data_fault.Memory) subset bit = walk_fault.Memory
 fault_at stops.Memory subset bit = walk_fault.Memory
 
--- the bits before the item at fault; where memory ran out there is none, and all may precede
+-- the number of bits before the invalid item; if memory ran out, no item is invalid, and as many as
+-- `all` bits may have been read
 abbrev pub bits_before : WalkFault → (all : ℕ) → ℕ
 bits_before (walk_fault.DataEnd s) all = s.bit
 bits_before (walk_fault.Width s) all = s.bit
@@ -171,12 +172,13 @@ data_report (walk_fault.Increment s) = (34, spot_text (codes "increment") s)
 data_report (walk_fault.TooManyValues s) = (35, spot_text (codes "too many values") s)
 data_report walk_fault.Memory = (73, [])
 
--- ---- What the reading of a message returns.
+-- ---- The result of reading a message.
 
 abbrev pub data_of : Sections → Data
 data_of m = record { compressed = m.compressed; subsets = m.subsets; bits = bits_of m.payload }
 
--- a reading as its users see it: what was read, how many bits it took, and how many items it keeps
+-- a reading as its users see it: the table, the template and the data, how many bits the items
+-- took, and how many items are stored
 pub record Read : Type 0 where
   pub table : List Row
   pub template : Tree
@@ -184,24 +186,25 @@ pub record Read : Type 0 where
   pub bits : ℕ
   pub held : ℕ
 
--- what comes next in its template
+-- the course of the template of a reading
 abbrev pub course_of : Read → Course
 course_of r = next_item r.table r.template
 
 -- ---- The turns of a reading. (Only contracts need them.)
 
--- the same course with its turns
+-- the same course, with its turns counted
 abbrev pub counted_course_of : Read → CountedCourse
 counted_course_of r = counted_item r.table r.template
 
--- the turns of the passes that have these items, each up to what comes next after them
+-- the total number of turns over the passes that have these items, each up to what comes next after
+-- its items
 abbrev pub turns_in : {C : Type 0} → (FieldSpec → C → Taken) → CountedCourse
     → List (List (Item C)) → ℕ
 turns_in gives course [] = 0
 turns_in gives course (items ∷ more) =
     (course (answers_in gives items)).turns + turns_in gives course more
 
--- ---- The calls of a visitor that show a reading, in order, up to its first fault.
+-- ---- The calls to a visitor that show a reading, in order, if the visitor accepts all of them.
 
 -- an item as it is shown: its descriptor, the row of Table B by which it was read (if it was), and
 -- its value
@@ -210,7 +213,7 @@ pub record View : Type 0 where
   pub entry : Option Row
   pub value : ShownValue
 
--- a call of a visitor: a subset begins, or an item is shown
+-- a call to a visitor: a subset begins, or an item is shown
 pub data Call : Type 0 where
   subset_call : (number : ℕ) → Call
   item_call : (item : View) → Call
@@ -232,7 +235,7 @@ pub record Timed : Type 0 where
 abbrev pub timed : ℕ → Call → Timed
 timed turns call = record { turns = turns; call = call }
 
--- the calls for the items of one subset, where the walk made `before` turns before the subset
+-- the calls for the items of one subset; the walk made `before` turns before the subset
 abbrev pub item_calls : List Row → (before : ℕ) → CountedCourse → List (Item Content)
     → List Timed
 item_calls table before course [] = []
@@ -240,7 +243,8 @@ item_calls table before course (i ∷ items) =
     timed (before + (course []).turns) (item_call (view_of table i.spec i.content))
     ∷ item_calls table before (after plain course i) items
 
--- the calls for subsets, the first of which has this number, from 1
+-- the calls for subsets; the first one has this number (counted from 1), and the walk made `before`
+-- turns before it
 abbrev pub subset_calls : List Row → CountedCourse → (before number : ℕ)
     → List (List (Item Content)) → List Timed
 subset_calls table course before number [] = []
@@ -249,26 +253,26 @@ subset_calls table course before number (items ∷ subsets) =
     ++ subset_calls table course (before + (course (answers_in answer_of items)).turns) (number + 1)
     subsets
 
--- compressed data are shown without a walk, so in no turns
+-- the course for showing compressed data: there is no walk, and therefore there are no turns
 abbrev pub without_turns : CountedCourse
 without_turns answers = record { turns = 0; next = at_end }
 
--- compressed data as they are shown: the table, how many subsets, and the items of all
+-- compressed data to be shown: the table, the number of subsets, and the items of all subsets
 pub record PackedValues : Type 0 where
   pub table : List Row
   pub subsets : ℕ
   pub items : List (Item (List Content))
 
--- the items of one subset from one index to before another
+-- the items of one subset (counted from 0), from index `from` up to but not including index `to`
 abbrev pub items_between : PackedValues → (subset from to : ℕ) → List (Item Content)
 items_between p j from to = items_of_subset j (drop from (take to p.items))
 
--- the item of an index is the same in all subsets
+-- The item at this index is the same in all subsets.
 abbrev pub IsSameInAll : PackedValues → (index : ℕ) → Type 0
 IsSameInAll p i = (j : ℕ) → j < p.subsets
     → items_between p j i (i + 1) ≡ items_between p 0 i (i + 1)
 
--- the calls for the items of one subset from one index to before another
+-- the calls that show the items of `items_between`
 abbrev pub range_calls : PackedValues → (subset from to : ℕ) → List Timed
 range_calls p j from to = item_calls p.table 0 without_turns (items_between p j from to)
 
@@ -276,7 +280,7 @@ range_calls p j from to = item_calls p.table 0 without_turns (items_between p j 
 abbrev pub packed_calls : PackedValues → List Timed
 packed_calls p = subset_calls p.table without_turns 0 1 (subsets_from p.subsets 0 p.items)
 
--- the walk of a showing
+-- the course by which a reading is shown
 abbrev pub walk_shown : Read → Values → CountedCourse
 walk_shown r (apart subsets) = counted_course_of r
 walk_shown r (together items) = without_turns
@@ -286,42 +290,43 @@ abbrev pub calls_for : Read → Values → List Timed
 calls_for r values =
     subset_calls r.table (walk_shown r values) 0 1 (each_subset r.source.subsets values)
 
--- the turns of a showing
+-- the number of turns that showing a reading takes
 abbrev pub turns_for : Read → Values → ℕ
 turns_for r values =
     turns_in answer_of (walk_shown r values) (each_subset r.source.subsets values)
 
--- 1 for a call of an item, 0 for one of a subset
+-- 1 for a call that shows an item, 0 for a call that begins a subset
 abbrev pub item_or_not : Call → ℕ
 item_or_not (subset_call number) = 0
 item_or_not (item_call item) = 1
 
--- how many of the calls are of items
+-- the number of calls that show items
 abbrev pub items_called : List Timed → ℕ
 items_called [] = 0
 items_called (t ∷ calls) = item_or_not t.call + items_called calls
 
--- ---- Calls of a visitor, one after another, up to the first fault, with the turns made for them.
+-- ---- The calls that are made, up to the first fault, and the turns that they take.
 
--- whether the value is a redefined reference, the only one that the walk keeps
+-- The value is a redefined reference, the only kind of value that the walk stores.
 abbrev pub IsReferenceValue : ShownValue → Type 0
 IsReferenceValue (shown_number value scale) = ⊥
 IsReferenceValue (shown_text octets) = ⊥
 IsReferenceValue shown_missing = ⊥
 IsReferenceValue (shown_reference value) = Unit {0}
 
--- whether memory may run out at the item
+-- Memory may run out before this call, because the walk must store the value of the item.
 abbrev pub NeedsMemory : Call → Type 0
 NeedsMemory (subset_call number) = ⊥
 NeedsMemory (item_call item) = IsReferenceValue item.value
 
--- a call that ends a showing: the visitor refuses it, or memory runs out before it
+-- The calls end with this one: the visitor refuses it, or memory runs out before it.
 abbrev pub EndsAt : {S E : Type 0} → (S → Call → Result (Unit {0}) E → S → Type 0) → S → Call
     → ShowFault E → S → Type 0
 EndsAt sees s call (show_fault.Visitor e) s' = sees s call (Err e) s'
 EndsAt sees s call show_fault.Memory s' = (s' ≡ s) × NeedsMemory call
 
--- the calls that were made: all at Ok, else a prefix; the steps are the turns up to its end
+-- The calls were made: all of them if the result is `Ok`, or else those up to the fault. The steps
+-- are those of all turns, or of the turns up to the fault.
 abbrev pub Shows : {S E : Type 0} → (S → Call → Result (Unit {0}) E → S → Type 0) → S → List Timed
     → (turns : ℕ) → Result (Unit {0}) (ShowFault E) → S → (steps : ℕ) → Type 0
 Shows sees s [] turns (Ok _) s' steps = (s' ≡ s) × (steps ≡ ticked 0 turns)
@@ -332,7 +337,7 @@ Shows {S} sees s (t ∷ calls) turns (Err why) s' steps =
     (EndsAt sees s t.call why s' × (steps ≡ ticked 0 t.turns))
     ⊎ ((mid : S) × sees s t.call (Ok tt) mid × Shows sees mid calls turns (Err why) s' steps)
 
--- ---- The model of the view of an item.
+-- ---- The model of an `ItemView`.
 
 -- the model of a value
 abbrev pub seen_value : Value → ShownValue
@@ -341,7 +346,7 @@ seen_value (item_value.Text t) = shown_text t.now
 seen_value item_value.Missing = shown_missing
 seen_value (item_value.Reference r) = shown_reference r
 
--- the model of the view of an item
+-- the model of an `ItemView`
 abbrev pub seen : ItemView → View
 seen v =
     record {

@@ -1,4 +1,4 @@
-//! The last lists of descriptors, each with its template and the specs that its cells were read by.
+//! A cache of recent descriptor lists, each with its template and the specs of its cells.
 ghost use Rattle.std.specs.Prelude.{◌≡◌, ◌<◌, Ok, IfOk, IfSome, ◌≢◌, ◌≤◌, ◌++◌, ◌∷◌, [], ℕ, length, vec_len, vec_capacity, true, false, IfErr, OnOk, OnErr, List, Err, Contains, IfNone, get_or};
 ghost use Rattle.bufr_tables.specs.Prelude.{Row, Sequence, tree_of, tables_of};
 ghost use Rattle.std.specs.List.{All};
@@ -11,13 +11,15 @@ use std::alloc::{AllocError, Global};
 use std::marker::Model;
 use std::mem;
 
-/// The most lists that are kept beside the last one.
+/// The maximum number of cached lists besides the last one.
 const MAX_OTHERS: usize = 127;
 
-/// The most descriptors of a list beside the last one, and the most cells of its template.
+/// The maximum number of descriptors of a cached list other than the last one, and the maximum
+/// number of cells of its template.
 const MAX_KEPT: usize = 1024;
 
-/// A list of descriptors, the template or fault that it is expanded to, and the specs of its cells.
+/// A descriptor list, the template or fault that results from its expansion, and the specs of the
+/// template's cells.
 #[derive(Drop)]
 struct Slot<'a> {
     list: Vec<Fxy>,
@@ -26,7 +28,7 @@ struct Slot<'a> {
 }
 
 impl<'a> Slot<'a> {
-    /// The list of no descriptors. Takes no memory.
+    /// Creates a slot for the empty list. Allocates no memory.
     fn new(alloc: Global, table_b: &'a TableB) -> Slot<'a>
         ensures slot { (table_d : List Sequence) → IsSlotBy table_b.now table_d result }
         ensures list { result.list.items ≡ [] }
@@ -38,7 +40,11 @@ impl<'a> Slot<'a> {
         }
     }
 
-    /// Expands a list, and makes room for the specs of its cells.
+    /// Expands a list, and allocates memory for the specs of the template's cells.
+    ///
+    /// # Errors
+    ///
+    /// [`AllocError`] if memory runs out.
     fn expand(
         alloc: Global,
         descriptors: &[Fxy],
@@ -63,7 +69,7 @@ impl<'a> Slot<'a> {
         })
     }
 
-    /// Whether its list is this one.
+    /// Returns whether this slot's list is `descriptors`.
     fn has(&self, descriptors: &[Fxy]) -> bool
         ensures same { result ≡ true → self.now.list.items ≡ descriptors.now }
         ensures other { result ≡ false → self.now.list.items ≢ descriptors.now }
@@ -71,7 +77,8 @@ impl<'a> Slot<'a> {
         self.list.as_slice() == descriptors
     }
 
-    /// Whether it may stay beside the last one.
+    /// Returns whether the slot may stay in the cache when another list becomes the last one: its
+    /// list has a template, and neither of them is too long.
     fn may_stay(&self) -> bool
         ensures stays { result ≡ true → (table_b : List Row) (table_d : List Sequence)
             → IsSlotBy table_b table_d self.now → MayStay table_b table_d self.now.list.items }
@@ -88,7 +95,7 @@ impl<'a> Slot<'a> {
     }
 }
 
-/// The index of the first of the slots that has this list of descriptors.
+/// Returns the index of the first slot whose list is `descriptors`, or `None` if there is none.
 fn index_of(slots: &[Slot<'_>], descriptors: &[Fxy]) -> Option<usize>
     ensures inside { IfSome result (λ index. index < length slots.now) }
     ensures there { IfSome result (λ index. (slot : Slot) → slot ≡ get_or slots.now index slot
@@ -98,7 +105,7 @@ fn index_of(slots: &[Slot<'_>], descriptors: &[Fxy]) -> Option<usize>
     slots.iter().position(|slot| slot.has(descriptors))
 }
 
-/// Drops the first of the slots where there is no room for one more.
+/// Drops the first slot if there are already [`MAX_OTHERS`].
 fn drop_first(slots: &mut Vec<Slot<'_>>)
     requires { length slots.old.items ≤ 127 }
     ensures items { slots.new.items ≡ with_room slots.old.items }
@@ -110,9 +117,11 @@ fn drop_first(slots: &mut Vec<Slot<'_>>)
     }
 }
 
-/// Templates by two tables. For a list of descriptors that is selected again, neither the template
-/// nor the specs of its cells are made again. A clause sees the tables, the list that was selected
-/// last, and the others that are kept.
+/// A cache of templates for one Table B and one Table D.
+///
+/// If a cached descriptor list is selected again, neither its template nor the specs of the
+/// template's cells are computed again. In contracts, a cache consists of its tables, the list that
+/// was selected last, and the other cached lists.
 ///
 /// ```
 /// let mut templates = TemplateCache::new(alloc, &table_b, &table_d);
@@ -149,7 +158,7 @@ impl<'a> Model for TemplateCache<'a> {
 }
 
 impl<'a> TemplateCache<'a> {
-    /// Templates by these tables; the list of no descriptors is the last. Takes no memory.
+    /// Creates a cache for these tables. Its last list is the empty list. Allocates no memory.
     pub fn new(alloc: Global, table_b: &'a TableB, table_d: &'a TableD) -> TemplateCache<'a>
         ensures { result ≡ record {
           table_b = table_b.now;
@@ -167,17 +176,19 @@ impl<'a> TemplateCache<'a> {
         }
     }
 
-    /// Makes this list of descriptors the last one, and expands it if it is not kept. The list
-    /// before it is kept as the last of the others if it has at most 1,024 descriptors, and its
-    /// template as many cells. At most 127 others are kept: if there are more, the first one is
-    /// dropped. A list that is kept is found without memory.
+    /// Makes a descriptor list the last one, and expands it if it is not cached.
     ///
-    /// The others take at most 9 MB: a descriptor takes 2 octets, a cell 8 (with room for up to
-    /// twice as many), and a cell's spec 48. That is at most 67,584 octets for each list.
+    /// The list that was last before stays in the cache if it has a template, at most 1,024
+    /// descriptors, and at most 1,024 cells in the template. At most 127 other lists are cached: if
+    /// there would be more, the first one is dropped. Selecting a cached list allocates no memory.
+    ///
+    /// The other lists take at most 9 MB: 2 octets for each descriptor, 8 for each cell (with room
+    /// for up to twice as many cells), and 48 for the spec of each cell. That is at most 67,584
+    /// octets for each list.
     ///
     /// # Errors
     ///
-    /// [`AllocError`] where memory runs out. Then the lists are as before.
+    /// [`AllocError`] if memory runs out; the cache is left unchanged.
     pub fn select(&mut self, descriptors: &[Fxy]) -> Result<(), AllocError>
         ensures table_b { self.new.table_b ≡ self.old.table_b }
         ensures table_d { self.new.table_d ≡ self.old.table_d }
@@ -218,8 +229,8 @@ impl<'a> TemplateCache<'a> {
         Ok(())
     }
 
-    /// Takes the specs of the last list's cells, for a walk over its template.
-    /// [`TemplateCache::put_specs`] puts them back; otherwise they are made again.
+    /// Takes the specs of the last list's cells out of the cache, for a walk over its template. Put
+    /// them back with [`TemplateCache::put_specs`]; otherwise they must be computed again.
     pub fn take_specs(&mut self) -> SpecCache<'a>
         ensures specs { result ≡ self.old.table_b }
         ensures same { self.new ≡ self.old }
@@ -230,7 +241,7 @@ impl<'a> TemplateCache<'a> {
         )
     }
 
-    /// Puts back the specs that were taken.
+    /// Puts back the specs that [`TemplateCache::take_specs`] returned.
     pub fn put_specs(&mut self, specs: SpecCache<'a>)
         requires { specs ≡ self.old.table_b }
         ensures { self.new ≡ self.old }
@@ -238,8 +249,8 @@ impl<'a> TemplateCache<'a> {
         self.last.specs = specs;
     }
 
-    /// The expansion of the last list: the template that [`Template::build`] makes, or its fault,
-    /// which is never `Memory`. Takes no memory.
+    /// Returns the result of expanding the last list: the template from [`Template::build`], or its
+    /// fault, which is never [`TemplateFault::Memory`]. Allocates no memory.
     pub fn answer(&self) -> &Result<Template, TemplateFault>
         ensures answer { tree_of (tables_of self.now.table_b self.now.table_d)
             self.now.list ≡ result.now }
@@ -248,14 +259,14 @@ impl<'a> TemplateCache<'a> {
         &self.last.answer
     }
 
-    /// The table that gives the elements of the templates.
+    /// Returns Table B, which defines the elements in the templates.
     pub fn table_b(&self) -> &'a TableB
         ensures { result.now ≡ self.now.table_b }
     {
         self.table_b
     }
 
-    /// The lists that are kept beside the last one are few, and each may stay.
+    /// Returns the number of cached lists besides the last one: at most 127.
     pub fn others(&self) -> usize
         ensures value { result ≡ length self.now.others }
         ensures few { length self.now.others ≤ 127 }
