@@ -1,4 +1,4 @@
-//! The operators in force, and the specification of a field under them.
+//! The operators in effect, and the spec of a field under them.
 ghost use Rattle.std.specs.Prelude.{◌≡◌, ◌≤◌, ◌<◌, ◌*◌, ◌+◌, ◌^◌, ◌+ℤ◌, ◌*ℤ◌, ◌==◌, pos, unsigned_abs, List, Result, Ok, Err, Some, OnOk, IfErr, true, false};
 ghost use Rattle.bufr_tables.specs.Prelude.{row_of_entry, is_legal_operator, IsRow};
 ghost use Rattle.bufr_walk.specs.Prelude.{if_valid_width, spec_by_kind, unsigned_field, scale_change_of, operator_width, OperatorModel, Redefined, current_reference, AreOperands, known_of, operator_model, IsOperatorKey, HasRole, descriptor_of, key_word, spec_key, HasOctets, begin, after_operator, IsFieldKey, IsSpecKey, spec_of};
@@ -12,7 +12,8 @@ use bufr_tables::{Entry, Fxy, Kind, TableB};
 use std::alloc::Global;
 use std::marker::Model;
 
-/// The operand Y of each operator in force, 0 where none is, as in `OperatorModel` of `specs/`.
+/// The operand Y of each operator in effect, or 0 if it is not in effect, as in `OperatorModel` of
+/// `specs/`.
 #[derive(Clone, Copy)]
 pub(crate) struct OperatorOperands {
     width_change: u8,
@@ -23,7 +24,7 @@ pub(crate) struct OperatorOperands {
     pub(crate) local_width: u8,
 }
 
-/// No operator is in force.
+/// The operands if no operator is in effect.
 const NO_OPERATORS: OperatorOperands = OperatorOperands {
     width_change: 0,
     scale_change: 0,
@@ -33,10 +34,10 @@ const NO_OPERATORS: OperatorOperands = OperatorOperands {
     local_width: 0,
 };
 
-/// What is added to the key of a reference that is being defined.
+/// Added to the key of a field that defines a reference.
 const DEFINING: u64 = 0x200_0000_0000_0000;
 
-/// What is added to the key of an element whose reference was redefined.
+/// Added to the key of an element whose reference was redefined.
 const REDEFINED: u64 = 0x400_0000_0000_0000;
 
 /// A field that is looked up in Table B: an element, or the factor of a replication.
@@ -47,7 +48,7 @@ pub(crate) enum TableField {
 }
 
 impl TableField {
-    /// Its descriptor.
+    /// Returns the descriptor of the field.
     #[inline(always)]
     pub(crate) fn fxy(&self) -> Fxy
         ensures { result ≡ descriptor_of self.now }
@@ -57,7 +58,7 @@ impl TableField {
         }
     }
 
-    /// The number of its descriptor and its kind in a key.
+    /// Returns the number that stands for the descriptor and the kind of the field in a key.
     #[inline(always)]
     fn key_word(&self) -> u64
         ensures value { result ≡ key_word self.now }
@@ -70,12 +71,12 @@ impl TableField {
     }
 }
 
-/// The operators in force, and the references that the data defined.
+/// The operators in effect, and the references that the data have redefined.
 #[derive(Drop)]
 pub(crate) struct OperatorState {
     pub(crate) operands: OperatorOperands,
     pub(crate) new_references: References,
-    /// The part of the operators in the key of a spec, or [`NO_KEY`].
+    /// The part of a spec's key that depends on the operators, or [`NO_KEY`].
     pub(crate) key: u64,
 }
 
@@ -90,7 +91,7 @@ impl Model for OperatorState {
         × IsOperatorKey (operator_model a.operands (known_of a.new_references)) a.key };
 }
 
-/// The operands in one number, without the width of references that are being defined.
+/// Returns the operands as one number, without the width of the references being defined.
 #[inline(always)]
 fn operand_key(operands: OperatorOperands) -> u64
     ensures value { (known : List Redefined) → result ≡ spec_key (operator_model operands known) 0 }
@@ -104,7 +105,8 @@ fn operand_key(operands: OperatorOperands) -> u64
         + 0x1_0000_0000 * u64::from(operands.local_width)
 }
 
-/// The operands in one number. [`NO_KEY`] where a reference is being defined or was redefined.
+/// Returns the operands as one number, or [`NO_KEY`] if references are being defined or have been
+/// redefined.
 pub(crate) fn key_by(operands: OperatorOperands, new_references: &References) -> u64
     ensures { IsOperatorKey (operator_model operands (known_of new_references.now)) result }
 {
@@ -114,7 +116,7 @@ pub(crate) fn key_by(operands: OperatorOperands, new_references: &References) ->
     operand_key(operands)
 }
 
-/// The reference that the data defined for an element, or that of Table B.
+/// Returns the redefined reference of an element if it has one, and otherwise that of Table B.
 #[tactic(auto, using(crate::proofs::SpecLemmas::current_or))]
 #[inline(always)]
 // rule: new-reference-of-quantities
@@ -126,7 +128,7 @@ fn reference_of(new_references: &References, entry: &Entry<'_>) -> i64
     redefined.unwrap_or(entry.reference())
 }
 
-/// The width of a quantity with the changes in force (2 01 Y, 2 07 Y), in bits.
+/// Returns the width of a quantity, in bits, after the changes in effect (2 01 Y, 2 07 Y).
 #[inline(always)]
 // rule: 2-01-y, 2-07-y, cancel-2-01-and-2-02, cancel-2-07-and-2-08
 fn operator_width(width: u32, precision_increase: u8, width_change: u8) -> u32
@@ -141,7 +143,7 @@ fn operator_width(width: u32, precision_increase: u8, width_change: u8) -> u32
     }
 }
 
-/// The scale of a quantity with the changes in force (2 02 Y, 2 07 Y).
+/// Returns the scale of a quantity after the changes in effect (2 02 Y, 2 07 Y).
 #[inline(always)]
 // rule: 2-02-y, 2-07-y, cancel-2-01-and-2-02
 fn operator_scale(scale: i16, scale_change: u8, precision_increase: u8) -> i16
@@ -156,7 +158,7 @@ fn operator_scale(scale: i16, scale_change: u8, precision_increase: u8) -> i16
     scale + (i16::from(scale_change) - 128) + i16::from(precision_increase)
 }
 
-/// A power of ten.
+/// Returns a power of ten.
 #[tactic(auto, using(crate::proofs::SpecLemmas::power_small))]
 fn power_of_ten(precision_increase: u8) -> u64
     requires { precision_increase ≤ 18 }
@@ -166,7 +168,7 @@ fn power_of_ten(precision_increase: u8) -> u64
     10u64.pow(u32::from(precision_increase))
 }
 
-/// The reference of a quantity with the digits in force (2 07 Y).
+/// Returns the reference of a quantity after the change of precision in effect (2 07 Y).
 #[tactic(auto, using(crate::proofs::SpecLemmas::product_small))]
 #[inline(always)]
 // rule: 2-07-y, 2-07-y-of-a-new-reference
@@ -176,14 +178,14 @@ fn scaled(reference: i64, precision_increase: u8) -> i128
     ensures near { unsigned_abs result ≤ 2 ^ 125 }
 {
     let reference = i128::from(reference);
-    // Nearly always no operator is in force, and then nothing is to be multiplied.
+    // Usually no operator is in effect, and no multiplication is needed.
     if precision_increase == 0 {
         return reference;
     }
     reference * i128::from(power_of_ten(precision_increase))
 }
 
-/// An element by its row and its reference.
+/// Returns the spec of an element, given its row and its reference.
 #[inline(always)]
 // rule: class-31-never-missing, 2-01-2-02-2-07-add-up, new-reference-of-figures, figures-unchanged
 // rule: 2-08-y, cancel-2-07-and-2-08
@@ -233,7 +235,7 @@ fn spec_by_kind(
     }
 }
 
-/// An unsigned number of a given width.
+/// Returns the spec of an unsigned number of the given width.
 #[inline(always)]
 // rule: 2-06-y-other-width, 2-06-y-of-class-31
 fn unlisted(fxy: Fxy, role: Role, width: u8, may_be_missing: bool) -> Result<Spec, TurnRefusal>
@@ -253,7 +255,7 @@ fn unlisted(fxy: Fxy, role: Role, width: u8, may_be_missing: bool) -> Result<Spe
 }
 
 impl OperatorState {
-    /// No operator is in force.
+    /// Creates the state at the beginning of a subset: no operator is in effect.
     pub(crate) fn new(alloc: Global) -> OperatorState
         ensures { result ≡ begin }
     {
@@ -264,7 +266,7 @@ impl OperatorState {
         }
     }
 
-    /// The key for the spec of a field, where no reference is being defined or was redefined.
+    /// Returns the key of a field's spec if no reference is being defined or has been redefined.
     #[tactic(auto, using(crate::proofs::CacheLemmas::with_word))]
     #[inline(always)]
     pub(crate) fn key(&self, field: &TableField) -> u64
@@ -273,7 +275,7 @@ impl OperatorState {
         self.key + 0x100_0000_0000 * field.key_word()
     }
 
-    /// All that the spec of a field depends on.
+    /// Returns everything that the spec of a field depends on.
     #[inline(always)]
     pub(crate) fn spec_key(&self, field: &TableField) -> SpecKey
         ensures is { IsSpecKey self.now field.now result }
@@ -299,7 +301,7 @@ impl OperatorState {
         }
     }
 
-    /// The specification of a field. (WMO-No. 306, Volume I.2, FM 94: Tables B and C)
+    /// Returns the spec of a field. (WMO-No. 306, Volume I.2, FM 94: Tables B and C)
     #[inline(never)]
     // rule: 2-06-y, 2-06-y-width-of-table-b, fault-32-before-31, defining-no-text
     // rule: factor-by-entry, defining-no-delayed-group
@@ -350,8 +352,8 @@ impl OperatorState {
         }
     }
 
-    /// Applies an operator. While references are being defined only their end is allowed. (WMO-No.
-    /// 306, Volume I.2, FM 94: Table C)
+    /// Applies an operator. While references are being defined, the only operator allowed is the one
+    /// that ends their definition. (WMO-No. 306, Volume I.2, FM 94: Table C)
     // rule: 2-03-y, 2-03-000, later-operator-replaces, 2-03-y-again, defining-no-other-operator
     // rule: 2-03-255-alone, fault-32-before-31
     pub(crate) fn apply(&mut self, fxy: Fxy) -> Result<(), TurnRefusal>

@@ -1,4 +1,4 @@
-//! The references that the data define.
+//! References that the data redefine.
 ghost use Rattle.std.specs.Prelude.{◌≡◌, ◌<◌, [], true, Option, OnOk};
 ghost use Rattle.arrayvec.specs.ArrayVec.{array_vec_len};
 ghost use Rattle.bufr_walk.specs.Prelude.{known_by, known_of, last_of, redefined, with_all, with_reference};
@@ -7,22 +7,23 @@ use arrayvec::ArrayVec;
 use std::alloc::{AllocError, Global};
 use std::collections::BTreeMap;
 
-/// A reference that the data defined, and the word of its descriptor.
+/// A redefined reference, and the 16-bit word of its descriptor.
 #[derive(Clone, Copy, Default)]
 pub(crate) struct NewReference {
     word: u16,
     reference: i64,
 }
 
-/// The references that the data defined, in this order: those in a map, then the last few, which
-/// take no memory. Data may define thousands, and each item looks for its own.
+/// The references that the data have redefined: older ones in a map, and the most recent ones in an
+/// array, which needs no allocation. Data may redefine thousands of references, and each item looks
+/// up its own.
 #[derive(Drop)]
 pub(crate) struct References {
     sorted: BTreeMap<u16, i64>,
     recent: ArrayVec<NewReference, 4>,
 }
 
-/// Adds references to a map.
+/// Adds references to the map.
 fn sort(sorted: &mut BTreeMap<u16, i64>, recent: &[NewReference]) -> Result<(), AllocError>
     ensures { OnOk result
         (known_by sorted.new.entries ≡ with_all recent.now (known_by sorted.old.entries)) }
@@ -33,7 +34,7 @@ fn sort(sorted: &mut BTreeMap<u16, i64>, recent: &[NewReference]) -> Result<(), 
     Ok(())
 }
 
-/// The last of the references that has this word, else the one that was found before.
+/// Returns the last of the references with the given word, or `before` if there is none.
 fn last_of(recent: &[NewReference], word: u16, before: Option<i64>) -> Option<i64>
     ensures { result ≡ last_of recent.now word before }
 {
@@ -47,7 +48,7 @@ fn last_of(recent: &[NewReference], word: u16, before: Option<i64>) -> Option<i6
 }
 
 impl References {
-    /// No reference. Takes no memory.
+    /// Creates an empty collection. This does not allocate.
     pub(crate) fn new(alloc: Global) -> References
         ensures { known_of result ≡ [] }
     {
@@ -57,14 +58,14 @@ impl References {
         }
     }
 
-    /// Whether there is no reference.
+    /// Returns whether there is no reference.
     pub(crate) fn is_empty(&self) -> bool
         ensures { result ≡ true → known_of self.now ≡ [] }
     {
         self.recent.is_empty() && self.sorted.is_empty()
     }
 
-    /// The reference of an element.
+    /// Returns the redefined reference of an element, if it has one.
     #[tactic(auto, using(crate::proofs::SpecLemmas::reference_found, crate::proofs::SpecLemmas::last_found))]
     pub(crate) fn get(&self, word: u16) -> Option<i64>
         ensures { result ≡ redefined (known_of self.now) word }
@@ -73,7 +74,7 @@ impl References {
         last_of(self.recent.as_slice(), word, before)
     }
 
-    /// Makes room for one more.
+    /// Makes room for one more reference.
     pub(crate) fn reserve(&mut self) -> Result<(), AllocError>
         ensures same { OnOk result (known_of self.new ≡ known_of self.old) }
         ensures room { OnOk result (array_vec_len self.new.recent < 4) }
@@ -85,7 +86,7 @@ impl References {
         Ok(())
     }
 
-    /// Adds the reference of an element, where there is room.
+    /// Adds the reference of an element. There must be room for it.
     #[tactic(auto, using(crate::proofs::SpecLemmas::all_more))]
     pub(crate) fn push(&mut self, word: u16, reference: i64)
         requires { array_vec_len self.old.recent < 4 }
@@ -94,7 +95,7 @@ impl References {
         self.recent.push(NewReference { word, reference });
     }
 
-    /// Drops all.
+    /// Drops all references.
     pub(crate) fn clear(&mut self)
         ensures { known_of self.new ≡ [] }
     {

@@ -1,4 +1,4 @@
-//! The specs of a template's cells, kept from one reading to the next.
+//! A cache of the specs of a template's cells, reused from one reading to the next.
 ghost use Rattle.std.specs.Prelude.{◌≡◌, ◌<◌, ◌≤◌, ◌^◌, IfSome};
 ghost use Rattle.bufr_walk.specs.Prelude.{IsSpecBy, IsSpecFor};
 
@@ -7,17 +7,18 @@ use bufr_tables::{Fxy, TableB};
 use std::alloc::{AllocError, Global};
 use std::marker::Model;
 
-/// The most cells of a template whose specs are cached.
+/// The maximum number of cells of a template whose specs are cached.
 const MAX_CELLS: usize = 1024;
 
-/// The least number that is no key of operators: no spec is found by it.
+/// The least number that is not a key. No spec is cached under such a number.
 pub(crate) const NO_KEY: u64 = 0x4000_0000_0000_0000;
 
-/// The key of an entry that has no spec.
+/// The key of an entry without a spec.
 const EMPTY: u64 = u64::MAX;
 
-/// What the spec of a field depends on: the operators and the descriptor in one number, and the
-/// number that the data give: the width of a reference that is being defined, or the reference.
+/// Everything that the spec of a field depends on: the operators and the descriptor as one number,
+/// and a number that the data determine (the width of a reference being defined, or a redefined
+/// reference).
 #[derive(Clone, Copy)]
 pub(crate) struct SpecKey {
     pub(crate) operators: u64,
@@ -31,9 +32,10 @@ pub(crate) struct CachedSpec {
     pub(crate) spec: Spec,
 }
 
-/// The specs of a template's first 1,024 cells, by Table B: for each cell the one that was found
-/// there last. A clause sees the table alone: a spec is looked up under the operators and the
-/// descriptor that it was found for.
+/// A cache of specs, found in a Table B, for the first 1,024 cells of a template. For each cell, it
+/// contains the last spec that was found there.
+///
+/// Contracts see only the table, because a spec is looked up by everything that it depends on.
 ///
 /// ```
 /// let mut cache = SpecCache::new(alloc, &table_b);
@@ -43,7 +45,7 @@ pub(crate) struct CachedSpec {
 #[derive(Drop)]
 pub struct SpecCache<'a> {
     pub(crate) alloc: Global,
-    /// The table that the specs are found by.
+    /// The table in which the specs are found.
     pub(crate) table: &'a TableB,
     entries: Vec<CachedSpec>,
 }
@@ -62,7 +64,7 @@ impl<'a> Model for SpecCache<'a> {
 }
 
 impl<'a> SpecCache<'a> {
-    /// No spec, and no room for one. Takes no memory.
+    /// Creates an empty cache without room for specs. This does not allocate.
     pub fn new(alloc: Global, table: &'a TableB) -> SpecCache<'a>
         ensures { result ≡ table.now }
     {
@@ -73,25 +75,25 @@ impl<'a> SpecCache<'a> {
         }
     }
 
-    /// Where the cache takes memory.
+    /// Returns the allocator of the cache.
     #[inline(always)]
     pub fn allocator(&self) -> Global {
         self.alloc
     }
 
-    /// For how many cells of a template there is room.
+    /// Returns the number of cells for which there is room.
     pub fn cells(&self) -> usize
         ensures few { result ≤ 1024 }
     {
         self.entries.len()
     }
 
-    /// Drops all specs, and makes room for those of a template of this number of cells: for at most
-    /// 1,024.
+    /// Drops all specs, and makes room for those of a template with this number of cells, but for
+    /// at most 1,024.
     ///
     /// # Errors
     ///
-    /// [`AllocError`] where memory runs out.
+    /// [`AllocError`] if memory runs out.
     pub fn reset(&mut self, cells: usize) -> Result<(), AllocError>
         ensures { self.new ≡ self.old }
     {
@@ -105,8 +107,8 @@ impl<'a> SpecCache<'a> {
         self.entries.resize(cells.min(MAX_CELLS), empty)
     }
 
-    /// The spec that was found last for a cell, if it was found under this key while no reference
-    /// was redefined.
+    /// Returns the last spec that was found for a cell, if it has this key and no reference was being
+    /// defined or had been redefined.
     #[tactic(auto, using(crate::proofs::CacheLemmas::plain_spec))]
     #[inline(always)]
     pub(crate) fn get(&self, place: u32, key: u64) -> Option<&Spec>
@@ -123,7 +125,7 @@ impl<'a> SpecCache<'a> {
         None
     }
 
-    /// The spec that was found last for a cell, if it was found under this key.
+    /// Returns the last spec that was found for a cell, if it has this key.
     #[inline(always)]
     pub(crate) fn get_by(&self, place: u32, key: SpecKey) -> Option<&Spec>
         requires { key.operators < 2 ^ 62 }
@@ -139,7 +141,7 @@ impl<'a> SpecCache<'a> {
         None
     }
 
-    /// Caches a spec that was found for a cell under this key.
+    /// Caches the spec that was found for a cell, under its key.
     pub(crate) fn insert(&mut self, place: u32, key: SpecKey, spec: &Spec)
         requires { IsSpecFor self.old key spec.now }
         ensures { self.new ≡ self.old }

@@ -1,4 +1,4 @@
-//! The walk over the cells of a template, with the fields that it takes, its stops and its steps.
+//! The walk over the cells of a template: the fields that it takes, why it stops, and its steps.
 ghost use Rattle.std.specs.Prelude.{◌≡◌, ℕ, ◌+◌, ◌-◌, ◌^◌, ◌<◌, Result, Ok, Err, IfOk, ◌≤◌, ◌*◌, ◌++◌, ◌∷◌, [], List, OnOk, OnErr, true, false};
 ghost use Rattle.bufr_walk.specs.Prelude.{ticked, Walked, TakesField, counted_item, FieldSpec, IsFor, Taken, after_field, descriptor_of, spec_of, stop_by, inserted_spec, is_reference, IsSpecKey};
 ghost use Rattle.arrayvec.specs.ArrayVec.{array_vec_len};
@@ -13,16 +13,16 @@ use bufr_tables::{Cell, Fxy, TableB, Template};
 use std::alloc::Global;
 use std::marker::Model;
 
-/// Why a walk over a template stopped.
+/// The reason why a walk over a template stopped.
 #[derive(Debug, PartialEq, Eq, Drop)]
 pub enum WalkStop<E> {
-    /// As [`TurnRefusal::Width`].
+    /// See [`TurnRefusal::Width`].
     Width(Fxy),
-    /// As [`TurnRefusal::Defining`].
+    /// See [`TurnRefusal::Defining`].
     Defining(Fxy),
-    /// The field itself could not be read or written, for this reason.
+    /// A field could not be read or written, for this reason.
     Field(E),
-    /// Memory ran out for a redefined reference.
+    /// Memory ran out before a redefined reference was stored.
     Memory,
 }
 
@@ -37,8 +37,8 @@ impl<E> From<TurnRefusal> for WalkStop<E> {
     }
 }
 
-/// How many steps walks have made, up to the greatest `u64`. A step takes a descriptor, ends a pass
-/// of a group, or ends the template.
+/// The number of steps that walks have made, capped at `u64::MAX`. A step processes a descriptor,
+/// ends a pass over a group, or ends the template.
 #[derive(Drop)]
 pub struct Steps {
     count: u64,
@@ -51,21 +51,21 @@ impl Model for Steps {
 }
 
 impl Steps {
-    /// No step was made.
+    /// Creates a count of 0.
     pub fn new() -> Self
         ensures { result ≡ 0 }
     {
         Steps { count: 0 }
     }
 
-    /// How many steps were made.
+    /// Returns the number of steps.
     pub fn count(&self) -> u64
         ensures { result ≡ self.now }
     {
         self.count
     }
 
-    /// Counts one more step, up to the greatest `u64`.
+    /// Counts one more step, up to `u64::MAX`.
     pub(crate) fn tick(&mut self)
         ensures { self.new ≡ ticked self.old 1 }
     {
@@ -73,29 +73,30 @@ impl Steps {
     }
 }
 
-/// Data that are read or written field by field.
+/// Data that a walk reads or writes field by field.
 pub trait Fields {
-    /// Why a field is not taken.
+    /// The reason why a field cannot be taken.
     type Fault;
 
-    /// How many bits were used, by whole items.
+    /// The number of bits that complete items use.
     ghost used: { Self → ℕ };
 
-    /// The relation of a call of `take`: before, the field's specification, the answer, after.
+    /// The relation that describes a call of `take`: the state before, the spec of the field, the
+    /// result, and the state after.
     ghost takes: { Self → FieldSpec → Result Taken Self.Fault → Self → Type 0 };
 
-    /// Takes the next field, and returns what the walk needs of it. That is [`Taken::Count`]
-    /// exactly for a factor, [`Taken::Reference`] exactly for a reference that is being defined,
-    /// else [`Taken::Plain`]. A field that is taken uses at least one bit.
+    /// Takes the next field, and returns the part of its value that affects the walk:
+    /// [`Taken::Count`] for a factor, [`Taken::Reference`] for a reference that is being defined, and
+    /// [`Taken::Plain`] for any other field. A field that is taken uses at least one bit.
     ///
     /// # Errors
     ///
-    /// [`Fields::Fault`] where the field is not taken; then no bit is used.
+    /// [`Fields::Fault`] if the field cannot be taken; then no bit is used.
     fn take(&mut self, spec: &Spec) -> Result<Taken, Self::Fault>
         ensures step { takes self.old spec.now result self.new }
         ensures shape { IfOk result (λ t. IsFor spec.now t) };
 
-    /// How many bits were used, by whole items.
+    /// Returns the number of bits that complete items use.
     fn bits(&self) -> u64
         ensures { result ≡ used self.now };
 
@@ -110,7 +111,7 @@ pub trait Fields {
 }
 
 impl OperatorState {
-    /// Takes a field that is no reference. The width of 2 06 Y ends with it.
+    /// Takes a field that does not define a reference. The width of 2 06 Y ends with it.
     #[inline(always)]
     #[tactic(auto, using(crate::proofs::WalkLemmas::no_reference))]
     // rule: 2-06-y-used-up
@@ -135,7 +136,7 @@ impl OperatorState {
         }
     }
 
-    /// Takes a text of the template (2 05 Y).
+    /// Takes text that the template inserts (2 05 Y).
     #[tactic(auto, using(crate::proofs::SpecLemmas::inserted_width))]
     #[inline(always)]
     // rule: 2-05-y, defining-no-inserted-text
@@ -157,8 +158,8 @@ impl OperatorState {
         self.take(fxy, &spec, fields)
     }
 
-    /// Takes a field. The width of 2 06 Y ends with it, and a new reference is kept. Room for the
-    /// reference is made before.
+    /// Takes a field. The width of 2 06 Y ends with it, and a redefined reference is stored. Room for
+    /// the reference is made first, so that nothing can fail after the field was taken.
     #[inline(never)]
     // rule: last-reference-counts
     pub(crate) fn take<S: Fields>(
@@ -190,7 +191,8 @@ impl OperatorState {
     }
 }
 
-/// An open group: first cell of its body, first cell after it, passes left after this one.
+/// An open group: the first cell of its body, the first cell after it, and the number of passes
+/// left after the current one.
 #[derive(Clone, Copy, Default)]
 pub(crate) struct Frame {
     start: u32,
@@ -198,7 +200,7 @@ pub(crate) struct Frame {
     left: u64,
 }
 
-/// Opens a group, or passes it where its count is 0.
+/// Opens a group, or skips it if its count is 0.
 #[inline(always)]
 // rule: passes-by-count
 fn open_group(count: u64, start: u32, after: u32, stack: &mut ArrayVec<Frame, 32>) -> u32
@@ -219,7 +221,8 @@ fn open_group(count: u64, start: u32, after: u32, stack: &mut ArrayVec<Frame, 32
     start
 }
 
-/// Goes to the next pass of the innermost open group, or past the group after its last pass.
+/// Returns the cell where the next pass over the innermost open group begins, or after the last
+/// pass, the first cell after the group.
 #[inline(always)]
 fn end_pass(groups: &mut ArrayVec<Frame, 32>) -> u32
     requires { 0 < array_vec_len groups.old }
@@ -242,7 +245,7 @@ fn end_pass(groups: &mut ArrayVec<Frame, 32>) -> u32
     frame.start
 }
 
-/// Takes the field of a cell by its spec, which is found, and cached under this key.
+/// Finds the spec of a cell's field, caches it under the given key, and takes the field.
 #[inline(always)]
 fn find_and_take<S: Fields>(
     field: TableField,
@@ -265,7 +268,7 @@ fn find_and_take<S: Fields>(
     in_force.take(field.fxy(), &spec, fields)
 }
 
-/// Takes the field of a cell where a reference is being defined or was redefined.
+/// Takes the field of a cell if a reference is being defined or has been redefined.
 #[tactic(auto, using(crate::proofs::CacheLemmas::spec_got_by))]
 #[inline(never)]
 fn take_redefined<S: Fields>(
@@ -288,8 +291,8 @@ fn take_redefined<S: Fields>(
     }
 }
 
-/// Takes the field of a cell. Nearly always no reference is being defined or was redefined: then
-/// the operators and the descriptor are the key of its spec.
+/// Takes the field of a cell. Usually no reference is being defined or has been redefined. Then the
+/// operators and the descriptor are the key of its spec.
 #[tactic(auto, using(crate::proofs::CacheLemmas::spec_got, crate::proofs::CacheLemmas::spec_got_plain, crate::proofs::CacheLemmas::plain_key))]
 #[inline(always)]
 fn take_field<S: Fields>(
@@ -319,12 +322,13 @@ fn take_field<S: Fields>(
     take_redefined(field, place, cache, fields, in_force)
 }
 
-/// Walks over the cells of a template once, field by field: over one subset, or over all of them
-/// where the data are compressed. `steps` grows by one for each descriptor: an element, an
-/// operator, a replication, its factor. It grows by one for each end of a pass of a group, and for
-/// the end. There are at most as many steps as the template has places for each bit that is used;
-/// a refusal makes at most as many again. (WMO-No. 306, Volume I.2, FM 94: section 3, Tables B and
-/// C)
+/// Walks over the cells of a template once, field by field: for one subset or, if the data are
+/// compressed, for all subsets.
+///
+/// `steps` grows by one for each descriptor (an element, an operator, a replication or its factor),
+/// for each end of a pass over a group, and for the end of the template. If the template has `p`
+/// places and the fields use `n` bits, there are at most `p * n` steps, or `p * (n + 1)` if the walk
+/// stops. (WMO-No. 306, Volume I.2, FM 94: section 3, Tables B and C)
 ///
 /// ```
 /// let mut steps = Steps::new();
@@ -334,10 +338,13 @@ fn take_field<S: Fields>(
 ///
 /// # Errors
 ///
-/// The first that is met. [`WalkStop::Defining`] for a step that is not allowed while references
-/// are being defined. [`WalkStop::Width`] for a field that is not text and is under 1 or over 63
-/// bits wide, or whose element the table lacks. [`WalkStop::Field`] with the fault of
-/// [`Fields::take`]. [`WalkStop::Memory`] where memory runs out before a reference is taken.
+/// The walk stops at the first of these:
+///
+/// - [`WalkStop::Defining`] if a step is not allowed while references are being defined.
+/// - [`WalkStop::Width`] if a field that is not text is less than 1 or more than 63 bits wide, or if
+///   the table does not contain the element.
+/// - [`WalkStop::Field`] with the fault of [`Fields::take`].
+/// - [`WalkStop::Memory`] if memory runs out before a reference is taken.
 pub fn walk<S: Fields>(
     alloc: Global,
     template: &Template,
@@ -356,13 +363,13 @@ pub fn walk<S: Fields>(
     walk_by(template, &mut cache, fields, steps)
 }
 
-/// Walks over the cells of a template once, as [`walk`] does. A field whose spec is cached is taken
-/// by it. A spec that is found is cached where the cache has room, and the operators have a key.
-/// Takes no memory for the cache.
+/// Walks over the cells of a template once, as [`walk`] does, but with a cache of specs. A spec that
+/// is not in the cache is found and, if the cache has room for its cell, cached. The cache does not
+/// grow.
 ///
 /// # Errors
 ///
-/// Those of [`walk`].
+/// The same as those of [`walk`].
 // rule: defining-fixed-groups, fault-62-first
 pub fn walk_by<S: Fields>(
     template: &Template,
