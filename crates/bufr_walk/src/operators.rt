@@ -352,8 +352,8 @@ impl OperatorState {
         }
     }
 
-    /// Applies an operator. While references are being defined, the only operator allowed is the one
-    /// that ends their definition. (WMO-No. 306, Volume I.2, FM 94: Table C)
+    /// Applies an operator. While references are being defined, the only operator allowed is the
+    /// one that ends their definition. (WMO-No. 306, Volume I.2, FM 94: Table C)
     // rule: 2-03-y, 2-03-000, later-operator-replaces, 2-03-y-again, defining-no-other-operator
     // rule: 2-03-255-alone, fault-32-before-31
     pub(crate) fn apply(&mut self, fxy: Fxy) -> Result<(), TurnRefusal>

@@ -107,8 +107,8 @@ impl<'a> SpecCache<'a> {
         self.entries.resize(cells.min(MAX_CELLS), empty)
     }
 
-    /// Returns the last spec that was found for a cell, if it has this key and no reference was being
-    /// defined or had been redefined.
+    /// Returns the last spec that was found for a cell, if it has this key and no reference was
+    /// being defined or had been redefined.
     #[tactic(auto, using(crate::proofs::CacheLemmas::plain_spec))]
     #[inline(always)]
     pub(crate) fn get(&self, place: u32, key: u64) -> Option<&Spec>

@@ -86,8 +86,8 @@ pub trait Fields {
     ghost takes: { Self → FieldSpec → Result Taken Self.Fault → Self → Type 0 };
 
     /// Takes the next field, and returns the part of its value that affects the walk:
-    /// [`Taken::Count`] for a factor, [`Taken::Reference`] for a reference that is being defined, and
-    /// [`Taken::Plain`] for any other field. A field that is taken uses at least one bit.
+    /// [`Taken::Count`] for a factor, [`Taken::Reference`] for a reference that is being defined,
+    /// and [`Taken::Plain`] for any other field. A field that is taken uses at least one bit.
     ///
     /// # Errors
     ///
@@ -158,8 +158,8 @@ impl OperatorState {
         self.take(fxy, &spec, fields)
     }
 
-    /// Takes a field. The width of 2 06 Y ends with it, and a redefined reference is stored. Room for
-    /// the reference is made first, so that nothing can fail after the field was taken.
+    /// Takes a field. The width of 2 06 Y ends with it, and a redefined reference is stored. Room
+    /// for the reference is made first, so that nothing can fail after the field was taken.
     #[inline(never)]
     // rule: last-reference-counts
     pub(crate) fn take<S: Fields>(
@@ -327,8 +327,8 @@ fn take_field<S: Fields>(
 ///
 /// `steps` grows by one for each descriptor (an element, an operator, a replication or its factor),
 /// for each end of a pass over a group, and for the end of the template. If the template has `p`
-/// places and the fields use `n` bits, there are at most `p * n` steps, or `p * (n + 1)` if the walk
-/// stops. (WMO-No. 306, Volume I.2, FM 94: section 3, Tables B and C)
+/// places and the fields use `n` bits, there are at most `p * n` steps, or `p * (n + 1)` if the
+/// walk stops. (WMO-No. 306, Volume I.2, FM 94: section 3, Tables B and C)
 ///
 /// ```
 /// let mut steps = Steps::new();
@@ -341,8 +341,8 @@ fn take_field<S: Fields>(
 /// The walk stops at the first of these:
 ///
 /// - [`WalkStop::Defining`] if a step is not allowed while references are being defined.
-/// - [`WalkStop::Width`] if a field that is not text is less than 1 or more than 63 bits wide, or if
-///   the table does not contain the element.
+/// - [`WalkStop::Width`] if a field that is not text is less than 1 or more than 63 bits wide, or
+///   if the table does not contain the element.
 /// - [`WalkStop::Field`] with the fault of [`Fields::take`].
 /// - [`WalkStop::Memory`] if memory runs out before a reference is taken.
 pub fn walk<S: Fields>(
@@ -363,9 +363,9 @@ pub fn walk<S: Fields>(
     walk_by(template, &mut cache, fields, steps)
 }
 
-/// Walks over the cells of a template once, as [`walk`] does, but with a cache of specs. A spec that
-/// is not in the cache is found and, if the cache has room for its cell, cached. The cache does not
-/// grow.
+/// Walks over the cells of a template once, as [`walk`] does, but with a cache of specs. A spec
+/// that is not in the cache is found and, if the cache has room for its cell, cached. The cache
+/// does not grow.
 ///
 /// # Errors
 ///
