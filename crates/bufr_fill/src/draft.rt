@@ -1,6 +1,6 @@
 //! The items of a dump text, and the entries of a document, which are kept in one block.
 ghost use Rattle.std.specs.Prelude.{◌≡◌, ◌≤◌, ℕ, List, length, option_map, slice_get, ◌<◌, [], ◌∷◌, ◌++◌, Some, OnOk, OnErr};
-ghost use Rattle.bufr_fill.specs.Prelude.{draft, DraftEntry, Holds, form_in, value_by, entry_with, AreOctetsInside, is_end, number_token, Ends, draft_in};
+ghost use Rattle.bufr_fill.specs.Prelude.{draft, DraftEntry, Holds, form_in, value_by, entry_with, AreOctetsInside, is_end, number_token, Ends, draft_in, ends_of};
 ghost use Rattle.bufr_bits.specs.Prelude.{short_text};
 
 use bufr_bits::ShortDecimal;
@@ -100,19 +100,22 @@ pub struct Entries {
     /// Tokens and texts, one after another.
     octets: Vec<u8>,
     kept: Vec<StoredEntry>,
+    /// The indices of the ends of subsets.
+    ends: Vec<usize>,
 }
 
 impl Model for Entries {
     ghost use Rattle.std.specs.Prelude.{◌≡◌, List, length};
     ghost use Rattle.bufr_fill.specs.Draft.{DraftEntry};
-    ghost use Rattle.bufr_fill.specs.Draft.{entries_stored, AreInside, octets_stored};
+    ghost use Rattle.bufr_fill.specs.Draft.{entries_stored, AreInside, octets_stored, ends_of};
 
     ghost Value = { List DraftEntry };
 
     ghost view = { λ e. entries_stored e.octets.items e.kept.items };
 
     ghost invariant = { λ e. AreInside (length e.octets.items) e.kept.items
-        × (length e.octets.items ≡ octets_stored e.kept.items) };
+        × (length e.octets.items ≡ octets_stored e.kept.items)
+        × (e.ends.items ≡ ends_of 0 (entries_stored e.octets.items e.kept.items)) };
 }
 
 impl Entries {
@@ -123,6 +126,7 @@ impl Entries {
         Entries {
             octets: Vec::new(alloc),
             kept: Vec::new(alloc),
+            ends: Vec::new(alloc),
         }
     }
 
@@ -132,6 +136,7 @@ impl Entries {
     {
         self.octets.clear();
         self.kept.clear();
+        self.ends.clear();
     }
 
     /// Appends an item.
@@ -198,6 +203,8 @@ impl Entries {
         ensures same { OnErr result (self.new ≡ self.old) }
     {
         let end = self.octets.len();
+        let index = self.kept.len();
+        self.ends.reserve(1)?;
         self.kept.push(StoredEntry {
             line,
             start: end,
@@ -205,6 +212,7 @@ impl Entries {
             fxy: Fxy::from_word(0),
             kind: None,
         })?;
+        self.ends.push_reserved(index);
         Ok(())
     }
 
@@ -242,11 +250,11 @@ impl Entries {
         }
     }
 
-    /// Whether the entry at an index is the end of a subset.
-    pub(crate) fn is_end(&self, index: usize) -> bool
-        requires { index < length self.now }
-        ensures { Some result ≡ option_map is_end (slice_get self.now index) }
+    /// The indices of the entries that end subsets.
+    #[inline(always)]
+    pub(crate) fn ends(&self) -> &[usize]
+        ensures { result.now ≡ ends_of 0 self.now }
     {
-        self.kept[index].is_end()
+        &self.ends
     }
 }
