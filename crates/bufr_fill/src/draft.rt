@@ -1,6 +1,6 @@
-//! The items of a dump text, and the entries of a document, which are kept in one block.
+//! The items of a dump, and the entries of a document, which are stored in one block.
 ghost use Rattle.std.specs.Prelude.{◌≡◌, ◌≤◌, ℕ, List, length, option_map, slice_get, ◌<◌, [], ◌∷◌, ◌++◌, Some, OnOk, OnErr};
-ghost use Rattle.bufr_fill.specs.Prelude.{draft, DraftEntry, Holds, form_in, value_by, entry_with, AreOctetsInside, is_end, number_token, Ends, draft_in};
+ghost use Rattle.bufr_fill.specs.Prelude.{draft, DraftEntry, Holds, form_in, value_by, entry_with, AreOctetsInside, is_end, number_token, Ends, draft_in, ends_of};
 ghost use Rattle.bufr_bits.specs.Prelude.{short_text};
 
 use bufr_bits::ShortDecimal;
@@ -8,23 +8,23 @@ use bufr_tables::Fxy;
 use std::alloc::{AllocError, Global};
 use std::marker::Model;
 
-/// The value of an item, as the dump text writes it.
+/// The value of an item, as it appears in the dump.
 #[derive(Clone, Copy, Debug, PartialEq, Eq)]
 pub enum DraftValue<'a> {
-    /// The octets of a number; its syntax is checked later.
+    /// The octets of a number. Its syntax is checked later.
     Number(&'a [u8]),
-    /// The octets of a text, without quotes and escapes.
+    /// The octets of a text, without quotes, and with its escapes replaced.
     Text(&'a [u8]),
     /// The word `MISSING`.
     Missing,
-    /// The octets of the number after the mark `R`: a redefined reference.
+    /// The octets of a redefined reference, which is the number after the mark `R`.
     Reference(&'a [u8]),
 }
 
-/// An item of a dump text.
+/// An item of a dump.
 #[derive(Clone, Copy, Debug, PartialEq, Eq)]
 pub struct DraftItem<'a> {
-    /// The number of its line in the dump text, from 1.
+    /// The number of its line in the dump, counted from 1.
     pub line: u64,
     /// Its descriptor.
     pub fxy: Fxy,
@@ -32,34 +32,35 @@ pub struct DraftItem<'a> {
     pub form: DraftValue<'a>,
 }
 
-/// How the value of an item is kept.
+/// How the value of an item is stored.
 #[derive(Clone, Copy)]
 pub(crate) enum ValueKind {
-    /// A number whose digits were read.
+    /// A short number, stored as its digits.
     Decimal { places: u8, negative: bool },
-    /// The octets of another number; its syntax is checked later.
+    /// The octets of any other number. Its syntax is checked later.
     Number,
     /// The octets of a text.
     Text,
-    /// All ones.
+    /// A missing value.
     Missing,
     /// The octets of a redefined reference.
     Reference,
 }
 
-/// An entry, as it is kept: its octets in one block, or the digits of a short decimal in `start`.
+/// An entry, as it is stored: the position of its octets in the block, or the digits of a short
+/// decimal in `start`.
 #[derive(Clone, Copy)]
 pub(crate) struct StoredEntry {
     pub(crate) line: u64,
     pub(crate) start: usize,
     end: usize,
     pub(crate) fxy: Fxy,
-    /// `None` where the line ends a subset.
+    /// `None` if the entry is the end of a subset.
     pub(crate) kind: Option<ValueKind>,
 }
 
 impl StoredEntry {
-    /// Whether it is the end of a subset.
+    /// Returns whether the entry is the end of a subset.
     pub(crate) fn is_end(&self) -> bool
         ensures { (octets : List ℕ) → result ≡ is_end (entry_with self.now octets) }
     {
@@ -67,7 +68,7 @@ impl StoredEntry {
     }
 }
 
-/// The kind of a value, and its octets.
+/// Returns the kind of a value, and its octets.
 #[inline(always)]
 fn parts_of<'a>(form: DraftValue<'a>) -> (ValueKind, &'a [u8])
     ensures is { (digits : ℕ) → value_by result.0 digits result.1.now ≡ form_in form.entry }
@@ -82,11 +83,11 @@ fn parts_of<'a>(form: DraftValue<'a>) -> (ValueKind, &'a [u8])
     }
 }
 
-/// The items of all subsets and the lines that end them, one after another. A short number is kept
-/// as its digits, other numbers and texts in one block. So an entry takes 32 octets and those of
-/// its text.
+/// The items of all subsets and the lines that end the subsets, in the order of the dump.
 ///
-/// A contract sees the list of the entries.
+/// A short number is stored as its digits, and any other number or text in one block. An entry
+/// therefore takes 32 octets, and in addition those of its text. Contracts see the list of the
+/// entries.
 ///
 /// ```
 /// let mut entries = Entries::new(alloc);
@@ -97,48 +98,53 @@ fn parts_of<'a>(form: DraftValue<'a>) -> (ValueKind, &'a [u8])
 /// ```
 #[derive(Drop)]
 pub struct Entries {
-    /// Tokens and texts, one after another.
+    /// Numbers and texts, one after another.
     octets: Vec<u8>,
     kept: Vec<StoredEntry>,
+    /// The indices of the ends of subsets.
+    ends: Vec<usize>,
 }
 
 impl Model for Entries {
     ghost use Rattle.std.specs.Prelude.{◌≡◌, List, length};
     ghost use Rattle.bufr_fill.specs.Draft.{DraftEntry};
-    ghost use Rattle.bufr_fill.specs.Draft.{entries_stored, AreInside, octets_stored};
+    ghost use Rattle.bufr_fill.specs.Draft.{entries_stored, AreInside, octets_stored, ends_of};
 
     ghost Value = { List DraftEntry };
 
     ghost view = { λ e. entries_stored e.octets.items e.kept.items };
 
     ghost invariant = { λ e. AreInside (length e.octets.items) e.kept.items
-        × (length e.octets.items ≡ octets_stored e.kept.items) };
+        × (length e.octets.items ≡ octets_stored e.kept.items)
+        × (e.ends.items ≡ ends_of 0 (entries_stored e.octets.items e.kept.items)) };
 }
 
 impl Entries {
-    /// No entries. It takes no memory.
+    /// Creates an empty list. This does not allocate.
     pub fn new(alloc: Global) -> Entries
         ensures { result ≡ [] }
     {
         Entries {
             octets: Vec::new(alloc),
             kept: Vec::new(alloc),
+            ends: Vec::new(alloc),
         }
     }
 
-    /// Drops all entries, and keeps their memory.
+    /// Removes all entries, but retains the memory.
     pub fn clear(&mut self)
         ensures { self.new ≡ [] }
     {
         self.octets.clear();
         self.kept.clear();
+        self.ends.clear();
     }
 
     /// Appends an item.
     ///
     /// # Errors
     ///
-    /// [`AllocError`] where the list could not grow; then the entries do not change.
+    /// [`AllocError`] if the list cannot grow; it is left unchanged.
     #[inline(always)]
     pub fn push_item(&mut self, item: DraftItem<'_>) -> Result<(), AllocError>
         ensures item { OnOk result (self.new ≡ self.old ++ Holds (draft_in item.entry) ∷ []) }
@@ -163,7 +169,7 @@ impl Entries {
     ///
     /// # Errors
     ///
-    /// [`AllocError`] where the list could not grow; then the entries do not change.
+    /// [`AllocError`] if the list cannot grow; it is left unchanged.
     #[inline(always)]
     pub fn push_decimal(
         &mut self,
@@ -188,16 +194,18 @@ impl Entries {
         Ok(())
     }
 
-    /// Appends the end of a subset, by its line.
+    /// Appends the end of a subset, given the number of its line.
     ///
     /// # Errors
     ///
-    /// [`AllocError`] where the list could not grow; then the entries do not change.
+    /// [`AllocError`] if the list cannot grow; it is left unchanged.
     pub fn push_end(&mut self, line: u64) -> Result<(), AllocError>
         ensures end { OnOk result (self.new ≡ self.old ++ Ends line ∷ []) }
         ensures same { OnErr result (self.new ≡ self.old) }
     {
         let end = self.octets.len();
+        let index = self.kept.len();
+        self.ends.reserve(1)?;
         self.kept.push(StoredEntry {
             line,
             start: end,
@@ -205,17 +213,18 @@ impl Entries {
             fxy: Fxy::from_word(0),
             kind: None,
         })?;
+        self.ends.push_reserved(index);
         Ok(())
     }
 
-    /// How many entries there are.
+    /// Returns the number of entries.
     pub fn len(&self) -> usize
         ensures { result ≡ length self.now }
     {
         self.kept.len()
     }
 
-    /// The entry at an index, from 0, and its octets; `None` after the last.
+    /// Returns the entry at an index, counted from 0, and its octets, or `None` past the last entry.
     #[inline(always)]
     pub(crate) fn get(&self, index: usize) -> Option<(StoredEntry, &[u8])>
         ensures { option_map (λ found. entry_with found.0 found.1.now) result
@@ -227,7 +236,7 @@ impl Entries {
         Some(self.entry_at(index))
     }
 
-    /// The entry at the index of one, and its octets.
+    /// Returns the entry at an index, and its octets. The index must be that of an entry.
     #[inline(always)]
     pub(crate) fn entry_at(&self, index: usize) -> (StoredEntry, &[u8])
         requires { index < length self.now }
@@ -242,11 +251,11 @@ impl Entries {
         }
     }
 
-    /// Whether the entry at an index is the end of a subset.
-    pub(crate) fn is_end(&self, index: usize) -> bool
-        requires { index < length self.now }
-        ensures { Some result ≡ option_map is_end (slice_get self.now index) }
+    /// Returns the indices of the entries that end subsets.
+    #[inline(always)]
+    pub(crate) fn ends(&self) -> &[usize]
+        ensures { result.now ≡ ends_of 0 self.now }
     {
-        self.kept[index].is_end()
+        &self.ends
     }
 }

@@ -28,7 +28,7 @@ use std::marker::Model;
 #[derive(Drop)]
 pub struct PackedOut<'s> {
     entries: &'s Entries,
-    ends: Vec<usize>,
+    ends: &'s [usize],
     index: usize,
     /// The contents of the item that is packed. Each item uses their memory again.
     contents: Vec<FieldContent<'s>>,
@@ -48,7 +48,7 @@ impl<'s> Model for PackedOut<'s> {
       bits = s.out.bits;
     } };
 
-    ghost invariant = { λ s. IsPackedOut s.entries.now s.ends.items s.index (length s.out.bits) };
+    ghost invariant = { λ s. IsPackedOut s.entries.now s.ends.now s.index (length s.out.bits) };
 }
 
 /// Writes the contents of an item for all subsets, with the least base and the least `k`.
@@ -106,17 +106,12 @@ impl<'s> PackedOut<'s> {
     ///
     /// # Errors
     ///
-    /// [`AllocError`] where the indices of the ends of subsets could not be kept.
+    /// None: only the items that are taken need memory.
     pub fn new(alloc: Global, entries: &'s Entries) -> Result<Option<PackedOut<'s>>, AllocError>
         requires few { length entries.now ≤ 2 ^ 45 }
         ensures { IfOk result (λ out. StartsPackedOut (subsets_of entries.now) out) }
     {
-        let mut ends = Vec::new(alloc);
-        for index in 0..entries.len() {
-            if entries.is_end(index) {
-                ends.push(index)?;
-            }
-        }
+        let ends = entries.ends();
         if ends.is_empty() {
             return Ok(None);
         }
@@ -135,7 +130,7 @@ impl<'s> PackedOut<'s> {
     {
         let row = Row {
             entries: self.entries,
-            ends: &self.ends,
+            ends: self.ends,
             index: self.index,
         };
         row.first_line()
@@ -151,7 +146,7 @@ impl<'s> PackedOut<'s> {
     {
         let row = Row {
             entries: self.entries,
-            ends: &self.ends,
+            ends: self.ends,
             index: self.index,
         };
         all_at_end(row)
@@ -182,7 +177,7 @@ impl<'s> Fields for PackedOut<'s> {
     fn take(&mut self, spec: &Spec) -> Result<Taken, DraftFault> {
         let row = Row {
             entries: self.entries,
-            ends: &self.ends,
+            ends: self.ends,
             index: self.index,
         };
         if (row.index as u64 + 1) * row.ends.len() as u64 > MAX_VALUES {
