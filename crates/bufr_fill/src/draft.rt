@@ -224,7 +224,8 @@ impl Entries {
         self.kept.len()
     }
 
-    /// Returns the entry at an index, counted from 0, and its octets, or `None` past the last entry.
+    /// Returns the entry at an index, counted from 0, and its octets, or `None` past the last
+    /// entry.
     #[inline(always)]
     pub(crate) fn get(&self, index: usize) -> Option<(StoredEntry, &[u8])>
         ensures { option_map (λ found. entry_with found.0 found.1.now) result

@@ -1,4 +1,4 @@
-//! The writer of compressed data, from the items of a dump text.
+//! The writer of compressed data, from the items of a dump.
 ghost use Rattle.std.specs.Prelude.{◌≡◌, ◌==◌, ◌≤◌, ◌<◌, ◌+◌, ◌*◌, ◌/◌, ◌^◌, IfOk, Ok, length, ℕ, Bool, slice_get, Some, List, ◌-◌, ◌++◌, ◌∷◌, [], true, false, take, unwrap_or, vec_len};
 ghost use Rattle.bufr_walk.specs.Prelude.{IsFor, is_reference, max_values, numbers, texts};
 ghost use Rattle.bufr_fill.specs.Prelude.{item_row, cells_at, contents_here, RowCell, unlike_line, same, lowest, increment_for, packed_over, subsets_of, AreContentsOf, padded_contents, IsRangeOf, entry_or_end, cell_line, ReturnsRow, PutAcross, number_or, spread, trimmed, most_need, PacksItem, FitsIncrement, AreShort, least_from, ends_of, first_line_at, EndsAllSubsets, entry_with, padded_content, IsContentOf, raw_limit, FieldContent, StartsPackedOut, PackedFills, spaced};
@@ -19,18 +19,21 @@ use bufr_walk::{Fields, MAX_VALUES, Role, Spec, Taken};
 use std::alloc::{AllocError, Global};
 use std::marker::Model;
 
-/// Items of a dump text, each written once for all subsets. An item is a base, six bits `k`, and
-/// where `k` is above 0 an increment for each subset. One walk takes the items of all subsets.
-/// (WMO-No. 306, Volume I.2, FM 94: section 4, compression)
+/// A writer of the items of a dump as compressed data, in which each item is written once for all
+/// subsets.
 ///
-/// A contract sees it as the subsets, how many items of each were taken, and the bits of these
-/// items. A fault, [`DraftFault::Memory`] too, changes none of them.
+/// An item consists of a base, the six bits of `k` and, if `k` is greater than 0, an increment for
+/// each subset. A single walk takes the items of all subsets. (WMO-No. 306, Volume I.2, FM 94:
+/// section 4, compression)
+///
+/// Contracts see the subsets, the number of items that were taken from each, and the bits of these
+/// items. A fault, including [`DraftFault::Memory`], leaves all of them unchanged.
 #[derive(Drop)]
 pub struct PackedOut<'s> {
     entries: &'s Entries,
     ends: &'s [usize],
     index: usize,
-    /// The contents of the item that is packed. Each item uses their memory again.
+    /// The contents of the item being written. Their memory is reused for each item.
     contents: Vec<FieldContent<'s>>,
     out: BitWriter,
 }
@@ -51,7 +54,7 @@ impl<'s> Model for PackedOut<'s> {
     ghost invariant = { λ s. IsPackedOut s.entries.now s.ends.now s.index (length s.out.bits) };
 }
 
-/// Writes the contents of an item for all subsets, with the least base and the least `k`.
+/// Writes the contents of an item for all subsets, using the least base and the least `k`.
 #[tactic(auto, using(crate::proofs::RowLemmas::is_content_at))]
 // rule: packs-factors-and-references, fault-59, packs-equal, packs-all-missing
 fn pack_row(
@@ -101,8 +104,9 @@ fn pack_row(
 }
 
 impl<'s> PackedOut<'s> {
-    /// The items of all subsets and the lines that end them, at most 2^45 together; `None` where
-    /// there is no subset, since no bit is written then.
+    /// Creates a writer of these entries, which are the items of all subsets and the lines that end
+    /// the subsets (at most 2^45 entries). Returns `None` if there are no subsets, because then no
+    /// bits are written.
     ///
     /// # Errors
     ///
@@ -124,7 +128,8 @@ impl<'s> PackedOut<'s> {
         }))
     }
 
-    /// The line of the next item of the first subset, or the line that ends that subset.
+    /// Returns the number of the line with the next item of the first subset, or of the line that
+    /// ends this subset.
     pub fn line(&self) -> u64
         ensures { result ≡ first_line_at self.now.index self.now.subsets }
     {
@@ -136,11 +141,12 @@ impl<'s> PackedOut<'s> {
         row.first_line()
     }
 
-    /// Checks that all subsets are at their ends.
+    /// Checks that no subset has any items left.
     ///
     /// # Errors
     ///
-    /// [`ItemFault::WrongDescriptor`] with the first subset that has one more item.
+    /// [`ItemFault::WrongDescriptor`] if a subset has an item left. The line is that of the item in
+    /// the first such subset.
     pub fn end(&self) -> Result<(), DraftFault>
         ensures { EndsAllSubsets self.now.index self.now.subsets result }
     {
@@ -152,8 +158,8 @@ impl<'s> PackedOut<'s> {
         all_at_end(row)
     }
 
-    /// Returns the octets of the bits of whole items, with zero bits to the next octet. It takes no
-    /// memory.
+    /// Returns the bits of the complete items as octets, padded with zero bits. This does not
+    /// allocate.
     pub fn into_octets(self) -> Vec<u8>
         ensures bits { bits_of result.items ≡ self.entry.bits ++ padding (length self.entry.bits) }
         ensures len { vec_len result ≡ (length self.entry.bits + 7) / 8 }
@@ -195,7 +201,8 @@ impl<'s> Fields for PackedOut<'s> {
     }
 }
 
-/// The entries of all subsets at an index. `ends` has the indices of the entries that end subsets.
+/// The entries of all subsets at the same index. `ends` contains the indices of the entries that
+/// end subsets.
 #[derive(Clone, Copy)]
 pub(crate) struct Row<'a, 'b> {
     entries: &'a Entries,
@@ -208,7 +215,7 @@ pub(crate) struct Row<'a, 'b> {
 }
 
 impl<'a, 'b> Row<'a, 'b> {
-    /// Finds a subset's entry: its item, or its end where that comes first.
+    /// Finds the entry of a subset: its item or, if it has fewer items, its end.
     #[inline(always)]
     fn find(self, subset: usize) -> (StoredEntry, &'a [u8])
         requires { subset < length self.ends.now }
@@ -225,7 +232,7 @@ impl<'a, 'b> Row<'a, 'b> {
             .entry_at(self.ends[subset].min(start + self.index))
     }
 
-    /// The line of a subset's entry.
+    /// Returns the line of a subset's entry.
     fn line_of(self, subset: usize) -> u64
         requires { subset < length self.ends.now }
         ensures { (c : RowCell)
@@ -236,7 +243,7 @@ impl<'a, 'b> Row<'a, 'b> {
         entry.line
     }
 
-    /// The line of the first subset's entry.
+    /// Returns the line of the first subset's entry.
     fn first_line(self) -> u64
         ensures { result ≡ first_line_at self.entry.index (subsets_of self.entry.entries.now) }
     {
@@ -244,7 +251,8 @@ impl<'a, 'b> Row<'a, 'b> {
     }
 }
 
-/// Converts a row to the contents of its field, and returns the range of the numbers among them.
+/// Converts the entries of a row to contents of the field. Returns the range of the numbers among
+/// them.
 fn read_row<'a>(
     row: Row<'a, '_>,
     spec: &Spec,
@@ -268,7 +276,7 @@ fn read_row<'a>(
     Ok(range)
 }
 
-/// The line of the first subset whose content differs from that of the first subset.
+/// Returns the line of the first item whose content differs from that of the first subset.
 // rule: fault-58
 fn unlike_line(row: Row<'_, '_>, spec: &Spec, contents: &[FieldContent<'_>]) -> u64
     requires all { AreContentsOf spec.now contents.now }
@@ -284,7 +292,8 @@ fn unlike_line(row: Row<'_, '_>, spec: &Spec, contents: &[FieldContent<'_>]) -> 
     0
 }
 
-/// Checks that all subsets end at an index; else returns the first item there as the fault.
+/// Checks that all subsets end at or before the index of a row. If not, the fault names the first
+/// item in the row.
 fn all_at_end(row: Row<'_, '_>) -> Result<(), DraftFault>
     ensures { EndsAllSubsets row.entry.index (subsets_of row.entry.entries.now) result }
 {
@@ -304,7 +313,7 @@ fn are_spaces(octets: &[u8]) -> bool
     octets.iter().all(|octet| *octet == b' ')
 }
 
-/// Whether a longer text is a text and spaces after it.
+/// Returns whether `longer` is the other text followed by spaces.
 #[inline(never)]
 fn is_spaced(text: &[u8], longer: &[u8]) -> bool
     requires { length text.now ≤ length longer.now }
@@ -315,7 +324,7 @@ fn is_spaced(text: &[u8], longer: &[u8]) -> bool
     start == text && are_spaces(rest)
 }
 
-/// Whether two contents of a field are the same.
+/// Returns whether two contents of a field are the same.
 #[tactic(auto, using(crate::proofs::RowLemmas::same_references, crate::proofs::RowLemmas::other_references, crate::proofs::RowLemmas::same_spaced, crate::proofs::RowLemmas::spaced_other))]
 #[inline(always)]
 fn is_same(one: FieldContent<'_>, other: FieldContent<'_>, spec: &Spec) -> bool
@@ -335,7 +344,7 @@ fn is_same(one: FieldContent<'_>, other: FieldContent<'_>, spec: &Spec) -> bool
     }
 }
 
-/// Whether all contents are the same as one.
+/// Returns whether all contents are the same as a given one.
 #[tactic(auto, using(crate::proofs::RowLemmas::is_content_at, crate::proofs::RowLemmas::alike_more, crate::proofs::RowLemmas::alike_not, crate::proofs::RowLemmas::alike_done))]
 fn are_alike(
     first: FieldContent<'_>,
@@ -360,7 +369,7 @@ fn are_alike(
     true
 }
 
-/// The number of a content, or another where it is none.
+/// Returns the number of a content, or another number if the content is not a number.
 #[inline(always)]
 fn number_or(other: u64, content: FieldContent<'_>) -> u64
     ensures { result ≡ number_or other content.entry }
@@ -371,7 +380,7 @@ fn number_or(other: u64, content: FieldContent<'_>) -> u64
     }
 }
 
-/// The least of the numbers of an item, or 2^64 - 1, and the greatest, or 0.
+/// The least and the greatest number of an item. If there are no numbers, they are 2^64 - 1 and 0.
 #[derive(Clone, Copy)]
 pub(crate) struct NumberRange {
     least: u64,
@@ -379,7 +388,7 @@ pub(crate) struct NumberRange {
 }
 
 impl NumberRange {
-    /// The range of no contents.
+    /// Creates the range of no contents.
     pub(crate) fn new() -> NumberRange
         ensures { IsRangeOf result [] }
     {
@@ -389,7 +398,7 @@ impl NumberRange {
         }
     }
 
-    /// The range with one more content.
+    /// Returns the range extended by a content.
     #[inline(always)]
     pub(crate) fn with(self, content: FieldContent<'_>) -> NumberRange
         ensures { (contents : List FieldContent) → IsRangeOf self contents
@@ -401,7 +410,7 @@ impl NumberRange {
         }
     }
 
-    /// The least of the numbers, or 0.
+    /// Returns the least number, or 0 if there are no numbers.
     fn base(self) -> u64
         ensures { (count : ℕ) (contents : List FieldContent) → IsRangeOf self contents
             → result ≡ unwrap_or (lowest (padded_contents count contents)) 0 }
@@ -414,7 +423,8 @@ impl NumberRange {
     }
 }
 
-/// The least `k` from 1 to 63 whose bits write an increment that is not missing, else 64.
+/// Returns the least `k` from 1 to 63 for which `k` bits can represent an increment without reading
+/// as missing, or 64 if there is none.
 #[tactic(auto, using(crate::proofs::RowLemmas::least_here, crate::proofs::RowLemmas::least_later, crate::proofs::RowLemmas::least_end))]
 // rule: packs-class-31
 fn least_bits(spread: u64, may_be_missing: bool) -> u32
@@ -428,7 +438,7 @@ fn least_bits(spread: u64, may_be_missing: bool) -> u32
     64
 }
 
-/// The increment of a content over a base: all ones of `k` bits where it is no number.
+/// Returns the increment of a content over a base, or `k` ones if the content is not a number.
 #[tactic(auto, using(crate::proofs::FieldLemmas::ones_bits))]
 fn increment_of(content: FieldContent<'_>, base: u64, k: u32) -> u64
     requires narrow { k ≤ 63 }
@@ -445,7 +455,7 @@ fn increment_of(content: FieldContent<'_>, base: u64, k: u32) -> u64
     }
 }
 
-/// Writes the increments over a base, each in `k` bits.
+/// Writes the increments over a base, each with `k` bits.
 #[tactic(auto, using(crate::proofs::RowLemmas::short_at, crate::proofs::RowLemmas::flat_done))]
 fn put_increments(out: &mut BitWriter, contents: &[FieldContent<'_>], base: u64, k: u32)
     requires narrow { k ≤ 63 }
@@ -460,7 +470,7 @@ fn put_increments(out: &mut BitWriter, contents: &[FieldContent<'_>], base: u64,
     }
 }
 
-/// Writes numbers that differ: the least of them, `k`, and the increments over it.
+/// Writes numbers that differ: the least number, `k`, and the increments over the least number.
 // rule: packs-numbers
 fn pack_numbers(
     out: &mut BitWriter,
@@ -487,7 +497,7 @@ fn pack_numbers(
     Ok(())
 }
 
-/// How many octets of a text come before the spaces at its end.
+/// Returns the length of a text without trailing spaces.
 #[tactic(auto, using(crate::proofs::RowLemmas::trimmed_here, crate::proofs::RowLemmas::trimmed_later, crate::proofs::RowLemmas::trimmed_all))]
 fn trimmed_len(octets: &[u8]) -> usize
     ensures value { result ≡ trimmed octets.now }
@@ -501,14 +511,15 @@ fn trimmed_len(octets: &[u8]) -> usize
     0
 }
 
-/// How many octets determine all texts, so that none reads as missing.
+/// Returns the number of octets that the increments need so that they determine all texts and none
+/// reads as missing.
 #[tactic(auto, using(crate::proofs::RowLemmas::eighth_most, crate::proofs::RowLemmas::need_more, crate::proofs::RowLemmas::need_done, crate::proofs::RowLemmas::is_content_at))]
 // rule: packs-texts-not-missing
 fn octets_needed(contents: &[FieldContent<'_>], spec: &Spec) -> usize
     requires { AreContentsOf spec.now contents.now }
     ensures { result ≡ most_need contents.now }
 {
-    // For the proof alone: a text has at most 255 octets.
+    // This is for the proof only: a text has at most 255 octets.
     let _width = spec.width();
     let mut most: usize = 1;
     for content in contents {
@@ -525,7 +536,8 @@ fn octets_needed(contents: &[FieldContent<'_>], spec: &Spec) -> usize
     most
 }
 
-/// Writes the first octets of a text that spaces follow, or ones where the text is missing.
+/// Writes the first octets of a text, followed by spaces if it is shorter, or ones if it is
+/// missing.
 #[tactic(auto, using(crate::proofs::RowLemmas::eighth_most))]
 fn put_prefix(out: &mut BitWriter, content: FieldContent<'_>, k: usize, spec: &Spec)
     requires few { k ≤ spec.now.width / 8 }
@@ -536,7 +548,7 @@ fn put_prefix(out: &mut BitWriter, content: FieldContent<'_>, k: usize, spec: &S
     ensures len { length out.new.bits ≡ length out.old.bits + 8 * k }
     ensures room { out.old.room ≤ out.new.room + 8 * k }
 {
-    // For the proof alone: a text has at most 255 octets.
+    // This is for the proof only: a text has at most 255 octets.
     let _width = spec.width();
     match content {
         FieldContent::Text(octets) => out.put_octets(&with_spaces(octets)[..k]),
@@ -559,7 +571,7 @@ fn put_prefixes(out: &mut BitWriter, contents: &[FieldContent<'_>], k: usize, sp
     }
 }
 
-/// Writes texts that differ: a base of zero bits, `k`, and the first `k` octets of each.
+/// Writes texts that differ: a base of zero bits, `k`, and the first `k` octets of each text.
 #[tactic(auto, using(crate::proofs::RowLemmas::zero_bits))]
 // rule: packs-texts
 fn pack_texts(
