@@ -1,4 +1,4 @@
-//! The documents of an input.
+//! A reader of the documents in an input.
 ghost use Rattle.std.specs.Prelude.{◌≡◌, ◌≢◌, ◌≤◌, ◌<◌, ◌-◌, ◌*◌, ℕ, List, None, Some, Err, true, false, length, max, IfSome, IfOk};
 ghost use Rattle.bufr_text.specs.Prelude.{max_line, IsProper, has_no_feed, ReaderModel, new_reader, unfed, ReturnsNextDocument, failures_by, TakesHeldLines, GivesHeldDocument, FillsBuffer, ReadsMoreText, stopped, text_input};
 ghost use Rattle.bufr_bits.specs.Prelude.{counted};
@@ -12,11 +12,12 @@ use bufr_frame::{InputBuffer, RunFault};
 use std::alloc::Global;
 use std::marker::Model;
 
-/// Reads the documents of a dump text, one after another.
+/// A reader of the documents of a dump, one after another.
 ///
-/// It reads only where it holds no whole line, so a document is reported before the next one is
-/// read. A read asks for at most 4,096 octets, and at most 8,192 are held. The only memory that it
-/// takes besides is that of the document, which may be handed back to it ([`DumpReader::reuse`]).
+/// It reads only if no whole line is buffered, so it returns a document before it reads the next
+/// one. A read requests at most 4,096 octets, and at most 8,192 are buffered. The only other memory
+/// that it allocates is that of the document, which can be returned to it for reuse
+/// ([`DumpReader::reuse`]).
 ///
 /// ```
 /// let mut reader = DumpReader::new(rt.alloc());
@@ -28,13 +29,14 @@ use std::marker::Model;
 #[derive(Drop)]
 pub struct DumpReader {
     alloc: Global,
-    /// The octets that were read and not yet taken; at the end the last line has a line feed.
+    /// The octets that were read but not yet taken. At the end of input, the last line has a line
+    /// feed.
     input: InputBuffer,
-    /// Where the octets of a line are put that it writes by digits or in quotes.
+    /// The decoded octets of a line that contains hexadecimal digits or a quoted text.
     scratch: [u8; MAX_LINE],
-    /// How far the lines have come that were taken.
+    /// The state after the lines that were taken.
     progress: Progress,
-    /// The fault that stopped the reading.
+    /// The fault that stopped the reader.
     fault: Option<ReadFault>,
 }
 
@@ -59,7 +61,7 @@ impl Model for DumpReader {
 }
 
 impl DumpReader {
-    /// A reader that has read nothing. It takes no memory.
+    /// Creates a reader that has read nothing yet. This does not allocate.
     pub fn new(alloc: Global) -> DumpReader
         ensures { result ≡ new_reader }
     {
@@ -76,9 +78,9 @@ impl DumpReader {
         }
     }
 
-    /// Takes the memory of a document for those to come. So a long text of long documents does not
-    /// take and give back memory for each. Nothing else changes. Inside of a document that is being
-    /// read, and after a fault, the memory is given back instead.
+    /// Reuses the memory of a document for later documents, which saves an allocation for each of
+    /// them. Nothing else changes. If a document is being read, or after a fault, the memory is
+    /// freed instead.
     pub fn reuse(&mut self, document: Document)
         ensures { self.new ≡ self.old }
     {
@@ -88,13 +90,13 @@ impl DumpReader {
         }
     }
 
-    /// How many octets were read and not yet taken as lines: at most 8,192.
+    /// Returns the number of octets that were read but not yet taken as lines, at most 8,192.
     pub fn held(&self) -> usize
         ensures value { result ≡ length (unfed self.now) }
         ensures bound { result ≤ 2 * max_line }
     {
         let held = self.input.held().len();
-        // After the end what is held ends by the line feed that the text lacks.
+        // After the end of input, a line feed that the text lacked has been appended.
         if self.input.ended() {
             held.saturating_sub(1)
         } else {
@@ -102,7 +104,7 @@ impl DumpReader {
         }
     }
 
-    /// Stops for good.
+    /// Stops the reader: every later call returns this fault.
     fn stop(&mut self, fault: ReadFault) -> ReadFault
         requires { self.old.fault ≡ None }
         ensures new { self.new ≡ stopped self.old fault }
@@ -116,7 +118,7 @@ impl DumpReader {
         fault
     }
 
-    /// Takes the lines that are held, up to the end of a document.
+    /// Takes the buffered lines, up to the end of a document.
     fn take_held(&mut self) -> Result<Option<Document>, ReadFault>
         requires sound { self.old.fault ≡ None }
         ensures went { TakesHeldLines self.old self.new result }
@@ -149,7 +151,7 @@ impl DumpReader {
         }
     }
 
-    /// Reads once, after the octets that are held. At the end the last line is ended.
+    /// Reads once, after the buffered octets. At the end of input, completes the last line.
     #[tactic(auto, using(crate::proofs::ReaderLemmas::more_steps))]
     // rule: reading-last-line
     fn fill<R: Source>(&mut self, r: &mut R) -> Result<(), RunFault>
@@ -161,11 +163,11 @@ impl DumpReader {
         ensures failed { R.failures r.new ≡ read_failures_after (R.failures r.old) result }
         ensures sure { R.waits r.old ≡ false → result ≢ Err RunFault.Read }
         ensures counts { AddsReads (R.reads r.old) (R.reads r.new) self.old.reads self.new.reads }
-        // A read asks for all that fits, up to the longest line.
+        // A read requests as many octets as fit, up to the maximum length of a line.
         ensures asked { R.asked r.new ≡ counted (R.asked r.old)
             (asked_by max_line (text_input self.old self.old.held)
             (text_input self.new self.new.held)) }
-        // The room becomes 8,192 octets at the first read, and does not grow after that.
+        // The capacity becomes 8,192 octets at the first read, and does not grow after that.
         ensures least { 0 < self.new.reads → 2 * max_line ≤ self.new.room }
         ensures most { self.new.room ≤ max self.old.room (2 * max_line) }
     {
@@ -176,9 +178,9 @@ impl DumpReader {
         Ok(())
     }
 
-    /// The next document if the lines that are held decide it, as [`DumpReader::next_document`]
-    /// returns it. `None` where a read is needed first ([`DumpReader::read_more`]). Then no whole
-    /// line is held, and the end was not reached.
+    /// Returns the next document, as [`DumpReader::next_document`] does, if the buffered lines
+    /// complete it. Returns `None` if a read is needed first ([`DumpReader::read_more`]): no whole
+    /// line is buffered, and the end of input was not reached.
     #[inline(never)]
     pub fn next_held(&mut self) -> Option<Result<Option<Document>, ReadFault>>
         ensures gives { self.old.fault ≡ None → GivesHeldDocument self.old self.new result }
@@ -202,7 +204,7 @@ impl DumpReader {
             Ok(None) => {}
         }
         if self.input.ended() {
-            // At the end no line may be missing.
+            // At the end of input, the document must be complete.
             if let ParserState::Between = self.progress.state {
                 return Some(Ok(None));
             }
@@ -216,13 +218,13 @@ impl DumpReader {
         None
     }
 
-    /// Reads once, where [`DumpReader::next_held`] needs it. The input `r` is to be the same at
-    /// each call.
+    /// Reads once. Call this if [`DumpReader::next_held`] returned `None`. The input `r` must be
+    /// the same in every call.
     ///
     /// # Errors
     ///
-    /// [`ReadFault::Run`] as [`DumpReader::next_document`] gives it where no line is held. After a
-    /// fault it returns the same one, and reads nothing.
+    /// [`ReadFault::Run`] under the same conditions as [`DumpReader::next_document`] if no line is
+    /// buffered. After a fault, every call returns the same fault and reads nothing.
     pub fn read_more<R: Source>(&mut self, r: &mut R) -> Result<(), ReadFault>
         requires going { self.old.ended ≡ false }
         requires short { length self.old.held ≤ max_line }
@@ -233,11 +235,11 @@ impl DumpReader {
         ensures sure { self.old.fault ≡ None → R.waits r.old ≡ false
             → result ≢ Err (ReadFault.Run RunFault.Read) }
         ensures counts { AddsReads (R.reads r.old) (R.reads r.new) self.old.reads self.new.reads }
-        // A read asks for all that fits, up to the longest line.
+        // A read requests as many octets as fit, up to the maximum length of a line.
         ensures asked { R.asked r.new ≡ counted (R.asked r.old)
             (asked_by max_line (text_input self.old self.old.held)
             (text_input self.new self.new.held)) }
-        // The room becomes 8,192 octets at the first read, and does not grow after that.
+        // The capacity becomes 8,192 octets at the first read, and does not grow after that.
         ensures least { 0 < self.new.reads → 2 * max_line ≤ self.new.room }
         ensures most { self.new.room ≤ max self.old.room (2 * max_line) }
         ensures held { length self.new.held ≤ 2 * max_line }
@@ -254,19 +256,22 @@ impl DumpReader {
         }
     }
 
-    /// The next document of the input `r`, which is to be the same at each call. `None` where the
-    /// end was reached and no line is left; after `None` it comes again. A document is as its
-    /// header says. It has so many subsets and nothing after them, and octets of section 2 only
-    /// where there is one.
+    /// Returns the next document of the input `r`, which must be the same in every call. Returns
+    /// `None`, also in later calls, if the end of input was reached and no line is left. A document
+    /// agrees with its header: it has the declared number of subsets and nothing after them, and it
+    /// has octets of section 2 only if the header declares a section 2.
     ///
     /// # Errors
     ///
-    /// [`ReadFault::Line`] where the next document is refused. [`ReadFault::Run`] with
-    /// [`RunFault::Read`] where a read failed in this call, and with [`RunFault::InputTooLong`]
-    /// where the end was not reached in 2^32 reads. [`ReadFault::Run`] with [`RunFault::Memory`]
-    /// where a document could not grow by a line that is held. The same where the buffer could not
-    /// be made before the first read. All documents that were read whole were given before. After a
-    /// fault each call returns the same one, and reads nothing.
+    /// [`ReadFault::Line`] if the next document is invalid. [`ReadFault::Run`] with
+    ///
+    /// - [`RunFault::Read`] if a read failed in this call;
+    /// - [`RunFault::InputTooLong`] if the end of input was not reached within 2^32 reads;
+    /// - [`RunFault::Memory`] if a document could not grow by a buffered line, or the buffer could
+    ///   not be allocated before the first read.
+    ///
+    /// All complete documents before the fault have been returned. After a fault, every call
+    /// returns the same fault and reads nothing.
     // rule: fault-50, input-ends-early
     pub fn next_document<R: Source>(&mut self, r: &mut R) -> Result<Option<Document>, ReadFault>
         ensures next { self.old.fault ≡ None

@@ -1,4 +1,4 @@
-//! What a line says: its first word, numbers, items, texts in quotes and octets.
+//! The parser of a line: its first word, numbers, items, quoted texts and octets.
 ghost use Rattle.std.specs.Prelude.{◌≡◌, ℕ, ◌<◌, ◌≤◌, ◌==◌, IfSome, List, length, take, drop, option_map, if◌then◌else◌, min, ◌+◌, ◌-◌, slice_index, Some, ◌*◌};
 ghost use Rattle.std.specs.List.{prefix_len};
 ghost use Rattle.bufr_text.specs.Prelude.{max_line, read_line, without_space, hex_read, number_read, without_prefix, is_number_octet, is_hashed, is_passed_after, is_unescaped, upper_value, quoting_of, either_value, Line, made, with_one_to, worded, line_of, value_read, item_line, number_value, ItemLine, Unquotes, Unhexes, meaning, Wrong};
@@ -12,10 +12,11 @@ use bufr_fill::DraftValue;
 use bufr_tables::Fxy;
 use memchr::memchr;
 
-/// The most octets of a line, without its line feed.
+/// The maximum length of a line in octets, without its line feed.
 pub(crate) const MAX_LINE: usize = 4096;
 
-/// What a line says. Octets of hexadecimal digits and of texts are those that they mean.
+/// The meaning of a line. Octets that the line writes as hexadecimal digits or as a quoted text are
+/// decoded.
 #[derive(Clone, Copy)]
 pub(crate) enum ParsedLine<'a> {
     Passed,
@@ -30,7 +31,7 @@ pub(crate) enum ParsedLine<'a> {
     Wrong,
 }
 
-/// The octets, 1 to 32 of them, that the digits after one space write, put into `scratch`.
+/// Decodes the hexadecimal digits after one space into `scratch`. They represent 1 to 32 octets.
 // rule: reading-long-lists
 fn octets_after<'a>(rest: &[u8], scratch: &'a mut [u8]) -> Option<&'a [u8]>
     requires { length rest.now ≤ length scratch.old }
@@ -44,7 +45,7 @@ fn octets_after<'a>(rest: &[u8], scratch: &'a mut [u8]) -> Option<&'a [u8]>
     Some(prefix(scratch, count))
 }
 
-/// What a line says that begins with this word.
+/// Parses the rest of a line that begins with this word.
 // rule: reading-long-lists
 #[tactic(auto, unfolding(crate::specs::Line::worded))]
 fn worded<'a>(
@@ -86,7 +87,7 @@ fn worded<'a>(
     Some(ParsedLine::Header { key, value })
 }
 
-/// What a line says that is not too long, most likely the value of the key `next`.
+/// Parses a line that is not too long. It is most likely the value of the key `next`.
 #[tactic(auto, using(crate::proofs::ItemLemmas::read_steps))]
 fn line_said<'a>(
     line: &'a [u8],
@@ -117,7 +118,7 @@ fn line_said<'a>(
     worded(prefix(line, len), suffix(line, len), octets, words)
 }
 
-/// What a line says; octets and descriptors that it writes are put into `octets` and `words`.
+/// Parses a line. Octets and descriptors that it contains are put into `octets` and `words`.
 // rule: reading-empty-lines, reading-carriage-return, reading-blanks
 pub(crate) fn read_line<'a>(
     line: &'a [u8],
@@ -136,7 +137,7 @@ pub(crate) fn read_line<'a>(
     }
 }
 
-/// The number that digits write; numbers past 65,535 are all alike.
+/// Returns the number that digits represent. All numbers greater than 65,535 give the same result.
 // rule: reading-header-number
 pub(crate) fn number(text: &[u8]) -> Option<u32>
     ensures { result ≡ number_read text.now }
@@ -154,15 +155,15 @@ pub(crate) fn number(text: &[u8]) -> Option<u32>
     Some(number)
 }
 
-/// Whether an octet may be in a number token.
+/// Returns whether an octet may occur in a number token.
 fn is_number_octet(octet: u8) -> bool
     ensures { result ≡ is_number_octet octet }
 {
-    // After a number there is mostly a space, which is ruled out first.
+    // A number is usually followed by a space, so the space is ruled out first.
     octet > b' ' && (octet.is_ascii_digit() || octet == b'-' || octet == b'.')
 }
 
-/// How many octets of a number token come first.
+/// Returns the length of the number token at the start of the octets.
 // rule: reading-number
 fn token(text: &[u8]) -> usize
     ensures within { result ≤ length text.now }
@@ -175,7 +176,8 @@ fn token(text: &[u8]) -> usize
     at
 }
 
-/// A value, and the rest after it; the octets of a text are put into `scratch`.
+/// Parses a value, and returns it with the octets after it. The octets of a text are put into
+/// `scratch`.
 #[tactic(auto, using(crate::proofs::ItemLemmas::value_steps))]
 fn value<'a>(text: &'a [u8], scratch: &'a mut [u8]) -> Option<(DraftValue<'a>, &'a [u8])>
     requires { length text.now ≤ length scratch.old }
@@ -195,7 +197,7 @@ fn value<'a>(text: &'a [u8], scratch: &'a mut [u8]) -> Option<(DraftValue<'a>, &
     }
 }
 
-/// Whether there are spaces and then `#` and anything.
+/// Returns whether the octets are spaces followed by a comment, which begins with `#`.
 #[tactic(auto, using(crate::proofs::ItemLemmas::hash_steps))]
 fn is_hashed(text: &[u8]) -> bool
     ensures { result ≡ is_hashed text.now }
@@ -208,7 +210,7 @@ fn is_hashed(text: &[u8]) -> bool
     false
 }
 
-/// Whether nothing but a comment is after a value.
+/// Returns whether a value is followed by nothing or by a comment.
 #[tactic(auto, using(crate::proofs::ItemLemmas::hash_steps))]
 // rule: reading-after-a-value
 fn is_passed_after(text: &[u8]) -> bool
@@ -220,7 +222,8 @@ fn is_passed_after(text: &[u8]) -> bool
     text.is_empty() || text[0] == b' ' && is_hashed(text)
 }
 
-/// The descriptor and the number of an item line that has a short decimal, as nearly all do.
+/// Returns the descriptor and the number of an item line whose value is a short decimal, as almost
+/// all are.
 #[inline(always)]
 pub(crate) fn decimal_item(line: &[u8]) -> Option<(Fxy, ShortDecimal)>
     ensures { IfSome result
@@ -241,7 +244,8 @@ pub(crate) fn decimal_item(line: &[u8]) -> Option<(Fxy, ShortDecimal)>
     Some((Fxy::read(prefix(line, 6))?, number))
 }
 
-/// The descriptor of an item line whose value is missing, as half of the items of reports are.
+/// Returns the descriptor of an item line whose value is missing, as are half of the items in
+/// reports.
 #[inline(always)]
 pub(crate) fn missing_item(line: &[u8]) -> Option<Fxy>
     ensures { IfSome result (λ fxy. line_of line.now ≡ ItemLine fxy missing_form) }
@@ -250,7 +254,7 @@ pub(crate) fn missing_item(line: &[u8]) -> Option<Fxy>
         return None;
     }
     let text = without_space(suffix(line, 6))?;
-    // Other values do not wait for a comparison of the whole word.
+    // Comparing one octet first is faster for other values.
     if octet_at(text, 0) != b'M' {
         return None;
     }
@@ -261,7 +265,7 @@ pub(crate) fn missing_item(line: &[u8]) -> Option<Fxy>
     Fxy::read(prefix(line, 6))
 }
 
-/// What an item line says that begins with a descriptor.
+/// Parses an item line that begins with a descriptor.
 pub(crate) fn item<'a>(text: &'a [u8], scratch: &'a mut [u8]) -> Option<ParsedLine<'a>>
     requires { length text.now ≤ length scratch.old }
     ensures { made meaning result ≡ item_line value_read text.now }
@@ -275,7 +279,7 @@ pub(crate) fn item<'a>(text: &'a [u8], scratch: &'a mut [u8]) -> Option<ParsedLi
     Some(ParsedLine::Item { fxy, form })
 }
 
-/// What a line says of a redefined reference, after `R` and a space.
+/// Parses the part of a redefined reference that follows `R` and a space.
 #[tactic(auto, using(crate::proofs::ItemLemmas::reference_steps))]
 // rule: reading-reference
 pub(crate) fn reference<'a>(text: &'a [u8]) -> Option<ParsedLine<'a>>
@@ -294,18 +298,18 @@ pub(crate) fn reference<'a>(text: &'a [u8]) -> Option<ParsedLine<'a>>
     Some(ParsedLine::Item { fxy, form })
 }
 
-/// What the rest of a quoted text begins with.
+/// The start of the rest of a quoted text.
 #[derive(Clone, Copy)]
 pub(crate) enum QuotedToken {
     /// The quote that ends the text.
     Closed,
     /// An octet of the text, and the number of octets of the line that represent it.
     Octet { octet: u8, written: usize },
-    /// Something that is not allowed in a text.
+    /// Something that is not allowed in a quoted text.
     Nothing,
 }
 
-/// The number of an upper-case hexadecimal digit.
+/// Returns the number that an upper-case hexadecimal digit represents.
 fn upper_value(octet: u8) -> Option<u8>
     ensures value { result ≡ upper_value octet }
     ensures few { IfSome result (λ n. n < 16) }
@@ -317,11 +321,11 @@ fn upper_value(octet: u8) -> Option<u8>
     }
 }
 
-/// For each octet 1 where a text has it as it is, and 0 where it has an escape.
+/// For each octet, 1 if it appears unescaped in a quoted text, and 0 if it has an escape.
 static UNESCAPED: [u8; 256] =
     *b"0000000000000000000000000000000011011111111111111111111111111111111111111111111111111111111101111111111111111111111111111111111000000000000000000000000000000000000000000000000000000000000000000000000000000000000000000000000000000000000000000000000000000000";
 
-/// Whether an octet of a text is unescaped.
+/// Returns whether an octet appears unescaped in a quoted text.
 #[inline(always)]
 pub(crate) fn is_unescaped(octet: u8) -> bool
     ensures { result ≡ is_unescaped octet }
@@ -329,7 +333,7 @@ pub(crate) fn is_unescaped(octet: u8) -> bool
     UNESCAPED[octet as usize] == b'1'
 }
 
-/// How a text begins.
+/// Returns the start of the rest of a quoted text.
 // rule: reading-quoted
 fn first_part(text: &[u8]) -> QuotedToken
     ensures { result ≡ quoting_of text.now }
@@ -360,7 +364,8 @@ fn first_part(text: &[u8]) -> QuotedToken
     }
 }
 
-/// Puts the octets of a text to the start of `out`: how many, and where its closing quote ends.
+/// Decodes a quoted text to the start of `out`. Returns the number of its octets, and the index
+/// after its closing quote.
 pub(crate) fn decode_quoted(text: &[u8], out: &mut [u8]) -> Option<(usize, usize)>
     requires { length text.now ≤ length out.old }
     ensures { Unquotes text.now out.new result }
@@ -381,7 +386,7 @@ pub(crate) fn decode_quoted(text: &[u8], out: &mut [u8]) -> Option<(usize, usize
     None
 }
 
-/// The number of a hexadecimal digit of either case.
+/// Returns the number that a hexadecimal digit represents, in upper or lower case.
 // rule: reading-hexadecimal
 fn either_value(octet: u8) -> Option<u8>
     ensures value { result ≡ either_value octet }
@@ -393,7 +398,7 @@ fn either_value(octet: u8) -> Option<u8>
     }
 }
 
-/// Puts the octets that digits write to the start of `out`; answers how many they are.
+/// Decodes hexadecimal digits to the start of `out`. Returns the number of octets.
 #[tactic(auto, using(crate::proofs::ItemLemmas::unhexing_steps))]
 pub(crate) fn decode_hex(text: &[u8], out: &mut [u8]) -> Option<usize>
     requires { length text.now ≤ 2 * length out.old }
@@ -409,14 +414,14 @@ pub(crate) fn decode_hex(text: &[u8], out: &mut [u8]) -> Option<usize>
     (2 * count == text.len()).then_some(count)
 }
 
-/// The octet at an index, or 0 after the end.
+/// Returns the octet at an index, or 0 past the end.
 pub(crate) fn octet_at(text: &[u8], index: usize) -> u8
     ensures { result ≡ slice_index text.now index }
 {
     if index < text.len() { text[index] } else { 0 }
 }
 
-/// What is after a word.
+/// Returns the octets after a word, if the line begins with it.
 pub(crate) fn without_prefix<'a>(text: &'a [u8], word: &[u8]) -> Option<&'a [u8]>
     ensures value { option_map (λ s. s.now) result ≡ without_prefix word.now text.now }
     ensures within { IfSome result (λ s. length s.now ≤ length text.now) }
@@ -424,7 +429,7 @@ pub(crate) fn without_prefix<'a>(text: &'a [u8], word: &[u8]) -> Option<&'a [u8]
     text.strip_prefix(word)
 }
 
-/// What is after one space.
+/// Returns the octets after one space, if they begin with one.
 #[tactic(auto, using(crate::proofs::ItemLemmas::space_steps))]
 #[inline(always)]
 pub(crate) fn without_space<'a>(text: &'a [u8]) -> Option<&'a [u8]>
