@@ -432,7 +432,7 @@ fn reads_to_the_end_and_counts_reads(rt: HostRuntime) {
 
 /// Reads twice, and skips some octets between the reads.
 #[test]
-fn fills_buffer_again_after_a_skip(rt: HostRuntime) {
+fn refills_buffer_after_a_skip(rt: HostRuntime) {
     let mut r = ScriptIn::new(b"abcd", 3, None);
     let mut input = InputBuffer::new(rt.alloc());
     assert_same(&rt, &input.fill(&mut r, 4, 8), &Ok(()), &"first read");

@@ -36,7 +36,7 @@ fn list(rt: &impl Runtime, stream: &[u8], output: &mut ScriptOut) {
 }
 
 #[test]
-fn lists_a_stream(rt: HostRuntime) {
+fn lists_the_messages_in_a_stream(rt: HostRuntime) {
     let parts = [b"heading", STRAY, ONE_BLOCK_NUMBER, ONE_BLOCK_NUMBER, STRAY];
     let mut output = writer(&rt, 4096, (4096, End::Fail));
     list(&rt, &joined(&rt, &parts), &mut output);

@@ -370,7 +370,7 @@ fn many_sequences(rt: &impl Runtime) -> Vec<u8> {
 }
 
 #[test]
-fn looks_up_entries_in_tables_of_usual_size(rt: HostRuntime) {
+fn looks_up_entries_in_tables_of_typical_size(rt: HostRuntime) {
     let table = ok(&rt, read_b(rt.alloc(), &many_elements(&rt)));
     for word in 0..6000u16 {
         let found = entry_of(&table, word).is_some();
