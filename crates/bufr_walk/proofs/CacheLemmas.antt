@@ -1,7 +1,7 @@
 -- What is cached: specs by their keys, and lists of descriptors in slots.
 use Rattle.std.proofs.lemmas.Grind.{common_steps}
 use Rattle.std.proofs.Common.{◌==◌, ℤ, unsigned_abs, Bool, true, Option, Some, None, IfSome, if◌then◌else◌, ◌≡◌, ◌≢◌, ℕ, zero, suc, inl, inr, Contains, slice_set, get_or, drop, refl, ◌⊎◌, ◌∙◌, ◌-◌, ◌+◌, ◌*◌, ◌<◌, arith, sym, ◌^◌, false, List, Ok, ap, subst, ◌≤◌, [], ◌∷◌, ◌++◌, length, length-append, nat_lt}
-use Rattle.bufr_walk.specs.Prelude.{Lists, with_room, IsKept, MayStay, list_of, lists_of, OperatorModel, IsKey, is_defining, element_spec, factor_spec, unsigned_field, IsFieldKey, descriptor_of, key_word, spec_of, FieldSpec, is_reference, IsSpecBy, IsOther, TableField, IsSpecFor, IsSpecKey, spec_key, HasOctets, Dependence, OnNothing, OnWidth, OnReference, by_reference, dependence, dependence_number, HasNumber, Redefined, redefined, current_reference, Kind, spec_by_kind, new_reference_spec, local_width_spec, listed_by}
+use Rattle.bufr_walk.specs.Prelude.{Lists, with_room, IsKept, MayStay, list_of, lists_of, OperatorModel, IsKey, is_defining, element_spec, factor_spec, unsigned_field, IsFieldKey, descriptor_of, key_word, spec_of, FieldSpec, is_reference, IsSpecBy, IsOther, TableField, IsSpecFor, IsSpecKey, spec_key, HasOctetOperands, Dependence, OnNothing, OnWidth, OnReference, by_reference, dependence, dependence_number, HasNumber, Redefined, redefined, current_reference, Kind, spec_by_kind, new_reference_spec, local_width_spec, listed_by}
 use Rattle.std.proofs.lemmas.Bool.Decides.{nat_tests}
 use Rattle.std.proofs.lemmas.Bool.{eqb-true}
 use Rattle.bufr_tables.specs.Prelude.{Row, Sequence, entry_of}
@@ -233,7 +233,7 @@ pub spec_got_by : (table : List Row) (s : OperatorModel) (f : TableField) (key :
 spec_got_by table s f key spec h g = g.is s f h
 
 -- the whole key of a field, part by part
-pub with_dependence : (s : OperatorModel) (f : TableField) (d : Dependence) (key : SpecKey) → HasOctets s → descriptor_of f < 65536 → dependence s (descriptor_of f) ≡ d
+pub with_dependence : (s : OperatorModel) (f : TableField) (d : Dependence) (key : SpecKey) → HasOctetOperands s → descriptor_of f < 65536 → dependence s (descriptor_of f) ≡ d
     → key.operators ≡ spec_key s 0 + 1099511627776 * key_word f + 144115188075855872 * dependence_number d → HasNumber d key.number → IsSpecKey s f key
 with_dependence s f d key octets word is key_is number = record {
   word = word;

@@ -301,7 +301,7 @@ spec_key s word =
     + 4294967296 * s.local_width + 1099511627776 * word
 
 -- each operand in the key is an octet
-pub record HasOctets (s : OperatorModel) : Type 0 where
+pub record HasOctetOperands (s : OperatorModel) : Type 0 where
   pub width_change : s.width_change < 256
   pub scale_change : s.scale_change < 256
   pub precision_increase : s.precision_increase < 256
@@ -313,7 +313,7 @@ pub record IsKey (s : OperatorModel) (word key : ℕ) : Type 0 where
   pub is : key ≡ spec_key s word
   pub new_reference_width : s.new_reference_width ≡ 0
   pub new_references : s.new_references ≡ []
-  pub octets : HasOctets s
+  pub octets : HasOctetOperands s
 
 -- the key of the operators; a number from 2^62 on is no key
 pub record IsOperatorKey (s : OperatorModel) (key : ℕ) : Type 0 where
@@ -376,4 +376,4 @@ pub record IsSpecKey (s : OperatorModel) (f : TableField) (key : SpecKey) : Type
   pub is : key.operators ≡ spec_key s
       (key_word f + 131072 * dependence_number (dependence s (descriptor_of f)))
   pub number : HasNumber (dependence s (descriptor_of f)) key.number
-  pub octets : HasOctets s
+  pub octets : HasOctetOperands s

@@ -1,7 +1,7 @@
 //! The operators in effect, and the spec of a field under them.
 ghost use Rattle.std.specs.Prelude.{◌≡◌, ◌≤◌, ◌<◌, ◌*◌, ◌+◌, ◌^◌, ◌+ℤ◌, ◌*ℤ◌, ◌==◌, pos, unsigned_abs, List, Result, Ok, Err, Some, OnOk, IfErr, true, false};
 ghost use Rattle.bufr_tables.specs.Prelude.{row_of_entry, is_legal_operator, IsRow};
-ghost use Rattle.bufr_walk.specs.Prelude.{if_valid_width, spec_by_kind, unsigned_field, scale_change_of, operator_width, OperatorModel, Redefined, current_reference, AreOperands, known_of, operator_model, IsOperatorKey, HasRole, descriptor_of, key_word, spec_key, HasOctets, begin, after_operator, IsFieldKey, IsSpecKey, spec_of};
+ghost use Rattle.bufr_walk.specs.Prelude.{if_valid_width, spec_by_kind, unsigned_field, scale_change_of, operator_width, OperatorModel, Redefined, current_reference, AreOperands, known_of, operator_model, IsOperatorKey, HasRole, descriptor_of, key_word, spec_key, HasOctetOperands, begin, after_operator, IsFieldKey, IsSpecKey, spec_of};
 ghost use Rattle.bufr_tables.specs.declared.table_b.Kind.TheVariants as kinds;
 ghost use Rattle.bufr_walk.specs.declared.operators.OperatorOperands.{OperatorOperands};
 
@@ -95,7 +95,7 @@ impl Model for OperatorState {
 #[inline(always)]
 fn operand_key(operands: OperatorOperands) -> u64
     ensures value { (known : List Redefined) → result ≡ spec_key (operator_model operands known) 0 }
-    ensures octets { (known : List Redefined) → HasOctets (operator_model operands known) }
+    ensures octets { (known : List Redefined) → HasOctetOperands (operator_model operands known) }
     ensures few { result < 2 ^ 40 }
 {
     u64::from(operands.width_change)
