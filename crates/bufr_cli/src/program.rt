@@ -24,7 +24,7 @@ use thiserror::Error;
 /// The reason why a file was not opened.
 #[derive(Clone, Copy, Debug, PartialEq, Eq, Error)]
 pub enum OpenFault {
-    /// It cannot be opened.
+    /// The file cannot be opened.
     #[error("the file cannot be opened")]
     CannotOpen,
     /// Memory ran out.

@@ -1,4 +1,4 @@
-//! Runs over an input, whose pieces are written one by one.
+//! The loop of a run, which writes the pieces of an input one at a time.
 ghost use Rattle.std.specs.Prelude.{◌≡◌, ◌≢◌, ◌≤◌, ℕ, Bool, true, false, Ok, Err, OnOk, IfErr};
 ghost use Rattle.std.specs.Io.KnownBytes.{Keeps};
 ghost use Rattle.bufr_bits.specs.Prelude.{counted};

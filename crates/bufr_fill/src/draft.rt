@@ -86,8 +86,8 @@ fn parts_of<'a>(form: DraftValue<'a>) -> (ValueKind, &'a [u8])
 /// The items of all subsets and the lines that end the subsets, in the order of the dump.
 ///
 /// A short number is stored as its digits, and any other number or text in one block. An entry
-/// therefore takes 32 octets, and in addition those of its text. Contracts see the list of the
-/// entries.
+/// therefore takes 32 octets, and in addition those of its text. The end of a subset takes 8 more,
+/// for its index. Contracts see the list of the entries.
 ///
 /// ```
 /// let mut entries = Entries::new(alloc);

@@ -70,7 +70,8 @@ pub(crate) const ONE_BLOCK_NUMBER: &[u8] = b"\
     \x00\x00\x05\x00\x14\
     7777";
 
-/// The same message with local octets in section 1 and a section 2, which has 56 octets.
+/// The same message, but with local octets in section 1 and with a section 2. It has 56 octets in
+/// total.
 pub(crate) const LOCAL_USE: &[u8] = b"\
     BUFR\x00\x00\x38\x04\
     \x00\x00\x18\x00\x00\x62\x00\x00\x00\x80\x00\x00\x00\x0E\x00\x07\xE8\x01\x02\x03\x04\x05\

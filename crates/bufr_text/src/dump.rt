@@ -303,8 +303,8 @@ pub fn write_dump<W: Sink>(
     write_dump_by(&mut memory, message, reading, steps, w)
 }
 
-/// Writes the dump of a message as [`write_dump`] does, but reuses state from earlier messages. The
-/// state must be for the table of the reading.
+/// Writes the dump of a message as [`write_dump`] does, but reuses state from earlier messages.
+/// `memory` must have been created for the table that `reading` uses.
 ///
 /// # Errors
 ///

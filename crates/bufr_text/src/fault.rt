@@ -52,7 +52,7 @@ pub enum ReadFault {
 }
 
 impl ReadFault {
-    /// Returns the number of this fault: that of the line's fault or of the run's fault.
+    /// Returns the number of this fault, which is that of the line fault or run fault.
     pub fn number(self) -> u8
         ensures { result ≡ number_of_read_fault self }
     {

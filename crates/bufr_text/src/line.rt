@@ -118,7 +118,7 @@ fn line_said<'a>(
     worded(prefix(line, len), suffix(line, len), octets, words)
 }
 
-/// Parses a line. Octets and descriptors that it contains are put into `octets` and `words`.
+/// Parses a line. Stores the octets that it contains in `octets`, and the descriptors in `words`.
 // rule: reading-empty-lines, reading-carriage-return, reading-blanks
 pub(crate) fn read_line<'a>(
     line: &'a [u8],

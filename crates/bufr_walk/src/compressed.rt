@@ -20,8 +20,8 @@ use bufr_tables::{Kind, TableB};
 use std::alloc::Global;
 use std::marker::Model;
 
-/// Returns whether an increment of `k` bits is valid: it means missing, or the sum of the base and
-/// the increment fits in the field's width.
+/// Returns whether an increment of `k` bits is valid, that is, whether it represents a missing
+/// value or its sum with the base fits in the field's width.
 // rule: compressed-past-width, compressed-class-31
 fn stays_within(spec: &Spec, base: u64, k: u32, increment: u64) -> bool
     requires k { k ≤ 63 }

@@ -12,7 +12,7 @@ use thiserror::Error;
 /// The location of an item in the data.
 #[derive(Clone, Copy, Debug, PartialEq, Eq)]
 pub struct Spot {
-    /// The number of the subset, from 1; 0 in compressed data.
+    /// The subset number, counted from 1, or 0 in compressed data.
     pub subset: u16,
     /// The descriptor of an element, a factor or an operator.
     pub fxy: Fxy,
