@@ -81,7 +81,8 @@ same_key a b f g key h k =
     let m = dependence_number (dependence a (descriptor_of f)) in
     let n = dependence_number (dependence b (descriptor_of g)) in
     let six = five_octets a.width_change a.scale_change a.precision_increase a.character_octets a.local_width (key_word f + 131072 * m)
-    b.width_change b.scale_change b.precision_increase b.character_octets b.local_width (key_word g + 131072 * n) h.octets.width_change h.octets.scale_change h.octets.precision_increase h.octets.character_octets h.octets.local_width
+    b.width_change b.scale_change b.precision_increase b.character_octets b.local_width (key_word g + 131072 * n)
+    h.octets.width_change h.octets.scale_change h.octets.precision_increase h.octets.character_octets h.octets.local_width
     k.octets.width_change k.octets.scale_change k.octets.precision_increase k.octets.character_octets k.octets.local_width (sym h.is ∙ k.is) in
     let word = last_word (key_word f) (key_word g) m n (word_small f h.word) (word_small g k.word) six.5 in
     let field : f ≡ g = same_field f g h.word k.word word.0 in
@@ -218,7 +219,8 @@ pub spec_got : (table : List Row) (s : OperatorModel) (f : TableField) (key : �
 spec_got table s f key spec h g = g.is s f h.word (h.is g.few)
 
 -- the spec of a field may be cached under its key
-pub spec_cached : (table : List Row) (s : OperatorModel) (f : TableField) (key : SpecKey) (spec : FieldSpec) → IsSpecKey s f key → key.operators < 2 ^ 62 → spec_of table s f ≡ Ok spec → IsSpecFor table key spec
+pub spec_cached : (table : List Row) (s : OperatorModel) (f : TableField) (key : SpecKey) (spec : FieldSpec) → IsSpecKey s f key → key.operators < 2 ^ 62 → spec_of table s f ≡ Ok spec
+    → IsSpecFor table key spec
 spec_cached table s f key spec h few found = record {
   few = few;
   is = λ t g k.
@@ -249,10 +251,11 @@ other_dependence s fxy o none is =
 
 plain_dependence : (s : OperatorModel) (fxy : ℕ) → s.new_reference_width ≡ 0 → s.new_references ≡ [] → dependence s fxy ≡ OnNothing
 plain_dependence s fxy none empty =
-    ap (λ b. if b then OnWidth s.new_reference_width else by_reference (redefined s.new_references fxy)) (none_defining s.new_reference_width none) ∙ ap (λ known. by_reference (redefined known fxy)) empty
+    ap (λ b. if b then OnWidth s.new_reference_width else by_reference (redefined s.new_references fxy)) (none_defining s.new_reference_width none)
+    ∙ ap (λ known. by_reference (redefined known fxy)) empty
 
 -- without redefined references the operators are the whole key
-plain_key : (s : OperatorModel) (f : TableField) (key : SpecKey) → descriptor_of f < 65536 → IsKey s (key_word f) key.operators → IsSpecKey s f key
+pub plain_key : (s : OperatorModel) (f : TableField) (key : SpecKey) → descriptor_of f < 65536 → IsKey s (key_word f) key.operators → IsSpecKey s f key
 plain_key s f key word h =
     let nothing : dependence s (descriptor_of f) ≡ OnNothing = plain_dependence s (descriptor_of f) h.new_reference_width h.new_references in
     record {

@@ -124,11 +124,13 @@ last_found (n ∷ recent) known word =
     ap (last_of recent word) (sym (redefined_with known n.word n.reference word)) ∙ last_found recent (with_reference n.word n.reference known) word
 
 -- the first of those that are left is added to the map
-pub sorted_more : (recent : List NewReference) (i : ℕ) (d : NewReference) (kept more : List (ℕ × ℤ)) → i < length recent → more ≡ insert_entry nat_cmp kept (get_or recent i d).word (get_or recent i d).reference
+pub sorted_more : (recent : List NewReference) (i : ℕ) (d : NewReference) (kept more : List (ℕ × ℤ)) → i < length recent
+    → more ≡ insert_entry nat_cmp kept (get_or recent i d).word (get_or recent i d).reference
     → with_all (drop (i + 1) recent) (known_by more) ≡ with_all (drop i recent) (known_by kept)
 sorted_more recent i d kept more h e =
     let n = get_or recent i d in
-    ap (λ es. with_all (drop (i + 1) recent) (known_by es)) e ∙ ap (with_all (drop (i + 1) recent)) (known_more kept n.word n.reference) ∙ ap (λ xs. with_all xs (known_by kept)) (sym (drop_more recent i d h))
+    ap (λ es. with_all (drop (i + 1) recent) (known_by es)) e ∙ ap (with_all (drop (i + 1) recent)) (known_more kept n.word n.reference)
+    ∙ ap (λ xs. with_all xs (known_by kept)) (sym (drop_more recent i d h))
 
 -- one more is put behind several
 pub all_more : (recent : List NewReference) (n : NewReference) (known : List Redefined) → with_all (recent ++ n ∷ []) known ≡ with_reference n.word n.reference (with_all recent known)

@@ -19,7 +19,7 @@ pub(crate) struct NewReference {
 #[derive(Drop)]
 pub(crate) struct References {
     sorted: BTreeMap<u16, i64>,
-    recent: ArrayVec<NewReference, 8>,
+    recent: ArrayVec<NewReference, 4>,
 }
 
 /// Adds references to a map.
@@ -76,7 +76,7 @@ impl References {
     /// Makes room for one more.
     pub(crate) fn reserve(&mut self) -> Result<(), AllocError>
         ensures same { OnOk result (known_of self.new ≡ known_of self.old) }
-        ensures room { OnOk result (array_vec_len self.new.recent < 8) }
+        ensures room { OnOk result (array_vec_len self.new.recent < 4) }
     {
         if self.recent.is_full() {
             sort(&mut self.sorted, self.recent.as_slice())?;
@@ -88,7 +88,7 @@ impl References {
     /// Adds the reference of an element, where there is room.
     #[tactic(auto, using(crate::proofs::SpecLemmas::all_more))]
     pub(crate) fn push(&mut self, word: u16, reference: i64)
-        requires { array_vec_len self.old.recent < 8 }
+        requires { array_vec_len self.old.recent < 4 }
         ensures { known_of self.new ≡ with_reference word reference (known_of self.old) }
     {
         self.recent.push(NewReference { word, reference });

@@ -1,13 +1,13 @@
 //! The walk over the cells of a template, with the fields that it takes, its stops and its steps.
 ghost use Rattle.std.specs.Prelude.{◌≡◌, ℕ, ◌+◌, ◌-◌, ◌^◌, ◌<◌, Result, Ok, Err, IfOk, ◌≤◌, ◌*◌, ◌++◌, ◌∷◌, [], List, OnOk, OnErr, true, false};
-ghost use Rattle.bufr_walk.specs.Prelude.{ticked, Walked, TakesField, counted_item, FieldSpec, IsFor, Taken, after_field, descriptor_of, spec_of, stop_by, inserted_spec, is_reference};
+ghost use Rattle.bufr_walk.specs.Prelude.{ticked, Walked, TakesField, counted_item, FieldSpec, IsFor, Taken, after_field, descriptor_of, spec_of, stop_by, inserted_spec, is_reference, IsSpecKey};
 ghost use Rattle.arrayvec.specs.ArrayVec.{array_vec_len};
 ghost use Rattle.bufr_tables.specs.Prelude.{is_inserted_text, is_legal_operator, places};
 ghost use Rattle.bufr_walk.specs.declared.walker.Frame.{Frame};
 
 use crate::operators::{OperatorState, TableField, key_by};
 use crate::spec::{Role, Spec, Taken, TurnRefusal};
-use crate::spec_cache::{NO_KEY, SpecCache};
+use crate::spec_cache::{NO_KEY, SpecCache, SpecKey};
 use arrayvec::ArrayVec;
 use bufr_tables::{Cell, Fxy, TableB, Template};
 use std::alloc::Global;
@@ -242,10 +242,33 @@ fn end_pass(groups: &mut ArrayVec<Frame, 32>) -> u32
     frame.start
 }
 
-/// Takes the field of a cell by its spec, which is found and cached unless it is cached already.
+/// Takes the field of a cell by its spec, which is found, and cached under this key.
+#[inline(always)]
+fn find_and_take<S: Fields>(
+    field: TableField,
+    place: u32,
+    key: SpecKey,
+    cache: &mut SpecCache<'_>,
+    fields: &mut S,
+    in_force: &mut OperatorState,
+) -> Result<Taken, WalkStop<S::Fault>>
+    requires key { IsSpecKey in_force.old field key }
+    requires few { key.operators < 2 ^ 62 }
+    ensures took { TakesField S.takes (spec_of cache.old in_force.old field) fields.old result
+        fields.new }
+    ensures kept { IfOk result
+        (λ t. in_force.new ≡ after_field in_force.old (descriptor_of field) t) }
+    ensures same { cache.new ≡ cache.old }
+{
+    let spec = in_force.spec(cache.table, &field)?;
+    cache.insert(place, key, &spec);
+    in_force.take(field.fxy(), &spec, fields)
+}
+
+/// Takes the field of a cell where a reference is being defined or was redefined.
 #[tactic(auto, using(crate::proofs::CacheLemmas::spec_got_by))]
 #[inline(never)]
-fn take_field_by_key<S: Fields>(
+fn take_redefined<S: Fields>(
     field: TableField,
     place: u32,
     cache: &mut SpecCache<'_>,
@@ -259,17 +282,15 @@ fn take_field_by_key<S: Fields>(
     ensures same { cache.new ≡ cache.old }
 {
     let key = in_force.spec_key(&field);
-    if let Some(spec) = cache.get_by(place, key) {
-        return in_force.take(field.fxy(), spec, fields);
+    match cache.get_by(place, key) {
+        Some(spec) => in_force.take(field.fxy(), spec, fields),
+        None => find_and_take(field, place, key, cache, fields, in_force),
     }
-    let spec = in_force.spec(cache.table, &field)?;
-    cache.insert(place, key, &spec);
-    in_force.take(field.fxy(), &spec, fields)
 }
 
-/// Takes the field of a cell. No reference is being defined nor was redefined where its spec is
-/// cached under the key of the operators, as nearly always.
-#[tactic(auto, using(crate::proofs::CacheLemmas::spec_got, crate::proofs::CacheLemmas::spec_got_plain))]
+/// Takes the field of a cell. Nearly always no reference is being defined or was redefined: then
+/// the operators and the descriptor are the key of its spec.
+#[tactic(auto, using(crate::proofs::CacheLemmas::spec_got, crate::proofs::CacheLemmas::spec_got_plain, crate::proofs::CacheLemmas::plain_key))]
 #[inline(always)]
 fn take_field<S: Fields>(
     field: TableField,
@@ -284,11 +305,18 @@ fn take_field<S: Fields>(
         (λ t. in_force.new ≡ after_field in_force.old (descriptor_of field) t) }
     ensures same { cache.new ≡ cache.old }
 {
-    let key = in_force.key(&field);
-    match cache.get(place, key) {
-        Some(spec) => in_force.take_other(spec, fields),
-        None => take_field_by_key(field, place, cache, fields, in_force),
+    let operators = in_force.key(&field);
+    if let Some(spec) = cache.get(place, operators) {
+        return in_force.take_other(spec, fields);
     }
+    if operators < NO_KEY {
+        let key = SpecKey {
+            operators,
+            number: 0,
+        };
+        return find_and_take(field, place, key, cache, fields, in_force);
+    }
+    take_redefined(field, place, cache, fields, in_force)
 }
 
 /// Walks over the cells of a template once, field by field: over one subset, or over all of them
