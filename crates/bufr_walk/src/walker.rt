@@ -268,7 +268,8 @@ fn find_and_take<S: Fields>(
     in_force.take(field.fxy(), &spec, fields)
 }
 
-/// Takes the field of a cell if a reference is being defined or has been redefined.
+/// Takes the field of a cell if a reference is being defined or has been redefined. If there is no
+/// room for the spec of the cell, looks up the redefined reference only once.
 #[tactic(auto, using(crate::proofs::CacheLemmas::spec_got_by))]
 #[inline(never)]
 fn take_redefined<S: Fields>(
@@ -284,6 +285,10 @@ fn take_redefined<S: Fields>(
         (λ t. in_force.new ≡ after_field in_force.old (descriptor_of field) t) }
     ensures same { cache.new ≡ cache.old }
 {
+    if place as usize >= cache.cells() {
+        let spec = in_force.spec(cache.table, &field)?;
+        return in_force.take(field.fxy(), &spec, fields);
+    }
     let key = in_force.spec_key(&field);
     match cache.get_by(place, key) {
         Some(spec) => in_force.take(field.fxy(), spec, fields),
