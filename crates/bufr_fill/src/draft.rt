@@ -84,7 +84,7 @@ fn parts_of<'a>(form: DraftValue<'a>) -> (ValueKind, &'a [u8])
 
 /// The items of all subsets and the lines that end them, one after another. A short number is kept
 /// as its digits, other numbers and texts in one block. So an entry takes 32 octets and those of
-/// its text.
+/// its text, and the end of a subset 8 more for its index.
 ///
 /// A contract sees the list of the entries.
 ///
