@@ -110,7 +110,7 @@ impl<'s> PackedOut<'s> {
     ///
     /// # Errors
     ///
-    /// None: only the items that are taken need memory.
+    /// This call does not allocate, so it never fails. Only taking an item allocates memory.
     pub fn new(alloc: Global, entries: &'s Entries) -> Result<Option<PackedOut<'s>>, AllocError>
         requires few { length entries.now ≤ 2 ^ 45 }
         ensures { IfOk result (λ out. StartsPackedOut (subsets_of entries.now) out) }
