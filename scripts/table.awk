@@ -37,8 +37,8 @@
 #
 # Notes on standard error report columns for which there are no items, columns of levels whose items occur only outside the
 # levels, and the number of skipped subsets. The exit status is 1 if a subset was skipped because its levels were ambiguous.
-# It is 2 if a column is neither a header key nor the descriptor of an element, if the dump ends inside a message, or if the
-# listing and the fault lines do not match the dump. The script works with any awk.
+# It is 2 if the input is not a dump, if a column is neither a header key nor the descriptor of an element, if the dump ends
+# inside a message, or if the listing and the fault lines do not match the dump. The script works with any awk.
 #
 # bufr-csv also sets the variables `name`, `placed` and `feed`. Each note begins with the value of `name`. With placed=1, a
 # comment before each message gives the message's offset, length and file, which can then be used as columns. With feed=0,
@@ -428,6 +428,8 @@ END {
         fail("the dump is incomplete: it ends in the middle of a message")
     if (is_joined && next_listed())
         fail("the listing has more messages than the dump and the fault lines combined; make all three from the same file")
+    if (!message && NR)
+        fail("the input is not a dump; pass the output of bufr dump or bufr-auto")
     if (!message)
         exit
     for (column = 1; column <= kept_count; column++)

@@ -123,6 +123,11 @@ def main() -> None:
         for text, wanted in ((ODD, (0, ODD_ROWS, b"")), (ODD[:-4], (2, ODD_ROWS, told))):
             done = run([*awk, *SCRIPT], text)
             wrongs += [f"{awk}: table.awk makes {done} of {text}"] * (done != wanted)
+        told = b"table.awk: the input is not a dump; pass the output of bufr dump or bufr-auto\n"
+        message = (TOP / "examples/synop.bufr").read_bytes()
+        for text, status, notes in ((message, 2, told), (b"no dump\n", 2, told), (b"", 0, b"")):
+            done = run([*awk, "-v", "columns=012101", *SCRIPT], text)
+            wrongs += [f"{awk}: table.awk makes {done} of input that is not a dump"] * (done[::2] != (status, notes))
         for words in (["columns=012101,301001"], ["columns=201132"], ["levels=1", "columns=012101", "keep=101000"]):
             done = run([*awk, *(word for value in words for word in ("-v", value)), *SCRIPT], FEED)
             told = b"table.awk: '%b' is not an element, so no item has this descriptor\n" % words[-1][-6:].encode()
