@@ -161,7 +161,7 @@ class DumpWarning(UserWarning):
 
 
 def warn(text: str) -> None:
-    """Issues a `DumpWarning` for the line that called this module or the `bufr` module."""
+    """Issues a `DumpWarning` that points to the line that called into this module or the `bufr` module."""
     level, frame = 2, sys._getframe(1)
     while frame.f_globals["__name__"] in ("bufr", "bufr_parts", "bufr_text") and frame.f_back:
         level, frame = level + 1, frame.f_back
@@ -896,7 +896,7 @@ def listing(file: _Path, faults: Optional[List[Fault]] = None) -> Iterator[Liste
 
 
 def parts(places: Iterable[Listed], octets: int = 1 << 19) -> Iterator[List[Listed]]:
-    """Splits the results of `listing` into lists. The messages in each list, except the last, total at least `octets` bytes."""
+    """Splits the results of `listing` into lists. In each list except the last, the messages total at least `octets` bytes."""
     part: List[Listed] = []
     held = 0
     for place in places:
