@@ -1,6 +1,6 @@
 -- The items of a dump text, the content that each has as a field, and their faults. (own)
 -- Cited by public contracts.
-use Rattle.std.specs.Prelude.{ℕ, List, [], ◌∷◌, Bool, true, false, ◌+◌, ◌-◌, ◌/◌, ◌^◌, ◌==◌, ◌&&◌, nat_lt, not, if◌then◌else◌, ◌++◌, length, replicate, ℤ, pos, negsuc, nat_abs, ◌+ℤ◌, ◌-ℤ◌, Result, Ok, Err, ◌≡◌, ◌≤◌, ◌<◌, unsigned_abs, map, slice_range, codes, decimal, Option, Some, None, IfSome}
+use Rattle.std.specs.Prelude.{ℕ, List, [], ◌∷◌, Bool, true, false, ◌-◌, ◌/◌, ◌^◌, ◌==◌, ◌&&◌, nat_lt, not, if◌then◌else◌, ◌++◌, length, replicate, ℤ, pos, negsuc, nat_abs, ◌+ℤ◌, ◌-ℤ◌, Result, Ok, Err, ◌≡◌, ◌≤◌, ◌<◌, unsigned_abs, map, slice_range, codes, decimal, Option, Some, None, IfSome}
 pub use Rattle.bufr_walk.specs.declared.spec.TurnRefusal.{TurnRefusal}
 use Rattle.bufr_fill.specs.declared.fault.Expected.{Expected}
 pub use Rattle.bufr_fill.specs.declared.fault.DraftFault.{DraftFault}
@@ -293,12 +293,6 @@ entries_stored block kept = map (λ e. entry_with e (slice_range block e.start e
 abbrev pub is_end : DraftEntry → Bool
 is_end (Holds d) = false
 is_end (Ends line) = true
-
--- the indices of the ends of subsets among entries; the first entry has index `from`
-abbrev pub ends_of : (from : ℕ) → List DraftEntry → List ℕ
-ends_of from [] = []
-ends_of from (Holds d ∷ more) = ends_of (from + 1) more
-ends_of from (Ends line ∷ more) = from ∷ ends_of (from + 1) more
 
 -- If values of this kind have octets, their start is not after their end, and they are inside a
 -- block of this size.

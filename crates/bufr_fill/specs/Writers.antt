@@ -3,7 +3,7 @@
 use Rattle.std.specs.Prelude.{ℕ, ◌≡◌, ◌≤◌, ◌<◌, ◌*◌, ◌^◌, Bool, List, [], ◌∷◌, ◌++◌, length, Option, Some, None, Result, Ok, Err, ◌+◌, ◌-◌, suc, ◌==◌, ◌&&◌, nat_lt, max, min, if◌then◌else◌, take}
 use Rattle.bufr_walk.specs.declared.spec.Taken.{Taken}
 use Rattle.bufr_walk.specs.Prelude.{FieldSpec, Content, answer_of, bits_for, Next, take_next, at_end, astray, refused, FieldFault, answer_first, max_values}
-use Rattle.bufr_fill.specs.Draft.{DraftFault, Draft, DraftEntry, Holds, Ends, ItemFault, at_line, item_too_many, walk_refused, Subset, content_of, wrong_for, FieldContent, raw_limit, padded_content, IsContentOf, ends_of}
+use Rattle.bufr_fill.specs.Draft.{DraftFault, Draft, DraftEntry, Holds, Ends, ItemFault, at_line, item_too_many, walk_refused, Subset, content_of, wrong_for, FieldContent, raw_limit, padded_content, IsContentOf}
 use Rattle.bufr_fill.specs.declared.fault.DraftFault.{DraftFault}
 use Rattle.bufr_fill.specs.Encoding.{written_item, RowCell, ItemRow, rows, most_items, item_row, cells_at, first_line, pack_across, content_here, contents_here, first_from, Taken}
 use Rattle.std.specs.List.{list_all, AllByRecursion}
@@ -108,6 +108,12 @@ new_packed_out subsets = record { subsets = subsets; index = 0; bits = [] }
 abbrev pub StartsPackedOut : List Subset → Option PackedOutModel → Type 0
 StartsPackedOut subsets None = subsets ≡ []
 StartsPackedOut subsets (Some s) = s ≡ new_packed_out subsets
+
+-- the indices of the ends of subsets among entries; the first entry has index `from`
+abbrev pub ends_of : (from : ℕ) → List DraftEntry → List ℕ
+ends_of from [] = []
+ends_of from (Holds d ∷ more) = ends_of (from + 1) more
+ends_of from (Ends line ∷ more) = from ∷ ends_of (from + 1) more
 
 -- the invariant of a writer: the ends of its subsets, and limits on its bits and values
 pub record IsPackedOut (entries : List DraftEntry) (ends : List ℕ) (index bits : ℕ) : Type 0 where

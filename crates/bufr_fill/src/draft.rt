@@ -1,6 +1,6 @@
 //! The items of a dump, and the entries of a document, which are stored in one block.
 ghost use Rattle.std.specs.Prelude.{◌≡◌, ◌≤◌, ℕ, List, length, option_map, slice_get, ◌<◌, [], ◌∷◌, ◌++◌, Some, OnOk, OnErr};
-ghost use Rattle.bufr_fill.specs.Prelude.{draft, DraftEntry, Holds, form_in, value_by, entry_with, AreOctetsInside, is_end, number_token, Ends, draft_in, ends_of};
+ghost use Rattle.bufr_fill.specs.Prelude.{draft, DraftEntry, Holds, form_in, value_by, entry_with, AreOctetsInside, is_end, number_token, Ends, draft_in};
 ghost use Rattle.bufr_bits.specs.Prelude.{short_text};
 
 use bufr_bits::ShortDecimal;
@@ -86,8 +86,8 @@ fn parts_of<'a>(form: DraftValue<'a>) -> (ValueKind, &'a [u8])
 /// The items of all subsets and the lines that end the subsets, in the order of the dump.
 ///
 /// A short number is stored as its digits, and any other number or text in one block. An entry
-/// therefore takes 32 octets, and in addition those of its text. The end of a subset takes 8 more,
-/// for its index. Contracts see the list of the entries.
+/// therefore takes 32 octets, and in addition those of its text. Contracts see the list of the
+/// entries.
 ///
 /// ```
 /// let mut entries = Entries::new(alloc);
@@ -101,22 +101,19 @@ pub struct Entries {
     /// Numbers and texts, one after another.
     octets: Vec<u8>,
     kept: Vec<StoredEntry>,
-    /// The indices of the ends of subsets.
-    ends: Vec<usize>,
 }
 
 impl Model for Entries {
     ghost use Rattle.std.specs.Prelude.{◌≡◌, List, length};
     ghost use Rattle.bufr_fill.specs.Draft.{DraftEntry};
-    ghost use Rattle.bufr_fill.specs.Draft.{entries_stored, AreInside, octets_stored, ends_of};
+    ghost use Rattle.bufr_fill.specs.Draft.{entries_stored, AreInside, octets_stored};
 
     ghost Value = { List DraftEntry };
 
     ghost view = { λ e. entries_stored e.octets.items e.kept.items };
 
     ghost invariant = { λ e. AreInside (length e.octets.items) e.kept.items
-        × (length e.octets.items ≡ octets_stored e.kept.items)
-        × (e.ends.items ≡ ends_of 0 (entries_stored e.octets.items e.kept.items)) };
+        × (length e.octets.items ≡ octets_stored e.kept.items) };
 }
 
 impl Entries {
@@ -127,7 +124,6 @@ impl Entries {
         Entries {
             octets: Vec::new(alloc),
             kept: Vec::new(alloc),
-            ends: Vec::new(alloc),
         }
     }
 
@@ -137,7 +133,6 @@ impl Entries {
     {
         self.octets.clear();
         self.kept.clear();
-        self.ends.clear();
     }
 
     /// Appends an item.
@@ -204,8 +199,6 @@ impl Entries {
         ensures same { OnErr result (self.new ≡ self.old) }
     {
         let end = self.octets.len();
-        let index = self.kept.len();
-        self.ends.reserve(1)?;
         self.kept.push(StoredEntry {
             line,
             start: end,
@@ -213,7 +206,6 @@ impl Entries {
             fxy: Fxy::from_word(0),
             kind: None,
         })?;
-        self.ends.push_reserved(index);
         Ok(())
     }
 
@@ -252,11 +244,11 @@ impl Entries {
         }
     }
 
-    /// Returns the indices of the entries that end subsets.
-    #[inline(always)]
-    pub(crate) fn ends(&self) -> &[usize]
-        ensures { result.now ≡ ends_of 0 self.now }
+    /// Returns whether the entry at an index is the end of a subset.
+    pub(crate) fn is_end(&self, index: usize) -> bool
+        requires { index < length self.now }
+        ensures { Some result ≡ option_map is_end (slice_get self.now index) }
     {
-        &self.ends
+        self.kept[index].is_end()
     }
 }

@@ -31,7 +31,7 @@ use std::marker::Model;
 #[derive(Drop)]
 pub struct PackedOut<'s> {
     entries: &'s Entries,
-    ends: &'s [usize],
+    ends: Vec<usize>,
     index: usize,
     /// The contents of the item being written. Their memory is reused for each item.
     contents: Vec<FieldContent<'s>>,
@@ -51,7 +51,7 @@ impl<'s> Model for PackedOut<'s> {
       bits = s.out.bits;
     } };
 
-    ghost invariant = { λ s. IsPackedOut s.entries.now s.ends.now s.index (length s.out.bits) };
+    ghost invariant = { λ s. IsPackedOut s.entries.now s.ends.items s.index (length s.out.bits) };
 }
 
 /// Writes the contents of an item for all subsets, using the least base and the least `k`.
@@ -110,12 +110,17 @@ impl<'s> PackedOut<'s> {
     ///
     /// # Errors
     ///
-    /// This call does not allocate, so it never fails. Only taking an item allocates memory.
+    /// [`AllocError`] if the indices of the ends of subsets cannot be stored.
     pub fn new(alloc: Global, entries: &'s Entries) -> Result<Option<PackedOut<'s>>, AllocError>
         requires few { length entries.now ≤ 2 ^ 45 }
         ensures { IfOk result (λ out. StartsPackedOut (subsets_of entries.now) out) }
     {
-        let ends = entries.ends();
+        let mut ends = Vec::new(alloc);
+        for index in 0..entries.len() {
+            if entries.is_end(index) {
+                ends.push(index)?;
+            }
+        }
         if ends.is_empty() {
             return Ok(None);
         }
@@ -135,7 +140,7 @@ impl<'s> PackedOut<'s> {
     {
         let row = Row {
             entries: self.entries,
-            ends: self.ends,
+            ends: &self.ends,
             index: self.index,
         };
         row.first_line()
@@ -152,7 +157,7 @@ impl<'s> PackedOut<'s> {
     {
         let row = Row {
             entries: self.entries,
-            ends: self.ends,
+            ends: &self.ends,
             index: self.index,
         };
         all_at_end(row)
@@ -183,7 +188,7 @@ impl<'s> Fields for PackedOut<'s> {
     fn take(&mut self, spec: &Spec) -> Result<Taken, DraftFault> {
         let row = Row {
             entries: self.entries,
-            ends: self.ends,
+            ends: &self.ends,
             index: self.index,
         };
         if (row.index as u64 + 1) * row.ends.len() as u64 > MAX_VALUES {
