@@ -10,7 +10,8 @@ use crate::fault::{DataFault, ShowFault, WalkFault, fault_at};
 use crate::spec::{Role, Spec, Taken};
 use crate::spec_cache::SpecCache;
 use crate::visitor::{ItemView, Value, Visitor, plain_number};
-use crate::walker::{Fields, Steps, WalkStop, walk_by};
+use crate::walker::{Fields, Frame, Steps, WalkStop, walk_with};
+use arrayvec::ArrayVec;
 use bufr_bits::BitSlice;
 use bufr_tables::{Entry, Fxy, TableB, Template};
 use std::marker::Model;
@@ -263,8 +264,9 @@ pub(crate) fn read_plain(
         ≤ places template.now * (bits_before why (length (bits_of (octets_of bits.entry))) + 1)) }
 {
     let mut fields = PlainIn::new(bits);
+    let mut open_groups = ArrayVec::new();
     'subsets: for done in 0..subsets {
-        let outcome = walk_by(template, cache, &mut fields, steps);
+        let outcome = walk_with(template, cache, &mut open_groups, &mut fields, steps);
         let at = fields.at;
         match outcome {
             Ok(()) => {}
@@ -416,6 +418,7 @@ impl<'i, 't, 'v, 'b, V: Visitor> Fields for ShowFields<'i, 't, 'v, 'b, V> {
 fn walk_showing<V: Visitor>(
     template: &Template,
     cache: &mut SpecCache<'_>,
+    open_groups: &mut ArrayVec<Frame, 32>,
     fields: &mut ShowFields<'_, '_, '_, '_, V>,
     steps: &mut Steps,
 ) -> Result<(), ShowFault<V::Fault>>
@@ -429,7 +432,7 @@ fn walk_showing<V: Visitor>(
         fields.old.input.now fields.old.visitor.now steps.old result fields.new.input.now
         fields.new.visitor.now steps.new }
 {
-    match walk_by(template, cache, fields, steps) {
+    match walk_with(template, cache, open_groups, fields, steps) {
         Ok(()) => Ok(()),
         Err(why) => match why {
             WalkStop::Field(ShowStop::Visitor(fault)) => Err(ShowFault::Visitor(fault)),
@@ -439,28 +442,35 @@ fn walk_showing<V: Visitor>(
     }
 }
 
+/// The input of walks over plain data, one for each subset, and the stack that all of them use.
+#[derive(Drop)]
+struct PlainWalks<'b> {
+    input: PlainIn<'b>,
+    open_groups: ArrayVec<Frame, 32>,
+}
+
 /// Shows the items of one subset.
 fn show_items<V: Visitor>(
     template: &Template,
     cache: &mut SpecCache<'_>,
-    input: &mut PlainIn<'_>,
+    walks: &mut PlainWalks<'_>,
     visitor: &mut V,
     steps: &mut Steps,
 ) -> Result<(), ShowFault<V::Fault>>
     requires { (read_pass plain (λ items. false) (next_item cache.old template.now)
-        (rest_of input.old)).stop ≡ None }
+        (rest_of walks.old.input)).stop ≡ None }
     ensures same { cache.new ≡ cache.old }
-    ensures shown { ItemsGo V.sees cache.old (counted_item cache.old template.now) input.old
-        visitor.old steps.old result input.new visitor.new steps.new }
+    ensures shown { ItemsGo V.sees cache.old (counted_item cache.old template.now) walks.old.input
+        visitor.old steps.old result walks.new.input visitor.new steps.new }
 {
     let table = cache.table;
     let mut fields = ShowFields {
-        input,
+        input: &mut walks.input,
         table,
         visitor,
         text: [0; 255],
     };
-    walk_showing(template, cache, &mut fields, steps)
+    walk_showing(template, cache, &mut walks.open_groups, &mut fields, steps)
 }
 
 /// Plain data, the number of subsets, and their template.
@@ -490,10 +500,13 @@ pub(crate) fn show_plain<V: Visitor>(
         (turns_in answer_of (counted_item cache.old given.now.template.now) all) result
         visitor.new steps.new }
 {
-    let mut input = PlainIn::new(given.bits);
+    let mut walks = PlainWalks {
+        input: PlainIn::new(given.bits),
+        open_groups: ArrayVec::new(),
+    };
     'subsets: for done in 0..given.subsets {
         match visitor.subset(done + 1) {
-            Ok(()) => show_items(given.template, cache, &mut input, visitor, steps)?,
+            Ok(()) => show_items(given.template, cache, &mut walks, visitor, steps)?,
             Err(fault) => return Err(ShowFault::Visitor(fault)),
         }
     }

@@ -390,8 +390,29 @@ pub fn walk_by<S: Fields>(
     ensures refused { OnErr result (steps.new
         ≤ steps.old + places template.now * (S.used fields.new - S.used fields.old + 1)) }
 {
-    let cells = template.cells();
     let mut open_groups: ArrayVec<Frame, 32> = ArrayVec::new();
+    walk_with(template, cache, &mut open_groups, fields, steps)
+}
+
+/// Walks over the cells of a template once, as [`walk_by`] does, but with a stack that the caller
+/// created. The walk clears the stack first. This costs less than creating one for each subset.
+pub(crate) fn walk_with<S: Fields>(
+    template: &Template,
+    cache: &mut SpecCache<'_>,
+    open_groups: &mut ArrayVec<Frame, 32>,
+    fields: &mut S,
+    steps: &mut Steps,
+) -> Result<(), WalkStop<S::Fault>>
+    ensures same { cache.new ≡ cache.old }
+    ensures walked { Walked S.takes (counted_item cache.old template.now) fields.old steps.old
+        result fields.new steps.new }
+    ensures accepted { OnOk result
+        (steps.new ≤ steps.old + places template.now * (S.used fields.new - S.used fields.old)) }
+    ensures refused { OnErr result (steps.new
+        ≤ steps.old + places template.now * (S.used fields.new - S.used fields.old + 1)) }
+{
+    let cells = template.cells();
+    open_groups.clear();
     let mut in_force = OperatorState::new(cache.alloc);
     let mut index: u32 = 0;
     'turns: loop {
@@ -420,7 +441,7 @@ pub fn walk_by<S: Fields>(
                 continue;
             }
             Cell::Fixed(count, after) => {
-                index = open_group(u64::from(count), index + 1, after, &mut open_groups);
+                index = open_group(u64::from(count), index + 1, after, open_groups);
                 continue;
             }
             Cell::Delayed(after) => {
@@ -434,7 +455,7 @@ pub fn walk_by<S: Fields>(
                 let answer = take_field(factor, place, cache, fields, &mut in_force)?;
                 match answer {
                     Taken::Count(count) => {
-                        index = open_group(count, index + 2, after, &mut open_groups);
+                        index = open_group(count, index + 2, after, open_groups);
                         continue;
                     }
                     _ => unreachable!(),
@@ -442,7 +463,7 @@ pub fn walk_by<S: Fields>(
             }
             Cell::Factor(_) => unreachable!(),
             Cell::PassEnd => {
-                index = end_pass(&mut open_groups);
+                index = end_pass(open_groups);
                 continue;
             }
             Cell::Finish => return Ok(()),

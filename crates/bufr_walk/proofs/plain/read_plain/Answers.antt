@@ -8,21 +8,21 @@ use Rattle.bufr_walk.proofs.plain.read_plain.Goals as goal
 pub subsets-preserved : goal.subsets-preserved
 subsets-preserved c = (
   c.in-Ok.ensures.same ∙ c.subsets.invariant.0,
-  one_more (places c.args.template.now) (counted_item c.args.cache.now c.args.template.now) (bits_of (octets_of c.args.bits)) c.subsets.done c.subsets.fields c.walk_by-outcome.new.fields
-      c.subsets.steps c.walk_by-outcome.new.steps c.subsets.invariant.1 (subst (λ (s : Cursor). s.at ≤ length s.bits) c.fields.view_is c.fields.invariant)
+  one_more (places c.args.template.now) (counted_item c.args.cache.now c.args.template.now) (bits_of (octets_of c.args.bits)) c.subsets.done c.subsets.fields c.walk_with-outcome.new.fields
+      c.subsets.steps c.walk_with-outcome.new.steps c.subsets.invariant.1 (subst (λ (s : Cursor). s.at ≤ length s.bits) c.fields.view_is c.fields.invariant)
       (rw c.subsets.invariant.0 at c.in-Ok.ensures.walked) c.in-Ok.ensures.accepted,
 )
 
 pub returns-in-Err-clause-reads : goal.returns-in-Err-clause-reads
 returns-in-Err-clause-reads c =
     rw (c.fault_at.ensures, ap (λ (s : Cursor). s.at) c.fields.view_is) (stopped_there (places c.args.template.now) (counted_item c.args.cache.now c.args.template.now) (octets_of c.args.bits)
-    c.args.subsets c.subsets.done c.subsets.fields c.walk_by-outcome.new.fields c.subsets.steps c.walk_by-outcome.new.steps c.in-Err.why c.subsets.invariant.1
+    c.args.subsets c.subsets.done c.subsets.fields c.walk_with-outcome.new.fields c.subsets.steps c.walk_with-outcome.new.steps c.in-Err.why c.subsets.invariant.1
     (subst (λ (s : Cursor). s.at ≤ length s.bits) c.fields.view_is c.fields.invariant) c.subsets-test.true (rw c.subsets.invariant.0 at c.in-Err.ensures.walked))
 
 pub returns-in-Err-clause-refused : goal.returns-in-Err-clause-refused
 returns-in-Err-clause-refused c =
     rw (c.fault_at.ensures, ap (λ (s : Cursor). s.at) c.fields.view_is) (few_stopped (places c.args.template.now) (counted_item c.args.cache.now c.args.template.now) (bits_of (octets_of c.args.bits))
-    c.subsets.done c.subsets.fields c.walk_by-outcome.new.fields c.subsets.steps c.walk_by-outcome.new.steps c.subsets.invariant.1
+    c.subsets.done c.subsets.fields c.walk_with-outcome.new.fields c.subsets.steps c.walk_with-outcome.new.steps c.subsets.invariant.1
     (subst (λ (s : Cursor). s.at ≤ length s.bits) c.fields.view_is c.fields.invariant) (c.subsets.done + 1) c.in-Err.why (rw c.subsets.invariant.0 at c.in-Err.ensures.walked) c.in-Err.ensures.refused)
 
 pub subsets-init : goal.subsets-init

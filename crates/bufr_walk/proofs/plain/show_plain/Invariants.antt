@@ -7,4 +7,4 @@ use Rattle.bufr_walk.proofs.plain.show_plain.Given as goal
 abbrev pub invariant-subsets : goal.invariant-subsets
 invariant-subsets g l =
     (l.cache ≡ l.fn.cache) × SubsetsShown g.V.Visitor.sees l.fn.cache (counted_item l.fn.cache l.given.template.now) l.given.subsets (bits_of (octets_of l.given.bits)) l.done
-    l.fn.visitor l.input l.visitor l.steps
+    l.fn.visitor l.walks.input l.visitor l.steps

@@ -1,7 +1,7 @@
 use Rattle.std.proofs.Common.{◌≡◌, ◌<◌, length}
 use Rattle.bufr_walk.specs.Prelude.{begin, Rest, unroll}
 use Rattle.bufr_walk.proofs.WalkProgress.{IsAtCell, weight, HasWalked}
-use Rattle.bufr_walk.proofs.walker.walk_by.Given as goal
+use Rattle.bufr_walk.proofs.walker.walk_with.Given as goal
 
 abbrev pub invariant-turns : goal.invariant-turns
 invariant-turns g l =

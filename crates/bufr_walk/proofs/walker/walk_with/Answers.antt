@@ -4,18 +4,18 @@ use Rattle.bufr_walk.specs.Prelude.{unroll}
 use Rattle.bufr_walk.proofs.WalkLemmas.{five_is, five_is_not, in_range, met, turn_element, fail_element, operator_legal, turn_inserted, fail_inserted, turn_operator, fail_operator, fixed_room, delayed_room, factor_next, turn_fixed, turn_delayed, fail_delayed, innermost, pass_end_open, turn_pass_end, turn_finish, came_then, fits_first, led_out, led_off, came_begun}
 use Rattle.bufr_walk.proofs.BoundLemmas.{steps_ok, steps_err}
 use Rattle.bufr_tables.specs.declared.template.Cell.TheVariants as cell
-use Rattle.bufr_walk.proofs.walker.walk_by.Goals as goal
+use Rattle.bufr_walk.proofs.walker.walk_with.Goals as goal
 
 pub turns-init : goal.turns-init
 turns-init g c = (
   refl,
   (
     unroll c.args.template.now,
-    fits_first c.cells-cells.result.now c.args.template.now c.new-open_groups.result.items c.cells-cells.ensures.flattened c.new-open_groups.ensures,
+    fits_first c.cells-cells.result.now c.args.template.now c.clear.new.self.items c.cells-cells.ensures.flattened c.clear.ensures,
     came_begun g.S.Fields.takes c.args.cache.now c.cells-cells.result.now c.args.template.now _ _ _ c.new-in_force.ensures,
   ),
-  in_range c.cells-cells.result.now 0 c.new-open_groups.result.items (unroll c.args.template.now)
-      (fits_first c.cells-cells.result.now c.args.template.now c.new-open_groups.result.items c.cells-cells.ensures.flattened c.new-open_groups.ensures),
+  in_range c.cells-cells.result.now 0 c.clear.new.self.items (unroll c.args.template.now)
+      (fits_first c.cells-cells.result.now c.args.template.now c.clear.new.self.items c.cells-cells.ensures.flattened c.clear.ensures),
 )
 
 pub returns-in_err-take_field-in-Element-clause-walked : goal.returns-in_err-take_field-in-Element-clause-walked
