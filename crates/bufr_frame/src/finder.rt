@@ -122,6 +122,7 @@ impl Finder {
     }
 
     /// Moves the search forward by `n` octets, and takes the declared length into account.
+    #[inline(always)]
     fn advance_to(&mut self, n: usize, stated_length: usize)
         requires within { n ≤ length self.old.rest }
         requires most { stated_length < 2 ^ 24 }
@@ -136,6 +137,7 @@ impl Finder {
 
     /// Moves the search past the next event, if the buffered octets make it certain, or else past
     /// the octets in which no event begins.
+    #[inline(always)]
     fn pass(&mut self) -> SearchResult
         ensures shows { IsSearchResult self.old.ended self.old.rest result }
         ensures gone { self.new ≡ passed_by self.old result }
@@ -161,6 +163,7 @@ impl Finder {
     }
 
     /// Returns the event that the search passed last.
+    #[inline(always)]
     fn passed_event(&self, here: Candidate, stated_length: usize) -> Event<'_>
         requires within { here ≡ Candidate.Frame → stated_length ≤ length self.now.before }
         requires order { len_at here stated_length ≤ self.now.at }
@@ -181,6 +184,7 @@ impl Finder {
     /// frame is borrowed until the next call. Returns `None` if a read is needed first
     /// ([`Finder::read_more`]): no event in the remaining octets is certain, and the end of the
     /// stream was not found. After a fault, every call returns the same fault.
+    #[inline(always)]
     pub fn next_held(&mut self) -> Option<Result<Event<'_>, RunFault>>
         ensures* next { sem 𝓛 (Rests the_row self.entry
             (λ new. GivesHeldEvent self.old new result)) }
@@ -329,6 +333,7 @@ pub(crate) enum SearchResult {
 
 /// Returns what begins at the start of `m`, which must begin with `BUFR`, if no octets follow `m`.
 /// The first case that applies counts.
+#[inline(always)]
 // rule: stray-cut, stray-short-length, stray-no-end, input-ends-early, order-of-causes
 pub(crate) fn classify(m: &[u8]) -> Candidate
     requires { StartsWithBufr m.now }
@@ -351,7 +356,18 @@ pub(crate) fn classify(m: &[u8]) -> Candidate
 }
 
 /// Returns the index of the first `BUFR`, or `None` if there is none. `word` is the searcher for
-/// it.
+/// it. Not inlined, so that its callers, which often find a `BUFR` nearby, stay small.
+#[inline(never)]
+fn find_far(word: &memmem::Finder<'_>, rest: &[u8]) -> Option<usize>
+    requires { word.now ≡ codes "BUFR" }
+    ensures { FindsNeedle rest.now (codes "BUFR") 0 result }
+{
+    word.find(rest)
+}
+
+/// Returns the index of the first `BUFR`, as [`find_far`] does, but compares the first octets one
+/// by one.
+#[inline(always)]
 fn find_word(word: &memmem::Finder<'_>, rest: &[u8]) -> Option<usize>
     requires { word.now ≡ codes "BUFR" }
     ensures { FindsNeedle rest.now (codes "BUFR") 0 result }
@@ -363,12 +379,13 @@ fn find_word(word: &memmem::Finder<'_>, rest: &[u8]) -> Option<usize>
             return Some(place);
         }
     }
-    let place = word.find(&rest[near..])?;
+    let place = find_far(word, &rest[near..])?;
     Some(near + place)
 }
 
 /// Searches `rest` for the next event. More octets may follow `rest`, unless `ended`. `word` is the
 /// searcher for `BUFR`.
+#[inline(always)]
 // rule: first-bufr, output-waits
 pub(crate) fn find_event(word: &memmem::Finder<'_>, rest: &[u8], ended: bool) -> SearchResult
     requires { word.now ≡ codes "BUFR" }

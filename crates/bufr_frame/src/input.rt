@@ -153,6 +153,7 @@ impl InputBuffer {
 
 /// Makes space for at least one octet after those from `start` to `filled`. Returns how far these
 /// were moved towards the start.
+#[inline(always)]
 fn make_room(
     octets: &mut Vec<u8>,
     start: usize,
@@ -212,6 +213,7 @@ fn fill_up(octets: &mut Vec<u8>, len: usize)
 
 /// Reads once into a buffer, from index `filled` up to (but not including) index `to`. Returns the
 /// number of octets read.
+#[inline(always)]
 fn read_after<R: Source>(
     r: &mut R,
     buffer: &mut Vec<u8>,

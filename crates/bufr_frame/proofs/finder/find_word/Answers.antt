@@ -1,4 +1,4 @@
-use Rattle.std.proofs.Common.{rules, eqb, take, drop, ◌-◌, ◌≡◌, ◌∙◌, ℕ, List, Option, None, Some, arith, ap, codes, length, subst, sym}
+use Rattle.std.proofs.Common.{rules, eqb, take, drop, ◌-◌, ◌≡◌, ◌∙◌, ℕ, List, Option, arith, ap, codes, length, subst, sym}
 use Rattle.std.proofs.lemmas.List.{take_rest}
 use Rattle.std.specs.List.{starts_with}
 use Rattle.memchr.specs.Find.{FindsNeedle}
@@ -27,15 +27,13 @@ places-preserved c =
 pub returns-in_err-place : goal.returns-in_err-place
 returns-in_err-place c =
     let R : Option ℕ → Type 0 = λ r. FindsNeedle c.args.rest.now (codes "BUFR") 0 r in
-    let F : List ℕ → Type 0 = λ w. FindsNeedle (rest-from c.args.rest.now c.min-near.result) w 0 None in
     subst R (sym c.from_residual.ensures)
     (none-after c.args.rest.now (rest-from c.args.rest.now c.min-near.result) c.min-near.result (take_rest c.args.rest.now c.min-near.result) (omega (arith, c.min-near.ensures))
     (λ k low below. c.places.invariant k low (omega (arith, c.places-test.false)))
-    (subst F c.requires c.in_err-place.ensures))
+    c.in_err-place.ensures)
 
 pub returns : goal.returns
 returns c =
-    let F : List ℕ → Type 0 = λ w. FindsNeedle (rest-from c.args.rest.now c.min-near.result) w 0 (Some c.in_ok-place.place) in
     found-after c.args.rest.now (rest-from c.args.rest.now c.min-near.result) c.min-near.result c.in_ok-place.place (take_rest c.args.rest.now c.min-near.result)
     (λ k low below. c.places.invariant k low (omega (arith, c.places-test.false)))
-    (subst F c.requires c.in_ok-place.ensures)
+    c.in_ok-place.ensures
