@@ -5,7 +5,7 @@
 
 The test limits the address space. The worst message for `ls` consists almost entirely of data. The worst message for `dump`
 contains compressed items that are one bit wide but take seven bits each. The worst inputs for `encode` are the dump of that
-message, and a document with long strings.
+message, a compressed document with many short subsets, and a document with long strings.
 """
 import re
 import resource
@@ -35,6 +35,13 @@ def compressed_flags(groups: int) -> bytes:
     return lib.message(data, words("101000 031002 031031") * 8 * groups, flags=0xC0)
 
 
+def compressed_subsets() -> bytes:
+    """Compressed data with eight flags in each of 65,535 subsets."""
+    item = "0000001" + "01" * 32_767 + "0"
+    data = int(item * 8, 2).to_bytes(len(item), "big")
+    return lib.message(data, words("031031") * 8, subsets=65_535, flags=0xC0)
+
+
 def status(limit: int, given, *command) -> int:
     """The status of the program within a limit in bytes."""
     given.seek(0)
@@ -51,8 +58,9 @@ def main() -> None:
     ls = number(r"^(\d+) MB$", row("ls")) * 1_000_000
     dump = number(r"^(\d+) GB$", row("dump")) * 1_000_000_000
     for_lines, for_texts = number(r"^(\d+) MB for each million lines", row("encode")), number(r"(\d+) times", row("encode"))
+    for_compressed = number(r"plus (\d+) MB", row("encode")) * 1_000_000
     texts = lib.message((65_000).to_bytes(2, "big") + b"A" * 255 * 65_000, words("101000 031002 205255"))
-    streams = {"data": lib.message(bytes(16_700_000)), "flags": compressed_flags(36), "texts": texts}
+    streams = {"data": lib.message(bytes(16_700_000)), "flags": compressed_flags(36), "subsets": compressed_subsets(), "texts": texts}
     wrong = []
     for name, message in streams.items():
         with tempfile.TemporaryFile() as stream, tempfile.TemporaryFile() as text:
@@ -66,6 +74,7 @@ def main() -> None:
             text.seek(0)
             lines = sum(1 for _ in text)
             limit = 5_000_000 + for_lines * lines + for_texts * len(message) * (name == "texts")
+            limit += for_compressed * (name in ("flags", "subsets"))
             if status(limit, text, "encode", *TABLES):
                 wrong.append(f"bufr encode needs more than the page says for the dump of {name}")
     finish(wrong)

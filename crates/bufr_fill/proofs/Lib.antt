@@ -15,6 +15,7 @@ pub mod FormLaws
 pub mod WholeLaws
 pub mod EntryLemmas
 pub mod RowLemmas
+pub mod TransposeLemmas
 pub mod BackLaws
 pub mod PackedWalks
 pub mod ReadsLemmas

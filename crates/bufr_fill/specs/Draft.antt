@@ -1,4 +1,4 @@
--- The items of a dump text, the content that each has as a field, and their faults. (own)
+-- The items of a dump, the field contents that they specify, and the faults in them (own).
 -- Cited by public contracts.
 use Rattle.std.specs.Prelude.{ℕ, List, [], ◌∷◌, Bool, true, false, ◌-◌, ◌/◌, ◌^◌, ◌==◌, ◌&&◌, nat_lt, not, if◌then◌else◌, ◌++◌, length, replicate, ℤ, pos, negsuc, nat_abs, ◌+ℤ◌, ◌-ℤ◌, Result, Ok, Err, ◌≡◌, ◌≤◌, ◌<◌, unsigned_abs, map, slice_range, codes, decimal, Option, Some, None, IfSome}
 pub use Rattle.bufr_walk.specs.declared.spec.TurnRefusal.{TurnRefusal}
@@ -12,6 +12,7 @@ pub use Rattle.bufr_fill.specs.declared.fault.WalkRefusal.{WalkRefusal}
 use Rattle.bufr_fill.specs.declared.fault.WalkRefusal.TheVariants as walk_refusal
 use Rattle.bufr_walk.specs.declared.spec.TurnRefusal.TheVariants as refusal
 use Rattle.std.specs.List.{list_all, AllByRecursion, sum_by}
+use Rattle.std.specs.Option.{option_map_or}
 use Rattle.bufr_bits.specs.Prelude.{decimal_text_of, decimal_value_of, short_text}
 use Rattle.bufr_bits.specs.declared.decimal.NumberFault.{NumberFault}
 use Rattle.bufr_bits.specs.declared.decimal.NumberFault.TheVariants.{Large}
@@ -28,15 +29,15 @@ use Rattle.bufr_fill.specs.declared.draft.DraftValue as given
 use Rattle.bufr_fill.specs.declared.draft.DraftValue.TheVariants as item_value
 use Rattle.bufr_fill.specs.declared.draft.DraftItem.{DraftItem}
 
--- the value of an item, as it appears in its line: the octets of a number (digits, `-` and `.`), a
--- text, `MISSING`, or the octets of a redefined reference
+-- the value on an item's line: a number (digits, `-` and `.`), a string, `MISSING`, or a redefined
+-- reference value; numbers and reference values are represented by their characters
 pub data DraftValue : Type 0 where
   number_token : (digits : List ℕ) → DraftValue
   text_form : (octets : List ℕ) → DraftValue
   missing_form : DraftValue
   reference_token : (digits : List ℕ) → DraftValue
 
--- an item of a dump text, and the number of its line
+-- an item of a dump, with its line number
 pub record Draft : Type 0 where
   pub line : ℕ
   pub fxy : ℕ
@@ -45,27 +46,28 @@ pub record Draft : Type 0 where
 abbrev pub draft : (line fxy : ℕ) → DraftValue → Draft
 draft line fxy form = record { line = line; fxy = fxy; form = form }
 
--- An entry of a document: an item, or the end of a subset. A subset ends on the line `subset` of
--- the next one, or on the line `end`.
+-- An entry of a document, which is an item or the end of a subset. A subset ends on the `subset`
+-- line of the next subset or on the `end` line.
 pub data DraftEntry : Type 0 where
   Holds : (item : Draft) → DraftEntry
   Ends : (line : ℕ) → DraftEntry
 
--- the items of one subset, and the line on which it ends
+-- the items of one subset, and the number of the line on which it ends
 pub record Subset : Type 0 where
   pub items : List Draft
   pub end_line : ℕ
 
--- a subset from its parts
+-- a subset with the given items and end line
 abbrev pub subset : List Draft → ℕ → Subset
 subset items end_line = record { items = items; end_line = end_line }
 
--- one more item at the beginning of the first subset; an item that no end follows is dropped
+-- the subsets after an item is inserted at the beginning of the first one; if there are no subsets,
+-- the item is dropped, because it is not followed by the end of a subset
 abbrev pub prepend_to_subset : Draft → List Subset → List Subset
 prepend_to_subset item [] = []
 prepend_to_subset item (s ∷ subsets) = record s { items = item ∷ s.items } ∷ subsets
 
--- the subsets in the entries of a document
+-- the subsets formed by the entries of a document
 abbrev pub subsets_of : List DraftEntry → List Subset
 subsets_of [] = []
 subsets_of (Holds item ∷ more) = prepend_to_subset item (subsets_of more)
@@ -74,20 +76,20 @@ subsets_of (Ends line ∷ more) = record { items = []; end_line = line } ∷ sub
 abbrev pub at_line : ℕ → ItemFault → DraftFault
 at_line line fault = draft_fault.Item line fault
 
--- the fault of an item after the last field of its subset
+-- the fault caused by an item after the last field of its subset
 abbrev pub item_too_many : ItemFault
 item_too_many = item_fault.WrongDescriptor expected.EndOfSubset
 
--- the fault of an item whose field the walk refuses
+-- the fault caused by an item at which the walk refuses a step
 abbrev pub walk_refused : TurnRefusal → ItemFault
 walk_refused (refusal.Width fxy) = item_fault.Walk (walk_refusal.Width fxy)
 walk_refused (refusal.Defining fxy) = item_fault.Walk (walk_refusal.Defining fxy)
 
--- the fault of an item with which compressed data have too many values
+-- the fault caused by an item that would give compressed data too many values
 abbrev pub too_many_values : (fxy : ℕ) → ItemFault
 too_many_values fxy = item_fault.Walk (walk_refusal.TooManyValues fxy)
 
--- the number of the fault that `dump` reports for the same refusal, and the descriptor
+-- the fault number that `dump` reports for a refusal, and the rejected descriptor
 abbrev pub refusal_parts : WalkRefusal → ℕ × ℕ
 refusal_parts (walk_refusal.Width fxy) = (31, fxy)
 refusal_parts (walk_refusal.Defining fxy) = (32, fxy)
@@ -98,72 +100,77 @@ expected_text (expected.Item fxy) = fxy_text fxy ∷ []
 expected_text (expected.Reference fxy) = codes "R " ∷ fxy_text fxy ∷ []
 expected_text expected.EndOfSubset = codes "end of subset" ∷ []
 
--- a fault of an item
+-- the number and the description of a fault in an item
 abbrev pub item_report : ItemFault → ℕ × List (List ℕ)
--- another item is expected
+-- The item is not the expected one.
 item_report (item_fault.WrongDescriptor e) = (51, codes "expected " ∷ expected_text e)
--- the value is not a decimal, not whole at the field's scale, or not of the field's kind
+-- The value is not a decimal number, is not an integer when scaled, or is of the wrong kind for the
+-- field.
 item_report item_fault.Number = (52, codes "number" ∷ [])
--- the number does not fit, or the value would be read as missing
+-- The number does not fit in the field, or the value would be read as missing.
 item_report item_fault.OutOfRange = (53, codes "out of range" ∷ [])
--- the text is longer than the field
+-- The string is longer than the field.
 item_report item_fault.TextLong = (54, codes "text long" ∷ [])
--- the field cannot be missing
+-- The field cannot be missing.
 item_report item_fault.MissingForbidden = (55, codes "missing forbidden" ∷ [])
--- a factor differs between subsets
+-- A replication factor differs between subsets.
 item_report item_fault.UnequalFactor = (58, codes "unequal factor" ∷ [])
--- a redefined reference differs between subsets, or texts need more than 63 octets each
+-- A redefined reference value differs between subsets, or a string would need an increment of more
+-- than 63 octets.
 item_report item_fault.Increment = (59, codes "increment" ∷ [])
--- the walk refuses the item
+-- The walk refuses the item.
 item_report (item_fault.Walk why) =
     let refused = refusal_parts why in
     (62, codes "walk " ∷ decimal refused.0 ∷ codes " descriptor " ∷ fxy_text refused.1 ∷ [])
 
--- the number of a fault if there is no document: for a refusal of the walk, this is the number that
--- `dump` reports
+-- the number of a fault: 73 if memory ran out, the number that `dump` reports if the walk refused
+-- the item, or otherwise the number of the item's fault
 abbrev pub number_of_draft_fault : DraftFault → ℕ
 number_of_draft_fault (draft_fault.Item line (item_fault.Walk why)) = (refusal_parts why).0
 number_of_draft_fault (draft_fault.Item line fault) = (item_report fault).0
 number_of_draft_fault draft_fault.Memory = 73
 
--- whether a value has the mark `R` of a redefined reference
+-- whether a value is marked with `R` as a redefined reference value
 abbrev pub is_marked : DraftValue → Bool
 is_marked (reference_token digits) = true
 is_marked _ = false
 
--- the fault of digits that represent no number at the field's scale: `Large` means that they are
--- out of range
+-- the fault caused by digits that do not represent a number at the field's scale; the reason
+-- `Large` means that the number is out of range
 -- rule: fault-52
 abbrev pub number_fault : NumberFault → ItemFault
 number_fault Large = item_fault.OutOfRange
 number_fault _ = item_fault.Number
 
--- the limit below which numbers fit into `width` bits; all ones are excluded if they mean missing
+-- one more than the greatest number that can be written in `width` bits; if the field may be
+-- missing, the number with all bits set is excluded, because it means missing
 -- rule: packs-class-31
 abbrev pub raw_limit : (may_be_missing : Bool) (width : ℕ) → ℕ
 raw_limit m width = if m then ones width else 2 ^ width
 
--- a raw value that fits the width and is not the missing value
+-- the content of a field with the given raw value, or a fault if the raw value does not fit in the
+-- data width or would be read as missing
 -- rule: fault-53
 abbrev pub raw_within : Bool → ℕ → ℤ → Result Content ItemFault
 raw_within m width (pos raw) =
     if nat_lt raw (raw_limit m width) then Ok (number raw) else Err item_fault.OutOfRange
 raw_within m width (negsuc n) = Err item_fault.OutOfRange
 
--- the raw value of a number: the number minus the reference (FM 94, Table B)
+-- the raw value of a number, which is the number minus the reference value (FM 94, Table B)
 abbrev pub raw_of : FieldSpec → Result ℤ NumberFault → Result Content ItemFault
 raw_of spec (Ok value) = raw_within spec.may_be_missing spec.width (value -ℤ spec.reference)
 raw_of spec (Err why) = Err (number_fault why)
 
--- a redefined reference whose magnitude fits into the bits after the sign bit
+-- the content of a field that redefines a reference value, or a fault if the magnitude of the new
+-- value does not fit in the bits after the sign bit
 abbrev pub reference_of : FieldSpec → Result ℤ NumberFault → Result Content ItemFault
 reference_of spec (Ok value) =
     if nat_lt (nat_abs value) (2 ^ (spec.width - 1)) then Ok (reference value)
     else Err item_fault.OutOfRange
 reference_of spec (Err why) = Err (number_fault why)
 
--- a text with spaces after it up to its length, unless it is too long or all its octets are 255,
--- which means missing
+-- a string, padded with spaces to `count` octets, or a fault if the string is too long or would be
+-- read as missing because all its octets are 255
 -- rule: fault-53, fault-54
 abbrev pub text_within : ℕ → List ℕ → Result Content ItemFault
 text_within count octets =
@@ -171,8 +178,8 @@ text_within count octets =
     else let whole = octets ++ replicate (count - length octets) 32 in
     if list_all (λ octet. octet == 255) whole then Err item_fault.OutOfRange else Ok (text whole)
 
--- The value of an item as the content of its field. A text for a number is fault `Number`, and so
--- is a number for a text.
+-- The content of a field, given the value of its item. The fault `Number` is also reported for a
+-- number in a character field and for a string in any other field.
 -- rule: fault-52, fault-55, fault-order-of-an-item
 abbrev pub content_by_form : DraftValue → FieldSpec → Result Content ItemFault
 content_by_form (number_token digits) spec =
@@ -184,26 +191,26 @@ content_by_form missing_form spec =
     if spec.may_be_missing then Ok missing else Err item_fault.MissingForbidden
 content_by_form (reference_token digits) spec = reference_of spec (decimal_value_of digits (pos 0))
 
--- whether an item has the descriptor of a field, and the mark `R` exactly if the field is a
--- redefined reference
+-- whether an item has the field's descriptor, and is marked with `R` if and only if the field
+-- redefines a reference value
 -- rule: fault-51
 abbrev pub is_of : FieldSpec → Draft → Bool
 is_of spec d =
     (d.fxy == spec.fxy)
     && (if is_reference spec.role then is_marked d.form else not (is_marked d.form))
 
--- the fault if an item is not that of the field
+-- the fault caused by an item that does not belong to the field
 abbrev pub wrong_for : FieldSpec → ItemFault
 wrong_for spec = item_fault.WrongDescriptor
     (if is_reference spec.role then expected.Reference spec.fxy else expected.Item spec.fxy)
 
--- an item as the content of its field: first its descriptor must be that of the field, then its
--- kind, and then the value must fit
+-- The content of a field, given its item. The item's descriptor is checked first, then the kind of
+-- its value, and finally whether the value fits.
 -- rule: fault-order-of-an-item
 abbrev pub content_of : FieldSpec → Draft → Result Content ItemFault
 content_of spec d = if is_of spec d then content_by_form d.form spec else Err (wrong_for spec)
 
--- the value of a content, as a dump writes it
+-- the content of a field as a dump shows it
 abbrev pub draft_value_of : FieldSpec → Content → DraftValue
 draft_value_of spec (number raw) = number_token
     (decimal_text_of (pos raw +ℤ spec.reference) spec.scale)
@@ -211,25 +218,26 @@ draft_value_of spec (text octets) = text_form octets
 draft_value_of spec missing = missing_form
 draft_value_of spec (reference value) = reference_token (decimal_text_of value (pos 0))
 
--- ---- The content of a field from an item, as the code represents it.
+-- ---- The content of a field, as the code represents it.
 
--- the content that a call returned, or its fault
+-- the result of a call, with the returned value converted to the content of a field
 abbrev pub returned : {A E : Type 0} → (A → Content) → Result A E → Result Content E
 returned content (Ok a) = Ok (content a)
 returned content (Err e) = Err e
 
--- a text padded with spaces to `count` octets
+-- a string, padded with spaces to `count` octets
 abbrev pub spaced : (count : ℕ) → List ℕ → List ℕ
 spaced count octets = octets ++ replicate (count - length octets) 32
 
--- the content of a field; a text is padded with spaces to `count` octets
+-- the content of a field; a string is padded with spaces to `count` octets
 abbrev pub padded_content : (count : ℕ) → FieldContent → Content
 padded_content count (field_content.Number raw) = number raw
 padded_content count (field_content.Text octets) = text (spaced count octets.now)
 padded_content count field_content.Missing = missing
 padded_content count (field_content.Reference value) = reference value
 
--- The field can have this content. A text fits into the field and does not read as missing.
+-- The field can have the given content. If the content is a string, it fits in the field and would
+-- not be read as missing.
 abbrev pub IsContentOf : FieldSpec → FieldContent → Type 0
 IsContentOf spec (field_content.Number raw) =
     (is_character spec.kind ≡ false) × (is_reference spec.role ≡ false)
@@ -243,21 +251,22 @@ IsContentOf spec field_content.Missing =
 IsContentOf spec (field_content.Reference value) =
     (is_reference spec.role ≡ true) × (unsigned_abs value < 2 ^ (spec.width - 1))
 
--- The bits are minus zero, a redefined reference with only the sign bit set. None is written. (own)
+-- The bits represent a redefined reference value of minus zero, with only the sign bit set. Minus
+-- zero is never written (own).
 abbrev pub IsMinusZero : Role → List Bool → Type 0
 IsMinusZero role.Reference bits = bits ≡ true ∷ replicate (length bits - 1) false
 IsMinusZero _ bits = ⊥
 
 -- ---- The normal form of an item, as a dump writes it. (own)
 
--- the text that a dump writes for a decimal at a scale; digits that represent no number at this
--- scale are unchanged
+-- the characters that a dump writes for a number at the given scale; digits that do not represent a
+-- number at that scale are left unchanged
 abbrev pub decimal_again : List ℕ → ℤ → Result ℤ NumberFault → List ℕ
 decimal_again digits scale (Ok value) = decimal_text_of value scale
 decimal_again digits scale (Err why) = digits
 
--- the normal form of a value: a number is spelled by its value at the field's scale, and a text is
--- padded with spaces to the length of the field
+-- The normal form of a value. A number is spelled in decimal at the field's scale, and a string is
+-- padded with spaces to the field's length.
 abbrev pub normal_form : FieldSpec → DraftValue → DraftValue
 normal_form spec (number_token digits) =
     number_token (decimal_again digits spec.scale (decimal_value_of digits spec.scale))
@@ -267,7 +276,7 @@ normal_form spec missing_form = missing_form
 normal_form spec (reference_token digits) =
     reference_token (decimal_again digits (pos 0) (decimal_value_of digits (pos 0)))
 
--- the value of this kind with these digits or octets
+-- a value of the given kind with the given digits or octets
 abbrev pub value_by : ValueKind → (digits : ℕ) → List ℕ → DraftValue
 value_by (value_kind.Decimal places negative) digits octets = number_token
     (short_text (record { digits = digits; places = places; negative = negative }))
@@ -276,16 +285,16 @@ value_by value_kind.Text digits octets = text_form octets
 value_by value_kind.Missing digits octets = missing_form
 value_by value_kind.Reference digits octets = reference_token octets
 
--- the item of a line, or the end of a subset if there is no kind
+-- an item with a value of the given kind, or the end of a subset if no kind is given
 abbrev pub entry_by : Option ValueKind → (line fxy digits : ℕ) → List ℕ → DraftEntry
 entry_by None line fxy digits octets = Ends line
 entry_by (Some k) line fxy digits octets = Holds (draft line fxy (value_by k digits octets))
 
--- the entry that is stored with these octets
+-- the entry that a stored entry and its octets represent
 abbrev pub entry_with : StoredEntry → List ℕ → DraftEntry
 entry_with e octets = entry_by e.kind e.line e.fxy e.start octets
 
--- the entries that are stored with their octets in a block
+-- the entries that stored entries represent, with their octets taken from a block
 abbrev pub entries_stored : List ℕ → List StoredEntry → List DraftEntry
 entries_stored block kept = map (λ e. entry_with e (slice_range block e.start e.end)) kept
 
@@ -294,25 +303,35 @@ abbrev pub is_end : DraftEntry → Bool
 is_end (Holds d) = false
 is_end (Ends line) = true
 
--- If values of this kind have octets, their start is not after their end, and they are inside a
--- block of this size.
+-- whether values of the given kind have octets in the shared block
+abbrev pub has_octets_of_kind : ValueKind → Bool
+has_octets_of_kind (value_kind.Decimal places negative) = false
+has_octets_of_kind value_kind.Missing = false
+has_octets_of_kind _ = true
+
+-- whether a stored entry has octets in the shared block
+abbrev pub has_octets : StoredEntry → Bool
+has_octets e = option_map_or has_octets_of_kind e.kind false
+
+-- If values of the given kind have octets, `start..end` is a valid range in a block of the given
+-- size.
 abbrev pub AreOctetsInside : ValueKind → (size start end : ℕ) → Type 0
 AreOctetsInside (value_kind.Decimal places negative) size start end = Unit {0}
 AreOctetsInside _ size start end = (start ≤ end) × (end ≤ size)
 
--- The octets of a stored entry are inside a block of this size.
+-- The octets of the stored entry are within a block of the given size.
 abbrev pub IsEntryInside : ℕ → StoredEntry → Type 0
 IsEntryInside size e = IfSome e.kind (λ k. AreOctetsInside k size e.start e.end)
 
--- The octets of all stored entries are inside a block of this size.
+-- The octets of all stored entries are within a block of the given size.
 abbrev pub AreInside : ℕ → List StoredEntry → Type 0
 AreInside size kept = AllByRecursion (IsEntryInside size) kept
 
--- the total number of octets that stored entries have in a block
+-- the total number of octets that stored entries occupy in a block
 abbrev pub octets_stored : List StoredEntry → ℕ
 octets_stored kept = sum_by (λ e. e.end - e.start) kept
 
--- the model of the value of an item
+-- the model of an item's value
 abbrev pub form_in : given.DraftValue → DraftValue
 form_in (item_value.Number digits) = number_token digits.now
 form_in (item_value.Text octets) = text_form octets.now

@@ -1,33 +1,34 @@
--- Only contracts need this file. The writers of plain and compressed data, the rows of all subsets,
--- and how the code finds k. (own)
-use Rattle.std.specs.Prelude.{ℕ, ◌≡◌, ◌≤◌, ◌<◌, ◌*◌, ◌^◌, Bool, List, [], ◌∷◌, ◌++◌, length, Option, Some, None, Result, Ok, Err, ◌+◌, ◌-◌, suc, ◌==◌, ◌&&◌, nat_lt, max, min, if◌then◌else◌, take}
+-- Only contracts need this file. How the code writes plain and compressed data, and how it finds
+-- the least k (own).
+use Rattle.std.specs.Prelude.{ℕ, ◌≡◌, ◌≤◌, ◌<◌, ◌*◌, ◌^◌, Bool, List, [], ◌∷◌, ◌++◌, length, Option, Some, None, Result, Ok, Err, ◌+◌, ◌-◌, suc, ◌==◌, ◌&&◌, nat_lt, max, min, if◌then◌else◌, take, slice_get, ◌%◌, false}
 use Rattle.bufr_walk.specs.declared.spec.Taken.{Taken}
 use Rattle.bufr_walk.specs.Prelude.{FieldSpec, Content, answer_of, bits_for, Next, take_next, at_end, astray, refused, FieldFault, answer_first, max_values}
-use Rattle.bufr_fill.specs.Draft.{DraftFault, Draft, DraftEntry, Holds, Ends, ItemFault, at_line, item_too_many, walk_refused, Subset, content_of, wrong_for, FieldContent, raw_limit, padded_content, IsContentOf}
+use Rattle.bufr_fill.specs.Draft.{DraftFault, Draft, DraftEntry, Holds, Ends, ItemFault, at_line, item_too_many, walk_refused, Subset, content_of, wrong_for, FieldContent, raw_limit, padded_content, IsContentOf, subsets_of, has_octets, entry_with}
 use Rattle.bufr_fill.specs.declared.fault.DraftFault.{DraftFault}
 use Rattle.bufr_fill.specs.Encoding.{written_item, RowCell, ItemRow, rows, most_items, item_row, cells_at, first_line, pack_across, content_here, contents_here, first_from, Taken}
 use Rattle.std.specs.List.{list_all, AllByRecursion}
 use Rattle.bufr_fill.specs.declared.packed_out.NumberRange.{NumberRange}
+use Rattle.bufr_fill.specs.declared.draft.StoredEntry.{StoredEntry}
 use Rattle.bufr_fill.specs.declared.fault.DraftFault.TheVariants as draft_fault
 use Rattle.bufr_fill.specs.declared.field_value.FieldContent.TheVariants as field_content
 
--- a writer of plain data: the remaining entries, and the bits written so far
+-- a writer of plain data, with the remaining entries and the bits written so far
 pub record PlainOutModel : Type 0 where
   pub left : List DraftEntry
   pub bits : List Bool
 
--- a writer of plain data from its parts
+-- a writer of plain data with the given entries and bits
 abbrev pub plain_out_model : List DraftEntry → List Bool → PlainOutModel
 plain_out_model left bits = record { left = left; bits = bits }
 
--- the invariant of a writer: it took `index` of `count` entries, and wrote at most 2,040 bits for
--- each
+-- A writer of plain data has processed `index` of `count` entries and has written at most 2,040
+-- bits per processed entry.
 pub record IsPlainOut (index count bits : ℕ) : Type 0 where
   pub within : index ≤ count
   pub few : count ≤ 2 ^ 45
   pub room : bits ≤ 2040 * index
 
--- The next item matches the field, and it was written.
+-- The next item was valid for the field and was written.
 pub record IsFilled (s : PlainOutModel) (spec : FieldSpec) (t : Taken)
     (s' : PlainOutModel) : Type 0 where
   pub draft : Draft
@@ -38,92 +39,113 @@ pub record IsFilled (s : PlainOutModel) (spec : FieldSpec) (t : Taken)
   pub bits : s'.bits ≡ s.bits ++ bits_for spec.width content
   pub forth : length s.bits < length s'.bits
 
--- The fault is that of the next item. If the subset has no more items, the fault states the item
--- that is expected, with the line that ends the subset, or line 0 after the last entry.
+-- The next item causes the fault. If the subset has no more items, the fault names the expected
+-- item and is reported for the line that ends the subset, or for line 0 if no entries remain.
 abbrev pub IsFaultOf : FieldSpec → List DraftEntry → DraftFault → Type 0
 IsFaultOf spec [] f = f ≡ at_line 0 (wrong_for spec)
 IsFaultOf spec (Ends line ∷ more) f = f ≡ at_line line (wrong_for spec)
 IsFaultOf spec (Holds d ∷ more) f =
     (why : ItemFault) × (content_of spec d ≡ Err why) × (f ≡ at_line d.line why)
 
--- The fault has this property, unless memory ran out.
+-- The fault has property p, or memory ran out.
 abbrev pub IfDraftFault : DraftFault → (DraftFault → Type 0) → Type 0
 IfDraftFault (draft_fault.Item line fault) p = p (at_line line fault)
 IfDraftFault draft_fault.Memory p = Unit {0}
 
--- The next item was written, or it was invalid, or memory ran out; a fault changes nothing.
+-- A call wrote the next item, or it failed because the item is invalid or memory ran out. A failed
+-- call changed nothing.
 abbrev pub PlainFills : PlainOutModel → FieldSpec → Result Taken DraftFault → PlainOutModel → Type 0
 PlainFills s spec (Ok t) s' = IsFilled s spec t s'
 PlainFills s spec (Err e) s' = IfDraftFault e (IsFaultOf spec s.left) × (s' ≡ s)
 
--- the line of the next entry; 0 after the last entry
+-- the line number of the next entry, or 0 after the last entry
 abbrev pub line_at : List DraftEntry → ℕ
 line_at [] = 0
 line_at (Holds d ∷ more) = d.line
 line_at (Ends line ∷ more) = line
 
--- the entries after the end of a subset if this end is the next entry, or else the fault
+-- the entries after the end of a subset, or a fault if the next entry does not end a subset
 abbrev pub after_end : List DraftEntry → Result (List DraftEntry) DraftFault
 after_end [] = Err (at_line 0 item_too_many)
 after_end (Holds d ∷ more) = Err (at_line d.line item_too_many)
 after_end (Ends line ∷ more) = Ok more
 
--- The end of a subset was taken, or it is not the next entry; a fault changes nothing.
+-- A call moved past the end of a subset, or it failed because the next entry does not end a subset.
+-- A failed call changed nothing.
 abbrev pub EndsSubset : PlainOutModel → Result (Unit {0}) DraftFault → PlainOutModel → Type 0
 EndsSubset s (Ok _) s' = (after_end s.left ≡ Ok s'.left) × (s'.bits ≡ s.bits)
 EndsSubset s (Err e) s' =
     (after_end s.left ≡ Err e) × (s' ≡ s)
 
--- The fault, by what comes next on the course: a fault of the next item, a refusal of the walk (on
--- the line of the next entry), or an item left over.
+-- The fault occurs because the next item is invalid, the walk refuses a step, or an item remains at
+-- the end of the template. If the walk refuses a step, the fault is reported for the line of the
+-- next entry.
 abbrev pub IsFaultNext : Next → List DraftEntry → DraftFault → Type 0
 IsFaultNext (take_next spec) left f = IsFaultOf spec left f
 IsFaultNext (refused why) left f = f ≡ at_line (line_at left) (walk_refused why)
 IsFaultNext at_end left f = (1 ≤ length left) × (after_end left ≡ Err f)
 IsFaultNext astray left f = ⊥
 
--- the items before the next end of a subset
+-- the remaining items of the current subset
 abbrev pub items_left : List DraftEntry → List Draft
 items_left [] = []
 items_left (Holds d ∷ more) = d ∷ items_left more
 items_left (Ends line ∷ more) = []
 
--- the line of the next end of a subset; 0 after the last subset
+-- the number of the line that ends the current subset, or 0 after the last subset
 abbrev pub end_left : List DraftEntry → ℕ
 end_left [] = 0
 end_left (Holds d ∷ more) = end_left more
 end_left (Ends line ∷ more) = line
 
--- a writer of compressed data: the subsets, the number of rows taken, and the bits written so far
+-- a writer of compressed data, with the subsets, the number of rows written so far, and the bits of
+-- those rows
 pub record PackedOutModel : Type 0 where
   pub subsets : List Subset
   pub index : ℕ
   pub bits : List Bool
 
--- a writer that has written nothing
+-- a writer of compressed data that has not written anything yet
 abbrev pub new_packed_out : List Subset → PackedOutModel
 new_packed_out subsets = record { subsets = subsets; index = 0; bits = [] }
 
--- a new writer for these subsets, or `None` if there are no subsets
+-- The result is a new writer for the given subsets, or `None` if there are no subsets.
 abbrev pub StartsPackedOut : List Subset → Option PackedOutModel → Type 0
 StartsPackedOut subsets None = subsets ≡ []
 StartsPackedOut subsets (Some s) = s ≡ new_packed_out subsets
 
--- the indices of the ends of subsets among entries; the first entry has index `from`
+-- the indices of the entries that end a subset; the first entry has index `from`
 abbrev pub ends_of : (from : ℕ) → List DraftEntry → List ℕ
 ends_of from [] = []
 ends_of from (Holds d ∷ more) = ends_of (from + 1) more
 ends_of from (Ends line ∷ more) = from ∷ ends_of (from + 1) more
 
--- the invariant of a writer: the ends of its subsets, and limits on its bits and values
-pub record IsPackedOut (entries : List DraftEntry) (ends : List ℕ) (index bits : ℕ) : Type 0 where
+-- a subset's entry in a row: an item or the end of the subset
+abbrev pub entry_or_end : Option Draft → (end_line : ℕ) → DraftEntry
+entry_or_end (Some d) end_line = Holds d
+entry_or_end None end_line = Ends end_line
+
+-- The entries of the eight rows from index `from` on were copied so that the entries of each row
+-- are contiguous. A copy that has no octets equals the original entry.
+abbrev pub AreTransposed : List DraftEntry → (from count : ℕ) → (copies : List StoredEntry) → Type 0
+AreTransposed entries from count copies = (ahead s : ℕ) (e : StoredEntry) (c : RowCell)
+    → ahead < 8 → slice_get copies (ahead * count + s) ≡ Some e
+    → slice_get (cells_at (from + ahead) (subsets_of entries)) s ≡ Some c → has_octets e ≡ false
+    → (octets : List ℕ) → entry_with e octets ≡ entry_or_end c.draft c.end_line
+
+-- A writer of compressed data knows where its subsets end. The writer has transposed the entries of
+-- the current group of eight rows if any row of that group has been written, and the numbers of
+-- bits and values are bounded.
+pub record IsPackedOut (entries : List DraftEntry) (ends : List ℕ) (copies : List StoredEntry)
+    (index bits : ℕ) : Type 0 where
+  pub transposed : 0 < index % 8 → AreTransposed entries (index - index % 8) (length ends) copies
   pub few : length entries ≤ 2 ^ 45
   pub ends_are : ends ≡ ends_of 0 entries
   pub some : 1 ≤ length ends
   pub room : bits ≤ 2550 * (index * length ends)
   pub values : index * length ends ≤ max_values
 
--- The item of all subsets in a row was appended to the bits.
+-- The row was packed as one item, and the item's bits were appended.
 pub record IsPutAcross (old new : List Bool) (spec : FieldSpec) (a : ItemRow)
     (t : Taken) : Type 0 where
   pub contents : List Content
@@ -133,15 +155,15 @@ pub record IsPutAcross (old new : List Bool) (spec : FieldSpec) (a : ItemRow)
   pub bits : new ≡ old ++ item
   pub forth : length old < length new
 
--- The next item of all subsets was written.
+-- The next row was written as one item.
 pub record IsPacked (s : PackedOutModel) (spec : FieldSpec) (t : Taken)
     (s' : PackedOutModel) : Type 0 where
   pub put : IsPutAcross s.bits s'.bits spec (item_row s.index s.subsets) t
   pub index : s'.index ≡ s.index + 1
   pub subsets : s'.subsets ≡ s.subsets
 
--- The next item of all subsets was written, or it was invalid, or memory ran out; a fault changes
--- nothing.
+-- A call wrote the next row as one item, or it failed because the row is invalid or memory ran out.
+-- A failed call changed nothing.
 abbrev pub PackedFills : PackedOutModel → FieldSpec → Result Taken DraftFault → PackedOutModel
     → Type 0
 PackedFills s spec (Ok t) s' = IsPacked s spec t s'
@@ -149,22 +171,25 @@ PackedFills s spec (Err e) s' =
     IfDraftFault e (λ f. pack_across spec (item_row s.index s.subsets) ≡ Err f)
     × (s' ≡ s)
 
--- the fault of an item that is left over in a subset, or else the result for the other subsets
+-- the fault caused by a subset's remaining item or, if no item remains, the result for the other
+-- subsets
 abbrev pub and_end : Option Draft → Result (Unit {0}) DraftFault → Result (Unit {0}) DraftFault
 and_end None rest = rest
 and_end (Some d) rest = Err (at_line d.line item_too_many)
 
--- success if all subsets end here, or else the fault of the first item that is left over
+-- success if no subset has a remaining item; otherwise, the fault caused by the first remaining
+-- item
 abbrev pub all_at_end : List RowCell → Result (Unit {0}) DraftFault
 all_at_end [] = Ok tt
 all_at_end (c ∷ cells) = and_end c.draft (all_at_end cells)
 
--- A call returns success if all subsets end here, or else the fault of the first item left over.
+-- A call succeeded if all subsets end at the given index; otherwise, it returned the fault caused
+-- by the first remaining item.
 abbrev pub EndsAllSubsets : (index : ℕ) → List Subset → Result (Unit {0}) DraftFault → Type 0
 EndsAllSubsets index subsets (Ok _) = all_at_end (cells_at index subsets) ≡ Ok tt
 EndsAllSubsets index subsets (Err e) = all_at_end (cells_at index subsets) ≡ Err e
 
--- the line of the first subset's next item, or of its end
+-- the number of the line that contains the next item of the first subset or ends that subset
 abbrev pub first_line_at : (index : ℕ) → List Subset → ℕ
 first_line_at index subsets = first_line (cells_at index subsets)
 
@@ -172,63 +197,66 @@ first_line_at index subsets = first_line (cells_at index subsets)
 abbrev pub rows_left : PackedOutModel → List ItemRow
 rows_left s = rows (most_items s.subsets - s.index) s.index s.subsets
 
--- The fault, by what comes next on the course: a fault of the next row, a refusal of the walk (on
--- the line of the first subset's next item or end), or an item left over.
+-- The fault occurs because the next row is invalid, the walk refuses a step, or an item remains at
+-- the end of the template. If the walk refuses a step, the fault is reported for the line that
+-- contains the next item of the first subset or ends that subset.
 abbrev pub IsFaultHere : Next → PackedOutModel → DraftFault → Type 0
 IsFaultHere (take_next spec) s f = pack_across spec (item_row s.index s.subsets) ≡ Err f
 IsFaultHere (refused why) s f = f ≡ at_line (first_line_at s.index s.subsets) (walk_refused why)
 IsFaultHere at_end s f = all_at_end (cells_at s.index s.subsets) ≡ Err f
 IsFaultHere astray s f = ⊥
 
--- ---- How the code finds the least k of an item, and what it writes with this k.
+-- ---- How the code finds the least k of an item, and which bits it writes with that k.
 
--- the number in a content, or `other` if the content is not a number
+-- the number in the content of a field, or `other` if the content is not a number
 abbrev pub number_or : (other : ℕ) → FieldContent → ℕ
 number_or other (field_content.Number n) = n
 number_or other _ = other
 
--- the increment of a number over a base; 0 if the content is not a number
+-- the difference between a number and the base, or 0 if the content is not a number
 abbrev pub over_of : (base : ℕ) → FieldContent → ℕ
 over_of base (field_content.Number n) = n - base
 over_of base _ = 0
 
--- the greatest increment over a base
+-- the greatest difference between a number in the given fields and the base
 abbrev pub spread : (base : ℕ) → List FieldContent → ℕ
 spread base [] = 0
 spread base (d ∷ ds) = max (over_of base d) (spread base ds)
 
--- the least number among contents, or 2^64 - 1 if there are no numbers
+-- the least number in the given fields, or 2^64 - 1 if no field contains a number
 abbrev pub least_number : List FieldContent → ℕ
 least_number [] = 18446744073709551615
 least_number (d ∷ ds) = min (number_or 18446744073709551615 d) (least_number ds)
 
--- the least k, between `from` and 63, such that k bits can represent the increment `spread`; 64 if
--- there is none
+-- the least k in `from..=63` such that k bits can represent the increment `spread`, or 64 if no
+-- such k exists
 unfoldable pub least_from : (may_be_missing : Bool) (spread from : ℕ) → ℕ
 least_from m spread from = first_from (λ k. nat_lt spread (raw_limit m k)) (64 - from) from
 
--- the length of a text without its trailing spaces
+-- the length of a string without its trailing spaces
 abbrev pub trimmed : List ℕ → ℕ
 trimmed [] = 0
 trimmed (o ∷ os) = if (trimmed os == 0) && (o == 32) then 0 else suc (trimmed os)
 
--- the number of octets that determine a text: those before its trailing spaces, and one more if all
--- of them are 255
+-- the number of octets needed to represent a string; trailing spaces are not counted, except for
+-- one if all octets before them are 255
 abbrev pub need : List ℕ → ℕ
 need os =
     if list_all (λ octet. octet == 255) (take (trimmed os) os) then suc (trimmed os) else trimmed os
 
--- the number of octets that determine a content; 1 if it is not a text
+-- the number of octets needed to represent the content of a field, or 1 if the content is not a
+-- string
 abbrev pub need_of : FieldContent → ℕ
 need_of (field_content.Text octets) = need octets.now
 need_of _ = 1
 
--- the number of octets that are enough to determine each of the contents; at least 1
+-- the greatest number of octets needed to represent any of the contents, but at least 1
 abbrev pub most_need : List FieldContent → ℕ
 most_need [] = 1
 most_need (d ∷ ds) = max (need_of d) (most_need ds)
 
--- An item was packed into at most `most` bits, or there was a fault and no bits were added.
+-- The expected bits of an item (at most `most` bits) were appended, or a fault occurred and nothing
+-- was appended.
 abbrev pub PacksItem : (old new : List Bool) → (expected : Result (List Bool) FieldFault)
     → (most : ℕ) → {E : Type 0} → Result (Unit {0}) E → Type 0
 PacksItem old new expected most (Ok _) =
@@ -236,23 +264,23 @@ PacksItem old new expected most (Ok _) =
     × (length old < length new)
 PacksItem old new expected most (Err _) = new ≡ old
 
--- The increment of the content over a base fits into k bits.
+-- If the content is a number, its difference from the base fits in k bits.
 abbrev pub FitsIncrement : (base k : ℕ) → FieldContent → Type 0
 FitsIncrement base k (field_content.Number raw) = raw - base < 2 ^ k
 FitsIncrement base k _ = Unit {0}
 
--- The increment of each content over a base fits into k bits.
+-- The difference between each number and the base fits in k bits.
 abbrev pub AreShort : (base k : ℕ) → List FieldContent → Type 0
 AreShort base k ds = AllByRecursion (λ (d : FieldContent). FitsIncrement base k d) ds
 
--- The item of all subsets in a row was written in at most `most` bits.
+-- The row was written as one item, which takes at most `most` bits.
 pub record IsPutWithin (old new : List Bool) (spec : FieldSpec) (a : ItemRow) (most : ℕ)
     (t : Taken) : Type 0 where
   pub put : IsPutAcross old new spec a t
   pub few : length put.item ≤ most
 
--- The item of all subsets was written, or it was invalid, or memory ran out; a fault changes
--- nothing.
+-- A call wrote the row as one item, or it failed because the row is invalid or memory ran out. A
+-- failed call changed nothing.
 abbrev pub PutAcross : (old new : List Bool) → FieldSpec → ItemRow → (most : ℕ)
     → Result Taken DraftFault → Type 0
 PutAcross old new spec a most (Ok t) = IsPutWithin old new spec a most t
@@ -261,33 +289,28 @@ PutAcross old new spec a most (Err e) =
 
 -- ---- The rows of all subsets, as the code reads them.
 
--- a subset's entry in a row: its item, or its end
-abbrev pub entry_or_end : Option Draft → (end_line : ℕ) → DraftEntry
-entry_or_end (Some d) end_line = Holds d
-entry_or_end None end_line = Ends end_line
-
--- the content of an entry, or its fault
+-- the content that an entry specifies for a field, or a fault
 abbrev pub entry_here : FieldSpec → DraftEntry → Result Content DraftFault
 entry_here spec (Holds d) = content_here spec (Some d) d.line
 entry_here spec (Ends line) = content_here spec None line
 
--- Each content is one that the field can have.
+-- The field can have each of the given contents.
 abbrev pub AreContentsOf : FieldSpec → List FieldContent → Type 0
 AreContentsOf spec ds = AllByRecursion (λ (d : FieldContent). IsContentOf spec d) ds
 
--- the contents, with their texts padded to `count` octets
+-- the contents of fields, with strings padded to `count` octets
 abbrev pub padded_contents : (count : ℕ) → List FieldContent → List Content
 padded_contents count [] = []
 padded_contents count (d ∷ ds) = padded_content count d ∷ padded_contents count ds
 
--- The range of the numbers among contents: the least (2^64 - 1 if there are no numbers) and the
--- greatest (0 if there are none).
+-- The range extends from the least number among the contents to the greatest. If there are no
+-- numbers, its bounds are 2^64 - 1 and 0.
 pub record IsRangeOf (range : NumberRange) (contents : List FieldContent) : Type 0 where
   pub least : range.least ≡ least_number contents
   pub greatest : range.greatest ≡ spread 0 contents
 
--- All cells were converted and the range of their numbers was returned, or there was a fault: that
--- of the first invalid cell, or out of memory.
+-- A call converted all cells and returned the range of their numbers, or it failed with the fault
+-- in the first invalid cell or because memory ran out.
 abbrev pub ReturnsRow : (count : ℕ) → FieldSpec → List RowCell → List FieldContent
     → Result NumberRange DraftFault → Type 0
 ReturnsRow count spec cells contents (Ok range) =

@@ -1,6 +1,7 @@
-//! The items of a dump, and the entries of a document, which are stored in one block.
+//! The items of a dump, and the entries of a document. The strings of all entries are stored in one
+//! block of memory.
 ghost use Rattle.std.specs.Prelude.{◌≡◌, ◌≤◌, ℕ, List, length, option_map, slice_get, ◌<◌, [], ◌∷◌, ◌++◌, Some, OnOk, OnErr};
-ghost use Rattle.bufr_fill.specs.Prelude.{draft, DraftEntry, Holds, form_in, value_by, entry_with, AreOctetsInside, is_end, number_token, Ends, draft_in};
+ghost use Rattle.bufr_fill.specs.Prelude.{draft, DraftEntry, Holds, form_in, value_by, entry_with, AreOctetsInside, is_end, has_octets, number_token, Ends, draft_in};
 ghost use Rattle.bufr_bits.specs.Prelude.{short_text};
 
 use bufr_bits::ShortDecimal;
@@ -11,64 +12,75 @@ use std::marker::Model;
 /// The value of an item, as it appears in the dump.
 #[derive(Clone, Copy, Debug, PartialEq, Eq)]
 pub enum DraftValue<'a> {
-    /// The octets of a number. Its syntax is checked later.
+    /// A number in decimal notation, whose syntax is checked later.
     Number(&'a [u8]),
-    /// The octets of a text, without quotes, and with its escapes replaced.
+    /// A string without its quotes, with its escape sequences decoded.
     Text(&'a [u8]),
     /// The word `MISSING`.
     Missing,
-    /// The octets of a redefined reference, which is the number after the mark `R`.
+    /// A redefined reference value, which is the number after the mark `R`. The syntax of the
+    /// number is checked later.
     Reference(&'a [u8]),
 }
 
 /// An item of a dump.
 #[derive(Clone, Copy, Debug, PartialEq, Eq)]
 pub struct DraftItem<'a> {
-    /// The number of its line in the dump, counted from 1.
+    /// The item's line number in the dump, counted from 1.
     pub line: u64,
-    /// Its descriptor.
+    /// The descriptor of the item.
     pub fxy: Fxy,
-    /// The value after the descriptor.
+    /// The value that follows the descriptor.
     pub form: DraftValue<'a>,
 }
 
-/// How the value of an item is stored.
+/// The kind of an item's value, which determines how the value is stored.
 #[derive(Clone, Copy)]
 pub(crate) enum ValueKind {
-    /// A short number, stored as its digits.
+    /// A short decimal number, whose digits are stored as an integer.
     Decimal { places: u8, negative: bool },
-    /// The octets of any other number. Its syntax is checked later.
+    /// Any other number. The number is stored as octets, and its syntax is checked later.
     Number,
-    /// The octets of a text.
+    /// A string, whose octets are stored.
     Text,
     /// A missing value.
     Missing,
-    /// The octets of a redefined reference.
+    /// A redefined reference value, whose octets are stored.
     Reference,
 }
 
-/// An entry, as it is stored: the position of its octets in the block, or the digits of a short
-/// decimal in `start`.
+/// A stored entry. `start` and `end` locate the entry's octets in the block. If the value is a
+/// short decimal number, `start` contains its digits.
 #[derive(Clone, Copy)]
 pub(crate) struct StoredEntry {
     pub(crate) line: u64,
     pub(crate) start: usize,
     end: usize,
     pub(crate) fxy: Fxy,
-    /// `None` if the entry is the end of a subset.
+    /// The kind of the value, or `None` if the entry marks the end of a subset.
     pub(crate) kind: Option<ValueKind>,
 }
 
 impl StoredEntry {
-    /// Returns whether the entry is the end of a subset.
+    /// Returns whether the entry marks the end of a subset.
     pub(crate) fn is_end(&self) -> bool
         ensures { (octets : List ℕ) → result ≡ is_end (entry_with self.now octets) }
     {
         self.kind.is_none()
     }
+
+    /// Returns whether the entry has octets in the block.
+    pub(crate) fn has_octets(&self) -> bool
+        ensures { result ≡ has_octets self.now }
+    {
+        matches!(
+            self.kind,
+            Some(ValueKind::Number | ValueKind::Text | ValueKind::Reference)
+        )
+    }
 }
 
-/// Returns the kind of a value, and its octets.
+/// Returns the kind of a value and the octets to store for it.
 #[inline(always)]
 fn parts_of<'a>(form: DraftValue<'a>) -> (ValueKind, &'a [u8])
     ensures is { (digits : ℕ) → value_by result.0 digits result.1.now ≡ form_in form.entry }
@@ -83,11 +95,11 @@ fn parts_of<'a>(form: DraftValue<'a>) -> (ValueKind, &'a [u8])
     }
 }
 
-/// The items of all subsets and the lines that end the subsets, in the order of the dump.
+/// The entries of a dump, in order. Each entry is an item or a line that ends a subset.
 ///
-/// A short number is stored as its digits, and any other number or text in one block. An entry
-/// therefore takes 32 octets, and in addition those of its text. Contracts see the list of the
-/// entries.
+/// Short decimal numbers are stored in their entries. All other numbers and all strings are stored
+/// in one block of memory. An entry occupies 32 octets, plus any octets that it has in the block.
+/// Contracts describe this type as a list of entries.
 ///
 /// ```
 /// let mut entries = Entries::new(alloc);
@@ -98,7 +110,7 @@ fn parts_of<'a>(form: DraftValue<'a>) -> (ValueKind, &'a [u8])
 /// ```
 #[derive(Drop)]
 pub struct Entries {
-    /// Numbers and texts, one after another.
+    /// The octets of numbers and strings, one after another.
     octets: Vec<u8>,
     kept: Vec<StoredEntry>,
 }
@@ -117,7 +129,7 @@ impl Model for Entries {
 }
 
 impl Entries {
-    /// Creates an empty list. This does not allocate.
+    /// Creates an empty list of entries. This function does not allocate.
     pub fn new(alloc: Global) -> Entries
         ensures { result ≡ [] }
     {
@@ -127,7 +139,7 @@ impl Entries {
         }
     }
 
-    /// Removes all entries, but retains the memory.
+    /// Removes all entries. The allocated memory is retained.
     pub fn clear(&mut self)
         ensures { self.new ≡ [] }
     {
@@ -139,7 +151,7 @@ impl Entries {
     ///
     /// # Errors
     ///
-    /// [`AllocError`] if the list cannot grow; it is left unchanged.
+    /// [`AllocError`] if the list cannot grow, in which case it is left unchanged.
     #[inline(always)]
     pub fn push_item(&mut self, item: DraftItem<'_>) -> Result<(), AllocError>
         ensures item { OnOk result (self.new ≡ self.old ++ Holds (draft_in item.entry) ∷ []) }
@@ -160,11 +172,12 @@ impl Entries {
         Ok(())
     }
 
-    /// Appends an item whose value is a short decimal: [`Entries::push_item`] with its text.
+    /// Appends an item whose value is a short decimal number. The resulting list is the same as if
+    /// [`Entries::push_item`] had appended the number as text.
     ///
     /// # Errors
     ///
-    /// [`AllocError`] if the list cannot grow; it is left unchanged.
+    /// [`AllocError`] if the list cannot grow, in which case it is left unchanged.
     #[inline(always)]
     pub fn push_decimal(
         &mut self,
@@ -189,11 +202,11 @@ impl Entries {
         Ok(())
     }
 
-    /// Appends the end of a subset, given the number of its line.
+    /// Appends the end of a subset. `line` is the number of the line that ends the subset.
     ///
     /// # Errors
     ///
-    /// [`AllocError`] if the list cannot grow; it is left unchanged.
+    /// [`AllocError`] if the list cannot grow, in which case it is left unchanged.
     pub fn push_end(&mut self, line: u64) -> Result<(), AllocError>
         ensures end { OnOk result (self.new ≡ self.old ++ Ends line ∷ []) }
         ensures same { OnErr result (self.new ≡ self.old) }
@@ -216,8 +229,8 @@ impl Entries {
         self.kept.len()
     }
 
-    /// Returns the entry at an index, counted from 0, and its octets, or `None` past the last
-    /// entry.
+    /// Returns the entry at an index (counted from 0) and its octets, or `None` if the index is out
+    /// of range.
     #[inline(always)]
     pub(crate) fn get(&self, index: usize) -> Option<(StoredEntry, &[u8])>
         ensures { option_map (λ found. entry_with found.0 found.1.now) result
@@ -229,22 +242,21 @@ impl Entries {
         Some(self.entry_at(index))
     }
 
-    /// Returns the entry at an index, and its octets. The index must be that of an entry.
+    /// Returns the entry at an index and its octets. The index must be in range.
     #[inline(always)]
     pub(crate) fn entry_at(&self, index: usize) -> (StoredEntry, &[u8])
         requires { index < length self.now }
         ensures { Some (entry_with result.0 result.1.now) ≡ slice_get self.now index }
     {
         let entry = self.kept[index];
-        match entry.kind {
-            Some(ValueKind::Number | ValueKind::Text | ValueKind::Reference) => {
-                (entry, &self.octets[entry.start..entry.end])
-            }
-            Some(ValueKind::Decimal { .. } | ValueKind::Missing) | None => (entry, &[]),
+        if entry.has_octets() {
+            (entry, &self.octets[entry.start..entry.end])
+        } else {
+            (entry, &[])
         }
     }
 
-    /// Returns whether the entry at an index is the end of a subset.
+    /// Returns whether the entry at an index marks the end of a subset.
     pub(crate) fn is_end(&self, index: usize) -> bool
         requires { index < length self.now }
         ensures { Some result ≡ option_map is_end (slice_get self.now index) }

@@ -1,7 +1,7 @@
-//! The writer of compressed data, from the items of a dump.
-ghost use Rattle.std.specs.Prelude.{◌≡◌, ◌==◌, ◌≤◌, ◌<◌, ◌+◌, ◌*◌, ◌/◌, ◌^◌, IfOk, Ok, length, ℕ, Bool, slice_get, Some, List, ◌-◌, ◌++◌, ◌∷◌, [], true, false, take, unwrap_or, vec_len};
+//! A writer that converts the items of a dump to compressed data.
+ghost use Rattle.std.specs.Prelude.{◌≡◌, ◌==◌, ◌≤◌, ◌<◌, ◌+◌, ◌*◌, ◌/◌, ◌^◌, IfOk, Ok, length, ℕ, Bool, slice_get, Some, List, ◌-◌, ◌++◌, ◌∷◌, ◌%◌, [], true, false, take, unwrap_or, vec_len, OnOk};
 ghost use Rattle.bufr_walk.specs.Prelude.{IsFor, is_reference, max_values, numbers, texts};
-ghost use Rattle.bufr_fill.specs.Prelude.{item_row, cells_at, contents_here, RowCell, unlike_line, same, lowest, increment_for, packed_over, subsets_of, AreContentsOf, padded_contents, IsRangeOf, entry_or_end, cell_line, ReturnsRow, PutAcross, number_or, spread, trimmed, most_need, PacksItem, FitsIncrement, AreShort, least_from, ends_of, first_line_at, EndsAllSubsets, entry_with, padded_content, IsContentOf, raw_limit, FieldContent, StartsPackedOut, PackedFills, spaced};
+ghost use Rattle.bufr_fill.specs.Prelude.{item_row, cells_at, contents_here, RowCell, unlike_line, same, lowest, increment_for, packed_over, subsets_of, AreContentsOf, padded_contents, IsRangeOf, entry_or_end, cell_line, ReturnsRow, PutAcross, number_or, spread, trimmed, most_need, PacksItem, FitsIncrement, AreShort, least_from, ends_of, first_line_at, EndsAllSubsets, entry_with, padded_content, IsContentOf, raw_limit, FieldContent, StartsPackedOut, PackedFills, spaced, AreTransposed};
 ghost use Rattle.std.specs.Str.{bytes_eq};
 ghost use Rattle.std.specs.List.{flat_map, list_all};
 ghost use Rattle.bufr_bits.specs.Prelude.{bits_in, bits_of, padding};
@@ -19,21 +19,25 @@ use bufr_walk::{Fields, MAX_VALUES, Role, Spec, Taken};
 use std::alloc::{AllocError, Global};
 use std::marker::Model;
 
-/// A writer of the items of a dump as compressed data, in which each item is written once for all
-/// subsets.
+/// A writer that converts the items of a dump to compressed data. In compressed data, each item is
+/// stored once for all subsets.
 ///
-/// An item consists of a base, the six bits of `k` and, if `k` is greater than 0, an increment for
-/// each subset. A single walk takes the items of all subsets. (WMO-No. 306, Volume I.2, FM 94:
+/// An item consists of a base, a 6-bit number `k` and, if `k` is greater than 0, an increment for
+/// each subset. A single walk processes the items of all subsets. (WMO-No. 306, Volume I.2, FM 94:
 /// section 4, compression)
 ///
-/// Contracts see the subsets, the number of items that were taken from each, and the bits of these
-/// items. A fault, including [`DraftFault::Memory`], leaves all of them unchanged.
+/// Contracts describe a writer in terms of its subsets, the number of items taken from each subset,
+/// and the bits written for those items. A fault, including [`DraftFault::Memory`], leaves the
+/// writer unchanged.
 #[derive(Drop)]
 pub struct PackedOut<'s> {
     entries: &'s Entries,
     ends: Vec<usize>,
     index: usize,
-    /// The contents of the item being written. Their memory is reused for each item.
+    /// Copies of the entries in the current group of rows, row by row.
+    transposed: Vec<StoredEntry>,
+    /// The field contents of the current row, one for each subset. The memory is reused for each
+    /// row.
     contents: Vec<FieldContent<'s>>,
     out: BitWriter,
 }
@@ -51,10 +55,12 @@ impl<'s> Model for PackedOut<'s> {
       bits = s.out.bits;
     } };
 
-    ghost invariant = { λ s. IsPackedOut s.entries.now s.ends.items s.index (length s.out.bits) };
+    ghost invariant = { λ s. IsPackedOut s.entries.now s.ends.items s.transposed.items s.index
+        (length s.out.bits) };
 }
 
-/// Writes the contents of an item for all subsets, using the least base and the least `k`.
+/// Writes the field contents of all subsets as one item. If the contents are numbers, the base is
+/// the least number. The value of `k` is as small as possible.
 #[tactic(auto, using(crate::proofs::RowLemmas::is_content_at))]
 // rule: packs-factors-and-references, fault-59, packs-equal, packs-all-missing
 fn pack_row(
@@ -104,13 +110,13 @@ fn pack_row(
 }
 
 impl<'s> PackedOut<'s> {
-    /// Creates a writer of these entries, which are the items of all subsets and the lines that end
-    /// the subsets (at most 2^45 entries). Returns `None` if there are no subsets, because then no
-    /// bits are written.
+    /// Creates a writer for the entries of a dump. The entries are the items of all subsets and the
+    /// lines that end the subsets. The number of entries must be at most 2^45. Returns `None` if
+    /// there are no subsets, because no bits are written in that case.
     ///
     /// # Errors
     ///
-    /// [`AllocError`] if the indices of the ends of subsets cannot be stored.
+    /// [`AllocError`] if there is not enough memory to store where each subset ends.
     pub fn new(alloc: Global, entries: &'s Entries) -> Result<Option<PackedOut<'s>>, AllocError>
         requires few { length entries.now ≤ 2 ^ 45 }
         ensures { IfOk result (λ out. StartsPackedOut (subsets_of entries.now) out) }
@@ -128,13 +134,14 @@ impl<'s> PackedOut<'s> {
             entries,
             ends,
             index: 0,
+            transposed: Vec::new(alloc),
             contents: Vec::new(alloc),
             out: BitWriter::new(alloc),
         }))
     }
 
-    /// Returns the number of the line with the next item of the first subset, or of the line that
-    /// ends this subset.
+    /// Returns the line number of the next item in the first subset. If that subset has no items
+    /// left, the result is the number of the line that ends it.
     pub fn line(&self) -> u64
         ensures { result ≡ first_line_at self.now.index self.now.subsets }
     {
@@ -146,12 +153,12 @@ impl<'s> PackedOut<'s> {
         row.first_line()
     }
 
-    /// Checks that no subset has any items left.
+    /// Checks that no items remain in any subset.
     ///
     /// # Errors
     ///
-    /// [`ItemFault::WrongDescriptor`] if a subset has an item left. The line is that of the item in
-    /// the first such subset.
+    /// [`ItemFault::WrongDescriptor`] if an item remains. The fault contains the line number of the
+    /// next item in the first subset that still has items.
     pub fn end(&self) -> Result<(), DraftFault>
         ensures { EndsAllSubsets self.now.index self.now.subsets result }
     {
@@ -163,8 +170,8 @@ impl<'s> PackedOut<'s> {
         all_at_end(row)
     }
 
-    /// Returns the bits of the complete items as octets, padded with zero bits. This does not
-    /// allocate.
+    /// Returns the written bits, packed into octets. The last octet is padded with zero bits. This
+    /// function does not allocate.
     pub fn into_octets(self) -> Vec<u8>
         ensures bits { bits_of result.items ≡ self.entry.bits ++ padding (length self.entry.bits) }
         ensures len { vec_len result ≡ (length self.entry.bits + 7) / 8 }
@@ -195,7 +202,10 @@ impl<'s> Fields for PackedOut<'s> {
             let why = WalkRefusal::TooManyValues(spec.fxy());
             return Err(DraftFault::Item(row.first_line(), ItemFault::Walk(why)));
         }
-        let range = read_row(row, spec, &mut self.contents)?;
+        if row.index % ROWS == 0 {
+            transpose(row, &mut self.transposed)?;
+        }
+        let range = read_row(row, &self.transposed, spec, &mut self.contents)?;
         let taken = pack_row(row, spec, &self.contents, range, &mut self.out)?;
         self.index += 1;
         Ok(taken)
@@ -206,8 +216,8 @@ impl<'s> Fields for PackedOut<'s> {
     }
 }
 
-/// The entries of all subsets at the same index. `ends` contains the indices of the entries that
-/// end subsets.
+/// A row consists of the entries that have the same index in their subsets. `ends` contains the
+/// indices of the entries that end subsets.
 #[derive(Clone, Copy)]
 pub(crate) struct Row<'a, 'b> {
     entries: &'a Entries,
@@ -220,7 +230,8 @@ pub(crate) struct Row<'a, 'b> {
 }
 
 impl<'a, 'b> Row<'a, 'b> {
-    /// Finds the entry of a subset: its item or, if it has fewer items, its end.
+    /// Finds a subset's entry in this row. If the subset has too few items, the entry marks the end
+    /// of the subset.
     #[inline(always)]
     fn find(self, subset: usize) -> (StoredEntry, &'a [u8])
         requires { subset < length self.ends.now }
@@ -237,7 +248,24 @@ impl<'a, 'b> Row<'a, 'b> {
             .entry_at(self.ends[subset].min(start + self.index))
     }
 
-    /// Returns the line of a subset's entry.
+    /// Finds a subset's entry as [`Row::find`] does, but uses a copy from `transposed` if one
+    /// exists and the entry has no octets.
+    #[inline(always)]
+    fn find_transposed(self, transposed: &[StoredEntry], subset: usize) -> (StoredEntry, &'a [u8])
+        requires within { subset < length self.ends.now }
+        requires transposed { AreTransposed self.entries.now (self.index - self.index % 8)
+            (length self.ends.now) transposed.now }
+        ensures { (c : RowCell)
+            → slice_get (cells_at self.entry.index (subsets_of self.entry.entries.now)) subset
+            ≡ Some c → entry_with result.0 result.1.now ≡ entry_or_end c.draft c.end_line }
+    {
+        match transposed.get(self.index % ROWS * self.ends.len() + subset) {
+            Some(entry) if !entry.has_octets() => (*entry, &[]),
+            _ => self.find(subset),
+        }
+    }
+
+    /// Returns the line number of a subset's entry.
     fn line_of(self, subset: usize) -> u64
         requires { subset < length self.ends.now }
         ensures { (c : RowCell)
@@ -248,7 +276,7 @@ impl<'a, 'b> Row<'a, 'b> {
         entry.line
     }
 
-    /// Returns the line of the first subset's entry.
+    /// Returns the line number of the first subset's entry.
     fn first_line(self) -> u64
         ensures { result ≡ first_line_at self.entry.index (subsets_of self.entry.entries.now) }
     {
@@ -256,13 +284,53 @@ impl<'a, 'b> Row<'a, 'b> {
     }
 }
 
-/// Converts the entries of a row to contents of the field. Returns the range of the numbers among
-/// them.
+/// The number of rows whose entries are copied in one step.
+const ROWS: usize = 8;
+
+/// The minimum number of entries in a document that counts as large. The entries of a large
+/// document occupy at least 1 MiB and no longer fit in the CPU caches.
+const MANY: usize = 32_768;
+
+/// Copies the entries of the next [`ROWS`] rows, so that the entries of each row are contiguous. In
+/// a large document, the entries of a row are stored so far apart that almost every read misses the
+/// CPU caches. Nothing is copied if the document is small or if the first subset has fewer than
+/// [`ROWS`] items left.
+#[inline(never)]
+fn transpose(row: Row<'_, '_>, transposed: &mut Vec<StoredEntry>) -> Result<(), AllocError>
+    ensures { OnOk result (AreTransposed row.entry.entries.now row.entry.index
+        (length row.entry.ends.now) transposed.new.items) }
+{
+    let subsets = row.ends.len();
+    if row.entries.len() < MANY || row.ends[0] < row.index + ROWS {
+        transposed.clear();
+        return Ok(());
+    }
+    let (first, _octets) = row.find(0);
+    transposed.resize(ROWS * subsets, first)?;
+    for subset in 0..subsets {
+        for ahead in 0..ROWS {
+            let next = Row {
+                entries: row.entries,
+                ends: row.ends,
+                index: row.index + ahead,
+            };
+            let (entry, _octets) = next.find(subset);
+            transposed[ahead * subsets + subset] = entry;
+        }
+    }
+    Ok(())
+}
+
+/// Converts the entries of a row to field contents, and returns the range of the numbers among
+/// those contents.
 fn read_row<'a>(
     row: Row<'a, '_>,
+    transposed: &[StoredEntry],
     spec: &Spec,
     contents: &mut Vec<FieldContent<'a>>,
 ) -> Result<NumberRange, DraftFault>
+    requires { AreTransposed row.entries.now (row.index - row.index % 8) (length row.ends.now)
+        transposed.now }
     ensures { ReturnsRow (spec.now.width / 8) spec.now (cells_at row.entry.index
         (subsets_of row.entry.entries.now)) contents.new.items result }
 {
@@ -270,7 +338,7 @@ fn read_row<'a>(
     contents.clear();
     let mut range = NumberRange::new();
     for subset in 0..row.ends.len() {
-        let (entry, octets) = row.find(subset);
+        let (entry, octets) = row.find_transposed(transposed, subset);
         let content = field_content(&entry, octets, &spec)?;
         range = range.with(content);
         match contents.push(content) {
@@ -281,7 +349,8 @@ fn read_row<'a>(
     Ok(range)
 }
 
-/// Returns the line of the first item whose content differs from that of the first subset.
+/// Searches a row for the first item whose field content differs from that of the first subset, and
+/// returns the item's line number.
 // rule: fault-58
 fn unlike_line(row: Row<'_, '_>, spec: &Spec, contents: &[FieldContent<'_>]) -> u64
     requires all { AreContentsOf spec.now contents.now }
@@ -297,8 +366,8 @@ fn unlike_line(row: Row<'_, '_>, spec: &Spec, contents: &[FieldContent<'_>]) -> 
     0
 }
 
-/// Checks that all subsets end at or before the index of a row. If not, the fault names the first
-/// item in the row.
+/// Checks that no subset has an item in this row. If a subset has one, the fault contains the line
+/// number of the first such item.
 fn all_at_end(row: Row<'_, '_>) -> Result<(), DraftFault>
     ensures { EndsAllSubsets row.entry.index (subsets_of row.entry.entries.now) result }
 {
@@ -318,7 +387,7 @@ fn are_spaces(octets: &[u8]) -> bool
     octets.iter().all(|octet| *octet == b' ')
 }
 
-/// Returns whether `longer` is the other text followed by spaces.
+/// Returns whether `longer` equals `text` followed by spaces.
 #[inline(never)]
 fn is_spaced(text: &[u8], longer: &[u8]) -> bool
     requires { length text.now ≤ length longer.now }
@@ -329,7 +398,7 @@ fn is_spaced(text: &[u8], longer: &[u8]) -> bool
     start == text && are_spaces(rest)
 }
 
-/// Returns whether two contents of a field are the same.
+/// Returns whether two field contents are equal. Trailing spaces are ignored.
 #[tactic(auto, using(crate::proofs::RowLemmas::same_references, crate::proofs::RowLemmas::other_references, crate::proofs::RowLemmas::same_spaced, crate::proofs::RowLemmas::spaced_other))]
 #[inline(always)]
 fn is_same(one: FieldContent<'_>, other: FieldContent<'_>, spec: &Spec) -> bool
@@ -349,7 +418,7 @@ fn is_same(one: FieldContent<'_>, other: FieldContent<'_>, spec: &Spec) -> bool
     }
 }
 
-/// Returns whether all contents are the same as a given one.
+/// Returns whether all field contents are equal to `first`.
 #[tactic(auto, using(crate::proofs::RowLemmas::is_content_at, crate::proofs::RowLemmas::alike_more, crate::proofs::RowLemmas::alike_not, crate::proofs::RowLemmas::alike_done))]
 fn are_alike(
     first: FieldContent<'_>,
@@ -374,7 +443,7 @@ fn are_alike(
     true
 }
 
-/// Returns the number of a content, or another number if the content is not a number.
+/// Returns the number in a field's content, or `other` if the content is not a number.
 #[inline(always)]
 fn number_or(other: u64, content: FieldContent<'_>) -> u64
     ensures { result ≡ number_or other content.entry }
@@ -385,7 +454,8 @@ fn number_or(other: u64, content: FieldContent<'_>) -> u64
     }
 }
 
-/// The least and the greatest number of an item. If there are no numbers, they are 2^64 - 1 and 0.
+/// The least and greatest numbers among the field contents of an item. If there are no numbers,
+/// `least` is 2^64 - 1 and `greatest` is 0.
 #[derive(Clone, Copy)]
 pub(crate) struct NumberRange {
     least: u64,
@@ -393,7 +463,7 @@ pub(crate) struct NumberRange {
 }
 
 impl NumberRange {
-    /// Creates the range of no contents.
+    /// Creates a range that contains no numbers.
     pub(crate) fn new() -> NumberRange
         ensures { IsRangeOf result [] }
     {
@@ -403,7 +473,8 @@ impl NumberRange {
         }
     }
 
-    /// Returns the range extended by a content.
+    /// Extends the range to include the number in a field's content. If the content is not a
+    /// number, the range is unchanged.
     #[inline(always)]
     pub(crate) fn with(self, content: FieldContent<'_>) -> NumberRange
         ensures { (contents : List FieldContent) → IsRangeOf self contents
@@ -415,7 +486,7 @@ impl NumberRange {
         }
     }
 
-    /// Returns the least number, or 0 if there are no numbers.
+    /// Returns the least number in the range, or 0 if the range contains no numbers.
     fn base(self) -> u64
         ensures { (count : ℕ) (contents : List FieldContent) → IsRangeOf self contents
             → result ≡ unwrap_or (lowest (padded_contents count contents)) 0 }
@@ -428,8 +499,8 @@ impl NumberRange {
     }
 }
 
-/// Returns the least `k` from 1 to 63 for which `k` bits can represent an increment without reading
-/// as missing, or 64 if there is none.
+/// Returns the least `k` in the range 1 to 63 for which a `k`-bit increment can represent `spread`
+/// without being read as missing. Returns 64 if no such `k` exists.
 #[tactic(auto, using(crate::proofs::RowLemmas::least_here, crate::proofs::RowLemmas::least_later, crate::proofs::RowLemmas::least_end))]
 // rule: packs-class-31
 fn least_bits(spread: u64, may_be_missing: bool) -> u32
@@ -443,7 +514,8 @@ fn least_bits(spread: u64, may_be_missing: bool) -> u32
     64
 }
 
-/// Returns the increment of a content over a base, or `k` ones if the content is not a number.
+/// Returns the increment that yields a field's number when added to the base. If the content of the
+/// field is not a number, the increment consists of `k` ones.
 #[tactic(auto, using(crate::proofs::FieldLemmas::ones_bits))]
 fn increment_of(content: FieldContent<'_>, base: u64, k: u32) -> u64
     requires narrow { k ≤ 63 }
@@ -460,7 +532,7 @@ fn increment_of(content: FieldContent<'_>, base: u64, k: u32) -> u64
     }
 }
 
-/// Writes the increments over a base, each with `k` bits.
+/// Writes a `k`-bit increment for each field content, relative to the base.
 #[tactic(auto, using(crate::proofs::RowLemmas::short_at, crate::proofs::RowLemmas::flat_done))]
 fn put_increments(out: &mut BitWriter, contents: &[FieldContent<'_>], base: u64, k: u32)
     requires narrow { k ≤ 63 }
@@ -475,7 +547,8 @@ fn put_increments(out: &mut BitWriter, contents: &[FieldContent<'_>], base: u64,
     }
 }
 
-/// Writes numbers that differ: the least number, `k`, and the increments over the least number.
+/// Writes an item whose numbers differ. The base is the least number and is followed by `k` and the
+/// increments.
 // rule: packs-numbers
 fn pack_numbers(
     out: &mut BitWriter,
@@ -502,7 +575,7 @@ fn pack_numbers(
     Ok(())
 }
 
-/// Returns the length of a text without trailing spaces.
+/// Returns the length of a string without its trailing spaces.
 #[tactic(auto, using(crate::proofs::RowLemmas::trimmed_here, crate::proofs::RowLemmas::trimmed_later, crate::proofs::RowLemmas::trimmed_all))]
 fn trimmed_len(octets: &[u8]) -> usize
     ensures value { result ≡ trimmed octets.now }
@@ -516,15 +589,16 @@ fn trimmed_len(octets: &[u8]) -> usize
     0
 }
 
-/// Returns the number of octets that the increments need so that they determine all texts and none
-/// reads as missing.
+/// Returns the least number of octets that an increment needs so that all strings can be restored
+/// and no increment is read as missing.
 #[tactic(auto, using(crate::proofs::RowLemmas::eighth_most, crate::proofs::RowLemmas::need_more, crate::proofs::RowLemmas::need_done, crate::proofs::RowLemmas::is_content_at))]
 // rule: packs-texts-not-missing
 fn octets_needed(contents: &[FieldContent<'_>], spec: &Spec) -> usize
     requires { AreContentsOf spec.now contents.now }
     ensures { result ≡ most_need contents.now }
 {
-    // This is for the proof only: a text has at most 255 octets.
+    // This call is needed only for the proof: its contract implies that a string has at most 255
+    // octets.
     let _width = spec.width();
     let mut most: usize = 1;
     for content in contents {
@@ -541,8 +615,8 @@ fn octets_needed(contents: &[FieldContent<'_>], spec: &Spec) -> usize
     most
 }
 
-/// Writes the first octets of a text, followed by spaces if it is shorter, or ones if it is
-/// missing.
+/// Writes the first `k` octets of a string. A shorter string is padded with spaces. If the value is
+/// missing, all written bits are ones.
 #[tactic(auto, using(crate::proofs::RowLemmas::eighth_most))]
 fn put_prefix(out: &mut BitWriter, content: FieldContent<'_>, k: usize, spec: &Spec)
     requires few { k ≤ spec.now.width / 8 }
@@ -553,7 +627,8 @@ fn put_prefix(out: &mut BitWriter, content: FieldContent<'_>, k: usize, spec: &S
     ensures len { length out.new.bits ≡ length out.old.bits + 8 * k }
     ensures room { out.old.room ≤ out.new.room + 8 * k }
 {
-    // This is for the proof only: a text has at most 255 octets.
+    // This call is needed only for the proof: its contract implies that a string has at most 255
+    // octets.
     let _width = spec.width();
     match content {
         FieldContent::Text(octets) => out.put_octets(&with_spaces(octets)[..k]),
@@ -561,7 +636,7 @@ fn put_prefix(out: &mut BitWriter, content: FieldContent<'_>, k: usize, spec: &S
     }
 }
 
-/// Writes the first `k` octets of each text.
+/// Writes the first `k` octets of each string.
 fn put_prefixes(out: &mut BitWriter, contents: &[FieldContent<'_>], k: usize, spec: &Spec)
     requires few { k ≤ spec.now.width / 8 }
     requires contents { AreContentsOf spec.now contents.now }
@@ -576,7 +651,8 @@ fn put_prefixes(out: &mut BitWriter, contents: &[FieldContent<'_>], k: usize, sp
     }
 }
 
-/// Writes texts that differ: a base of zero bits, `k`, and the first `k` octets of each text.
+/// Writes an item whose strings differ. The base consists of zero bits and is followed by `k` and
+/// the first `k` octets of each string.
 #[tactic(auto, using(crate::proofs::RowLemmas::zero_bits))]
 // rule: packs-texts
 fn pack_texts(

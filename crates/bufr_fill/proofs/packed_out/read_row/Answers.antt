@@ -12,8 +12,8 @@ returns-in_err-content c =
     let many = count_cells row.index row.entries.now row.ends.now c.args.row.ends_are in
     let cells = cells_at row.index (subsets_of row.entries.now) in
     rw (passed.1 ∙ ap Err passed.2)
-    (gather_fault (c.args.spec.now.width / 8) c.args.spec.now cells c.loop-subset.subset c.loop-subset.contents.items (entry_with c.find-entry.result.0 c.find-entry.result.1.now)
-    c.loop-subset.invariant.gathered (omega (arith, c.loop-subset-test.true, many)) c.find-entry.ensures
+    (gather_fault (c.args.spec.now.width / 8) c.args.spec.now cells c.loop-subset.subset c.loop-subset.contents.items (entry_with c.find_transposed-entry.result.0 c.find_transposed-entry.result.1.now)
+    c.loop-subset.invariant.gathered (omega (arith, c.loop-subset-test.true, many)) c.find_transposed-entry.ensures
     c.in_err-content.field-0.0 c.in_err-content.ensures.is)
 
 pub loop-subset-preserved : goal.loop-subset-preserved
@@ -21,10 +21,11 @@ loop-subset-preserved c =
     let row = c.args.row in
     let cells = cells_at row.index (subsets_of row.entries.now) in
     let many = count_cells row.index row.entries.now row.ends.now c.args.row.ends_are in
+    let entry = entry_with c.find_transposed-entry.result.0 c.find_transposed-entry.result.1.now in
     record {
       gathered = subst (IsGathering (c.args.spec.now.width / 8) c.args.spec.now cells (c.loop-subset.subset + 1)) (sym c.in-Ok.ensures.items)
-          (gather_more (c.args.spec.now.width / 8) c.args.spec.now cells c.loop-subset.subset c.loop-subset.contents.items (entry_with c.find-entry.result.0 c.find-entry.result.1.now)
-          c.loop-subset.invariant.gathered (omega (arith, c.loop-subset-test.true, many)) c.find-entry.ensures
+          (gather_more (c.args.spec.now.width / 8) c.args.spec.now cells c.loop-subset.subset c.loop-subset.contents.items entry
+          c.loop-subset.invariant.gathered (omega (arith, c.loop-subset-test.true, many)) c.find_transposed-entry.ensures
           c.in_ok-content.content c.in_ok-content.ensures.is c.in_ok-content.ensures.content);
       range = subst (IsRangeOf c.with-range.result) (sym c.in-Ok.ensures.items) (c.with-range.ensures c.loop-subset.contents.items c.loop-subset.invariant.range);
     }

@@ -35,4 +35,4 @@ returns-then-is_empty c =
     none_end c.args.entries.now (sym are ∙ empty_is c.loop-index.ends.items _ (search rules) (sym c.is_empty.ensures ∙ c.if-is_empty.true))
 
 pub returns : goal.returns
-returns c = ap (at_start (subsets_of c.args.entries.now)) c.new-2.ensures.bits
+returns c = ap (at_start (subsets_of c.args.entries.now)) c.new-3.ensures.bits

@@ -38,7 +38,7 @@ returns-then-row-gt-MAX_VALUES-clause-step c =
 pub returns-in_err-range-clause-step : goal.returns-in_err-range-clause-step
 returns-in_err-range-clause-step c =
     let d = c.self.inside in
-    let passed = err_from_is_err_and c.from_residual.result c.from_residual.ensures.1 in
+    let passed = err_from_is_err_and c.from_residual-in_err-range.result c.from_residual-in_err-range.ensures.1 in
     let many : length c.deref.result.now ≡ length (cells_at d.index (subsets_of d.entries.now)) =
     ap length c.deref.ensures.value ∙ sym (count_cells d.index d.entries.now d.ends.items c.self.invariant.ends_are) in
     let few = subst (λ n. (d.index + 1) * n ≤ max_values) many c.if-row-gt-MAX_VALUES.false in
