@@ -1,6 +1,6 @@
 -- How a line is taken apart: its word, descriptors, digits and quoted texts.
 use Rattle.std.proofs.lemmas.List.Sums.{prefix_len-drop_yes, prefix_len-drop_no, prefix_len-drop_all}
-use Rattle.std.proofs.Common.{◌≡◌, IfSome, ℕ, zero, suc, ◌+◌, ◌-◌, ◌<◌, ◌≤◌, ◌==◌, Bool, true, false, List, [], ◌∷◌, ◌++◌, length, take, drop, refl, sym, ap, ◌∙◌, arith, Option, Some, None, append-nil, append_assoc, if◌then◌else◌, ◌&&◌, not, codes, ◌*◌, nat_le, nat_lt, length-drop, length-set, length-take, subst, slice_index, option_map, MatchOption, slice_set, unwrap_or, ◌||◌}
+use Rattle.std.proofs.Common.{◌≡◌, ℕ, zero, suc, ◌+◌, ◌-◌, ◌<◌, ◌≤◌, ◌==◌, Bool, true, false, List, [], ◌∷◌, ◌++◌, length, take, drop, refl, sym, ap, ◌∙◌, arith, Option, Some, None, append-nil, append_assoc, if◌then◌else◌, ◌&&◌, not, codes, ◌*◌, ◌%◌, nat_le, nat_lt, length-drop, length-set, length-take, subst, slice_index, option_map, MatchOption, slice_set, unwrap_or, ◌||◌}
 use Rattle.std.specs.Borrow.{Bor}
 use Rattle.std.specs.List.{list_all, prefix_len, position_or_len}
 use Rattle.std.specs.Str.{bytes_eq}
@@ -9,7 +9,7 @@ use Rattle.std.proofs.lemmas.Grind.{common_steps}
 use Rattle.std.proofs.lemmas.List.{drop_all, drop-drop}
 use Rattle.bufr_bits.proofs.DecimalLemmas.{and_first, and_second}
 use Rattle.bufr_tables.specs.Prelude.{fxy_of, is_fxy, f_in, x_in, y_in}
-use Rattle.bufr_text.specs.Prelude.{without_space, without_prefix, fxy_read, is_number_octet, is_hashed, is_passed_after, hex_read, onto_read, descriptors_read, either_value, pair_value, QuotedToken, Closed, Octet, Nothing, is_unescaped, upper_value, says_pair, escape_of, quoting_of, quoted_on, quoted_read, Describes, Unhexes, Unquotes, value_read, number_value, Passed, ItemLine, Local1, Section2, made, with_one_to, item_line, worded, line_of, Descriptors, Wrong}
+use Rattle.bufr_text.specs.Prelude.{without_space, without_prefix, fxy_read, is_number_octet, is_hashed, is_passed_after, hex_read, onto_read, descriptors_read, either_value, pair_value, QuotedToken, Closed, Octet, Nothing, is_unescaped, upper_value, says_pair, escape_of, quoting_of, quoted_on, quoted_read, Describes, Unhexes, Unquotes, value_read, number_value, Passed, ItemLine, Local1, Section2, made, with_one_to, item_line, item_if_comment, worded, line_of, Descriptors, Wrong}
 use Rattle.bufr_fill.specs.Prelude.{number_token, reference_token, DraftValue, text_form, missing_form}
 use Rattle.memchr.specs.Find.{IsFirstByte, is_byte}
 use Rattle.std.specs.Char.{is_ascii_digit}
@@ -275,18 +275,86 @@ begins-by-digit : (line : List ℕ) (fxy : ℕ) → 6 ≤ length line → Some f
 begins-by-digit [] fxy h is = absurd (omega arith)
 begins-by-digit (c ∷ more) fxy h is = grind (arith, nat_tests, is-fxy (take 6 (c ∷ more)) fxy is)
 
-pub decimal-line : (line text rest : List ℕ) (fxy : ℕ) (form : DraftValue) → 6 ≤ length line → Some text ≡ without_space (drop 6 line) → value_read text ≡ Some (form, rest)
-    → is_passed_after rest ≡ true → Some fxy ≡ fxy_of (take 6 line) → line_of line ≡ ItemLine fxy form
-decimal-line line text rest fxy form h space value passed is =
+-- An item line says the value after its descriptor and one space.
+pub item-line : (line text : List ℕ) (fxy : ℕ) → 6 ≤ length line → Some text ≡ without_space (drop 6 line) → Some fxy ≡ fxy_of (take 6 line)
+    → line_of line ≡ made (item_if_comment fxy) (value_read text)
+item-line line text fxy h space is =
     let digit = begins-by-digit line fxy h is in
     line-item line (λ (e : slice_index line 0 ≡ 35). absurd (grind (arith, nat_tests, e, digit))) digit
-    ∙ rw (fxy-six line h, sym is, sym space, value, passed) refl
+    ∙ rw (fxy-six line h, sym is, sym space) refl
 
--- the line of a missing value
-pub missing-line : (line text rest : List ℕ) (found : Option ℕ) → 6 ≤ length line → Some text ≡ without_space (drop 6 line) → Some rest ≡ without_prefix (codes "MISSING") text
-    → is_passed_after rest ≡ true → found ≡ fxy_of (take 6 line) → IfSome found (λ fxy. line_of line ≡ ItemLine fxy missing_form)
-missing-line line text rest None h space word passed is = tt
-missing-line line text rest (Some fxy) h space word passed is = decimal-line line text rest fxy missing_form h space (value-missing text rest word) passed is
+-- Six digits are a descriptor if F, X and Y are not too large.
+fits-fxy : (text : List ℕ) (fxy : ℕ) → length text ≡ 6 → list_all is_ascii_digit text ≡ true → f_in text ≤ 3 → x_in text ≤ 63 → y_in text ≤ 255
+    → fxy ≡ f_in text * 16384 + x_in text * 256 + y_in text → Some fxy ≡ fxy_of text
+fits-fxy text fxy h1 h2 h3 h4 h5 h6 = grind (arith, nat_tests, common_steps)
+
+spaced-line : (line : List ℕ) (f x y fxy : ℕ) → 7 ≤ length line → slice_index line 6 ≡ 32 → list_all is_ascii_digit (take 6 line) ≡ true → f ≤ 3 → x ≤ 63 → y ≤ 255
+    → f ≡ f_in line → x ≡ x_in line → y ≡ y_in line → fxy ≡ f * 16384 + x * 256 + y → line_of line ≡ made (item_if_comment fxy) (value_read (drop 7 line))
+spaced-line (a ∷ b ∷ c ∷ d ∷ e ∷ g ∷ s ∷ more) f x y fxy long space digits f-few x-few y-few f-is x-is y-is is =
+    let line = a ∷ b ∷ c ∷ d ∷ e ∷ g ∷ s ∷ more in
+    item-line line more fxy (omega arith) (sym (space-there (s ∷ more) space)) (fits-fxy (take 6 line) fxy refl digits (omega arith) (omega arith) (omega arith) (omega arith))
+spaced-line line f x y fxy long space digits f-few x-few y-few f-is x-is y-is is = absurd (omega arith)
+
+-- what is left of an octet if `0` is subtracted with wrapping
+abbrev pub wrapped : List ℕ → ℕ → ℕ
+wrapped line at = (slice_index line at + 208) % 256
+
+-- whether a line begins with a digit up to 3, five digits and a space
+abbrev pub is_spaced : List ℕ → Bool
+is_spaced line =
+    nat_lt (wrapped line 0) 4 && nat_lt (wrapped line 1) 10 && nat_lt (wrapped line 2) 10 && nat_lt (wrapped line 3) 10 && nat_lt (wrapped line 4) 10 && nat_lt (wrapped line 5) 10
+    && (slice_index line 6 == 32)
+
+seven-tests : (a b c d e g s : ℕ) → (nat_lt a 4 && nat_lt b 10 && nat_lt c 10 && nat_lt d 10 && nat_lt e 10 && nat_lt g 10 && (s == 32)) ≡ true
+    → (a < 4) × (b < 10) × (c < 10) × (d < 10) × (e < 10) × (g < 10) × (s ≡ 32)
+seven-tests a b c d e g s h1 = grind (arith, nat_tests)
+
+-- An octet is a digit if less than 10 is left of it.
+unwrapped : (line : List ℕ) (at : ℕ) → slice_index line at < 256 → wrapped line at < 10 → slice_index line at ≡ 48 + wrapped line at
+unwrapped line at h1 h2 = omega arith
+
+at-most : (f n : ℕ) → f ≡ n → n < 4 → f ≤ 3
+at-most f n h1 h2 = omega arith
+
+digit-is : (f n octet : ℕ) → f ≡ n → octet ≡ 48 + n → f ≡ octet - 48
+digit-is f n octet h1 h2 = omega arith
+
+x-is : (line : List ℕ) (b c m n : ℕ) → b ≡ m → c ≡ n → slice_index line 1 ≡ 48 + m → slice_index line 2 ≡ 48 + n → 10 * b + c ≡ x_in line
+x-is line b c m n h1 h2 h3 h4 = omega arith
+
+y-is : (line : List ℕ) (d e g m n o : ℕ) → d ≡ m → e ≡ n → g ≡ o → slice_index line 3 ≡ 48 + m → slice_index line 4 ≡ 48 + n → slice_index line 5 ≡ 48 + o → 100 * d + 10 * e + g ≡ y_in line
+y-is line d e g m n o h1 h2 h3 h4 h5 h6 = omega arith
+
+is-digit : (c n : ℕ) → c ≡ 48 + n → n < 10 → is_ascii_digit c ≡ true
+is-digit c n h1 h2 = grind (arith, nat_tests)
+
+all-digits : (line : List ℕ) → 7 ≤ length line → is_ascii_digit (slice_index line 0) ≡ true → is_ascii_digit (slice_index line 1) ≡ true → is_ascii_digit (slice_index line 2) ≡ true
+    → is_ascii_digit (slice_index line 3) ≡ true → is_ascii_digit (slice_index line 4) ≡ true → is_ascii_digit (slice_index line 5) ≡ true → list_all is_ascii_digit (take 6 line) ≡ true
+all-digits (a ∷ b ∷ c ∷ d ∷ e ∷ g ∷ more) long h1 h2 h3 h4 h5 h6 = rw (h1, h2, h3, h4, h5, h6) refl
+all-digits line long h1 h2 h3 h4 h5 h6 = absurd (omega arith)
+
+-- A line that passes the tests is an item line.
+pub spaced-item : (line : List ℕ) (f b c d e g fxy : ℕ) → 8 ≤ length line → ((i : ℕ) → slice_index line i < 256) → is_spaced line ≡ true → f ≡ wrapped line 0 → b ≡ wrapped line 1 → c ≡ wrapped line 2
+    → d ≡ wrapped line 3 → e ≡ wrapped line 4 → g ≡ wrapped line 5 → 10 * b + c ≤ 63 → 100 * d + 10 * e + g ≤ 255 → fxy ≡ f * 16384 + (10 * b + c) * 256 + (100 * d + 10 * e + g)
+    → line_of line ≡ made (item_if_comment fxy) (value_read (drop 7 line))
+spaced-item line f b c d e g fxy long fits tests f-is b-is c-is d-is e-is g-is x-few y-few is =
+    let (f-few, b-few, c-few, d-few, e-few, g-few, space) =
+    seven-tests (wrapped line 0) (wrapped line 1) (wrapped line 2) (wrapped line 3) (wrapped line 4) (wrapped line 5) (slice_index line 6) tests in
+    let first = unwrapped line 0 (fits 0) (omega (arith, f-few)) in
+    let second = unwrapped line 1 (fits 1) b-few in
+    let third = unwrapped line 2 (fits 2) c-few in
+    let fourth = unwrapped line 3 (fits 3) d-few in
+    let fifth = unwrapped line 4 (fits 4) e-few in
+    let sixth = unwrapped line 5 (fits 5) g-few in
+    let digits =
+    all-digits line (omega (arith, long)) (is-digit _ _ first (omega (arith, f-few))) (is-digit _ _ second b-few) (is-digit _ _ third c-few) (is-digit _ _ fourth d-few)
+    (is-digit _ _ fifth e-few) (is-digit _ _ sixth g-few) in
+    spaced-line line f (10 * b + c) (100 * d + 10 * e + g) fxy (omega (arith, long)) space digits (at-most f _ f-is f-few) x-few y-few (digit-is f _ _ f-is first)
+    (x-is line b c _ _ b-is c-is second third) (y-is line d e g _ _ _ d-is e-is g-is fourth fifth sixth) is
+
+pub item-read : (text rest : List ℕ) (fxy : ℕ) (form : DraftValue) → value_read text ≡ Some (form, rest) → is_passed_after rest ≡ true
+    → made (item_if_comment fxy) (value_read text) ≡ ItemLine fxy form
+item-read text rest fxy form value passed = rw (value, passed) refl
 
 pub ruleset read_steps = (line-none, line-note, line-item, line-word)
 

@@ -4,7 +4,8 @@ use Rattle.std.specs.Prelude.{ℕ, zero, suc, ◌+◌, ◌==◌, nat_le, nat_lt,
 use Rattle.std.specs.List.{position_from, position_or_len, prefix_len}
 use Rattle.std.specs.Char.{is_ascii_digit}
 use Rattle.std.specs.Str.Parse.{digits_value}
-use Rattle.bufr_bits.specs.Prelude.{is_digits}
+use Rattle.bufr_bits.specs.Prelude.{is_digits, short_text}
+use Rattle.bufr_bits.specs.declared.decimal.ShortDecimal.{ShortDecimal}
 use Rattle.bufr_tables.specs.Prelude.{fxy_of, fxy_text, only_if}
 pub use Rattle.bufr_text.specs.declared.line.QuotedToken.{QuotedToken}
 pub use Rattle.bufr_text.specs.declared.line.QuotedToken.TheVariants.{Closed, Octet, Nothing}
@@ -278,7 +279,12 @@ lead_of key = 10 ∷ (key ++ 32 ∷ [])
 abbrev pub is_named : (lead name : List ℕ) → Bool
 is_named lead name = nat_le 2 (length lead) && bytes_eq name (take (length lead - 2) (drop 1 lead))
 
--- ---- Private: the results of parsing descriptors, hexadecimal digits and quoted texts.
+-- ---- Private: the results of parsing parts of a line.
+
+-- the value of an item: a short decimal, or `MISSING` if there is none
+abbrev pub short_form : Option ShortDecimal → DraftValue
+short_form (Some number) = number_token (short_text number)
+short_form None = missing_form
 
 -- The descriptors in the text were written to the start of `out`, and the result is their number;
 -- or this text makes a line `descriptors` invalid.

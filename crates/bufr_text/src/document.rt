@@ -6,7 +6,7 @@ ghost use Rattle.bufr_text.specs.Prelude.{header_in, beginning, closing, line_st
 
 use crate::fault::TextLineFault;
 use crate::header::{MOST_WORDS, in_range};
-use crate::line::{MAX_LINE, ParsedLine, decimal_item, missing_item, read_line};
+use crate::line::{MAX_LINE, ParsedLine, read_line, short_item};
 use crate::slices::{prefix, suffix};
 use bufr_fill::{DraftItem, DraftValue, Entries};
 use bufr_frame::Head;
@@ -386,23 +386,15 @@ fn take_line(
 {
     if let ParserState::Filling(_) = progress.state
         && line.len() <= MAX_LINE
-        && let Some((fxy, number)) = decimal_item(line)
+        && let Some((fxy, number)) = short_item(line)
     {
-        progress
-            .parts
-            .entries
-            .push_decimal(progress.at, fxy, number)?;
-        return Ok(LineEffect::Continues(progress.state));
-    }
-    if let ParserState::Filling(_) = progress.state
-        && line.len() <= MAX_LINE
-        && let Some(fxy) = missing_item(line)
-    {
-        let (line, form) = (progress.at, DraftValue::Missing);
-        progress
-            .parts
-            .entries
-            .push_item(DraftItem { line, fxy, form })?;
+        let (line, entries) = (progress.at, &mut progress.parts.entries);
+        let Some(number) = number else {
+            let form = DraftValue::Missing;
+            entries.push_item(DraftItem { line, fxy, form })?;
+            return Ok(LineEffect::Continues(progress.state));
+        };
+        entries.push_decimal(line, fxy, number)?;
         return Ok(LineEffect::Continues(progress.state));
     }
     let said = read_line(line, progress.parts.known, octets, words);

@@ -1,9 +1,8 @@
 //! The parser of a line: its first word, numbers, items, quoted texts and octets.
 ghost use Rattle.std.specs.Prelude.{◌≡◌, ℕ, ◌<◌, ◌≤◌, ◌==◌, IfSome, List, length, take, drop, option_map, if◌then◌else◌, min, ◌+◌, ◌-◌, slice_index, Some, ◌*◌};
 ghost use Rattle.std.specs.List.{prefix_len};
-ghost use Rattle.bufr_text.specs.Prelude.{max_line, read_line, without_space, hex_read, number_read, without_prefix, is_number_octet, is_hashed, is_passed_after, is_unescaped, upper_value, quoting_of, either_value, Line, made, with_one_to, worded, line_of, value_read, item_line, number_value, ItemLine, Unquotes, Unhexes, meaning, Wrong};
-ghost use Rattle.bufr_bits.specs.Prelude.{short_text};
-ghost use Rattle.bufr_fill.specs.Prelude.{number_token, reference_token, missing_form, form_in};
+ghost use Rattle.bufr_text.specs.Prelude.{max_line, read_line, without_space, hex_read, number_read, without_prefix, is_number_octet, is_hashed, is_passed_after, is_unescaped, upper_value, quoting_of, either_value, Line, made, with_one_to, worded, line_of, value_read, item_line, number_value, ItemLine, item_if_comment, short_form, Unquotes, Unhexes, meaning, Wrong};
+ghost use Rattle.bufr_fill.specs.Prelude.{reference_token, form_in};
 
 use crate::header::{MOST_WORDS, describe, fxy_prefix, key_index, word_at};
 use crate::slices::{is, prefix, suffix};
@@ -222,17 +221,58 @@ fn is_passed_after(text: &[u8]) -> bool
     text.is_empty() || text[0] == b' ' && is_hashed(text)
 }
 
-/// Returns the descriptor and the number of an item line whose value is a short decimal, as almost
-/// all are.
+/// Returns the descriptor at the start of an item line, if a space and at least one more octet
+/// follow it.
 #[inline(always)]
-pub(crate) fn decimal_item(line: &[u8]) -> Option<(Fxy, ShortDecimal)>
-    ensures { IfSome result
-        (λ read. line_of line.now ≡ ItemLine read.0 (number_token (short_text read.1))) }
+fn spaced_fxy(line: &[u8]) -> Option<Fxy>
+    ensures within { IfSome result (λ _. 7 ≤ length line.now) }
+    ensures value { IfSome result
+        (λ fxy. line_of line.now ≡ made (item_if_comment fxy) (value_read (drop 7 line.now))) }
 {
-    if line.len() < 6 {
+    let [a, b, c, d, e, f, space, _, ..] = line else {
+        return None;
+    };
+    let (a, b, c) = (
+        a.wrapping_sub(b'0'),
+        b.wrapping_sub(b'0'),
+        c.wrapping_sub(b'0'),
+    );
+    let (d, e, f) = (
+        d.wrapping_sub(b'0'),
+        e.wrapping_sub(b'0'),
+        f.wrapping_sub(b'0'),
+    );
+    // One branch for all of these octets is faster than one for each.
+    if !((a < 4) & (b < 10) & (c < 10) & (d < 10) & (e < 10) & (f < 10) & (*space == b' ')) {
         return None;
     }
-    let text = without_space(suffix(line, 6))?;
+    let x = 10 * u16::from(b) + u16::from(c);
+    let y = 100 * u16::from(d) + 10 * u16::from(e) + u16::from(f);
+    if x > 63 || y > 255 {
+        return None;
+    }
+    Some(Fxy::from_word(u16::from(a) * 16384 + x * 256 + y))
+}
+
+/// Returns the descriptor and the value of an item line if the value is a short decimal, or `None`
+/// in place of the value if it is missing. Almost all items have such a value.
+#[inline(always)]
+pub(crate) fn short_item(line: &[u8]) -> Option<(Fxy, Option<ShortDecimal>)>
+    ensures { IfSome result (λ read. line_of line.now ≡ ItemLine read.0 (short_form read.1)) }
+{
+    // Texts are ruled out first, since their lines are parsed again.
+    if octet_at(line, 7) == b'"' {
+        return None;
+    }
+    let fxy = spaced_fxy(line)?;
+    let text = suffix(line, 7);
+    if octet_at(text, 0) == b'M' {
+        let rest = without_prefix(text, b"MISSING")?;
+        if !is_passed_after(rest) {
+            return None;
+        }
+        return Some((fxy, None));
+    }
     let (number, count) = ShortDecimal::prefix(text)?;
     let rest = suffix(text, count);
     if is_number_octet(octet_at(rest, 0)) {
@@ -241,28 +281,7 @@ pub(crate) fn decimal_item(line: &[u8]) -> Option<(Fxy, ShortDecimal)>
     if !is_passed_after(rest) {
         return None;
     }
-    Some((Fxy::read(prefix(line, 6))?, number))
-}
-
-/// Returns the descriptor of an item line whose value is missing, as are half of the items in
-/// reports.
-#[inline(always)]
-pub(crate) fn missing_item(line: &[u8]) -> Option<Fxy>
-    ensures { IfSome result (λ fxy. line_of line.now ≡ ItemLine fxy missing_form) }
-{
-    if line.len() < 6 {
-        return None;
-    }
-    let text = without_space(suffix(line, 6))?;
-    // Comparing one octet first is faster for other values.
-    if octet_at(text, 0) != b'M' {
-        return None;
-    }
-    let rest = without_prefix(text, b"MISSING")?;
-    if !is_passed_after(rest) {
-        return None;
-    }
-    Fxy::read(prefix(line, 6))
+    Some((fxy, Some(number)))
 }
 
 /// Parses an item line that begins with a descriptor.
