@@ -68,7 +68,7 @@ out. `λ x. e` is a function, `x ∷ xs` is the list xs with x in front, and `++
 the first fault or `None`, as `>>=` does.
 
 A number in ℕ is `zero` or `suc n` (n + 1), and one in ℤ is `pos n` (n) or `negsuc n` (-n - 1). In ℕ, `m - n` is 0 if n is
-greater than m, `/` rounds down, and `%` is the remainder. A text is a list of octets: 10 is a line feed, 32 a space, 34 `"`,
+greater than m, `/` rounds down, and `%` is the remainder. A string is a list of octets: 10 is a line feed, 32 a space, 34 `"`,
 35 `#`, 45 `-`, 46 `.`, and 92 `\\`; 48 to 57 are the digits.
 
 A word before a constructor, as in `data_fault.DataEnd`, stands for its type (`DataFault`), since several types have
@@ -94,7 +94,7 @@ first n of its buffer, and `Keeps` for a call that fails. `ReadConsumes` also me
 buffer is empty. `IfSome`, `IfOk` and `IfErr` apply a statement to the value in an option or a result, if there is one.
 
 Names that are not defined below come from std (rattle/std and rattle/core in the kit, and rattle/ANTT.md), such as:
-  `codes "ab"`, `decimal n`                    the octets of a text; those of n in decimal digits
+  `codes "ab"`, `decimal n`                    the octets of a string; those of n in decimal digits
   `digits_value 10 digits`                     the number that these octets, which are digits, represent
   `nat_abs z`, `unsigned_abs z`                z without its sign, in ℕ
   `get_or xs i d`, `slice_index xs i`          the element at index i, from 0; past the end, d or 0

@@ -1,4 +1,4 @@
--- Only contracts need this file. What the process does with its words. (own)
+-- Only contracts need this file. What the process does with its command-line arguments. (own)
 use Rattle.std.specs.Prelude.{◌≡◌, ◌⊎◌, ℕ, List, [], Option, codes}
 use Rattle.std.specs.Borrow.{Bor}
 use Rattle.bufr_frame.specs.declared.fault.RunFault.TheVariants.{Memory}
@@ -6,14 +6,15 @@ use Rattle.bufr_cli.specs.Prelude.{InputName, Known, Opens, Writers, WritesLine,
 use Rattle.bufr_cli.specs.declared.outcome.Outcome.{Outcome}
 use Rattle.bufr_cli.specs.declared.outcome.Outcome.TheVariants.{Usage, Run}
 
--- the words cannot be had: memory ran out, or one of them is no text
+-- The arguments are not available, because memory ran out or an argument is not valid UTF-8.
 abbrev pub IsWordless : Outcome → Type 0
 IsWordless outcome =
     (outcome ≡ Run Memory) ⊎ ((text : Bor (List ℕ)) × (outcome ≡ Usage text)
     × (text.now ≡ codes "error: an argument is not UTF-8\n"))
 
--- What the process does with its words, whichever they are: what a call of the program with them
--- comes to; or they cannot be had, and the last line and the status say so, with no output.
+-- What the process does with its arguments. If the arguments are available, the process runs the
+-- program with them. Otherwise, it writes nothing to the output, and reports the reason in the last
+-- line of the error output and in the exit status.
 -- rule: argument-not-utf-8
 pub data RunsArguments {Standard File : Type 0} (inputs : Known Standard File)
     (opened opened' : Option (List InputName)) (before after : Writers) (status : ℕ) : Type 0 where

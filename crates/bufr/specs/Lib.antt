@@ -1,2 +1,2 @@
--- what the process does with its words: a call of the program with them, or why there are none
+-- what the process does with its command-line arguments
 pub mod Calling

@@ -1,15 +1,16 @@
-//! `bufr`: lists, dumps and encodes FM 94 BUFR messages.
+//! The program `bufr`, which lists, dumps and encodes FM 94 BUFR messages.
 //!
-//! `bufr ls [FILE]` prints a line for each message of a stream. `bufr dump -B FILE -D FILE [FILE]`
-//! prints each message as text, using Tables B and D.
-//! `bufr encode -B FILE -D FILE [--form WORD] [FILE]` encodes such text as messages. Faults are
-//! reported on standard error, one per line. The exit status is 0 if nothing was rejected, and 1 if
-//! a message or a document was rejected or the input contained a stray. It is 2 if the command line
-//! or a table was invalid, a file could not be opened, reading or writing failed, or memory ran
-//! out.
+//! `bufr ls [FILE]` prints one line for each message in a stream.
+//! `bufr dump -B FILE -D FILE [FILE]` prints each message as text, using Tables B and D.
+//! `bufr encode -B FILE -D FILE [--form WORD] [FILE]` encodes text in the format of `dump` as
+//! messages. Faults are reported on standard error, one per line. The exit status is 0 if nothing
+//! was rejected. The exit status is 1 if a message or a document was rejected, or if the input
+//! contained a stray (an occurrence of `BUFR` where no message begins). The exit status is 2 if the
+//! command line or a table was invalid, a file could not be opened, reading or writing failed, or
+//! memory ran out.
 //!
-//! This crate provides the arguments, the inputs and the writers of the process. [`run`] of
-//! `bufr_cli` does what the arguments specify.
+//! This crate passes the arguments, the inputs and the writers of the process to [`run`] in
+//! `bufr_cli`, which does the work.
 #![tactic(auto)]
 
 ghost use Rattle.bufr.specs.Calling.{IsWordless, RunsArguments};
@@ -24,12 +25,12 @@ use process::Process;
 use std::io::{Error, ErrorKind};
 use std::process::ExitCode;
 
-/// Runs the command line with the process's own inputs and writers.
+/// Runs the command line with the inputs and writers of the process.
 fn main(rt: HostRuntime) -> ExitCode {
     ExitCode::from(status(&rt))
 }
 
-/// Runs the command line, and returns the exit status of the process.
+/// Runs the command line and returns the exit status of the process.
 // rule: output-held-back
 fn status(rt: &HostRuntime) -> u8 {
     let Ok(mut e) = Buffered::new(rt.alloc(), BUFFERED, Device::new(rt.stderr())) else {
@@ -46,7 +47,7 @@ fn status(rt: &HostRuntime) -> u8 {
     status
 }
 
-/// Returns the outcome if the arguments of the process cannot be read.
+/// Returns the outcome to report if the command-line arguments cannot be read.
 // rule: argument-not-utf-8
 fn argument_fault(error: &Error) -> Outcome<'static>
     ensures { IsWordless result }
@@ -58,7 +59,7 @@ fn argument_fault(error: &Error) -> Outcome<'static>
     }
 }
 
-/// Runs the command line of the process with these inputs and writers.
+/// Runs the command line of the process with the given inputs and writers.
 fn run_words<I: Inputs, W: Sink, E: Sink>(
     rt: &HostRuntime,
     inputs: &mut I,

@@ -1,12 +1,12 @@
-//! The inputs of the program, provided by the process.
+//! The inputs that the process provides to the program.
 use bufr_bits::BufferedDevice;
 use bufr_cli::{BUFFERED, Inputs, OpenFault};
 use std::alloc::AllocError;
 use std::fs::{self, File};
 use std::io::{BufReader, Stdin};
 
-/// The inputs of the process: its standard input, and files that are opened by name. Nothing is
-/// known about their octets before they are read.
+/// The inputs of the process: its standard input, and the files that it opens by name. Nothing is
+/// known about the octets of the inputs until they are read.
 #[derive(Drop)]
 pub struct Process<'a> {
     /// The runtime of the process.

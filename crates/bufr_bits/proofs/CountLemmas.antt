@@ -37,7 +37,7 @@ least count n most = omega arith
 pub counted-least : (count n : ℕ) → count ≤ counted count n
 counted-least count n = least count n (2 ^ 64 - 1)
 
--- A write adds at most one to the number of whole writes.
+-- A write adds at most one to the number of complete writes.
 pub whole_writes_after-most : {E : Type 0} (count : ℕ) (octets : List ℕ) (r : Result ℕ E) → whole_writes_after {E = E} count octets r ≤ counted count 1
 whole_writes_after-most count octets (Err e) = counted-least count 1
 whole_writes_after-most count octets (Ok n) = at (nat_eq n (length octets))
@@ -46,7 +46,7 @@ whole_writes_after-most count octets (Ok n) = at (nat_eq n (length octets))
     at true = omega arith
     at false = counted-least count 1
 
--- A write that left octets over is not a whole write.
+-- A write that left octets over is not a complete write.
 pub whole_writes_after-part : {E : Type 0} (count : ℕ) (octets : List ℕ) (r : Result ℕ E) (n : ℕ) → r ≡ Ok n → n < length octets → whole_writes_after {E = E} count octets r ≡ count
 whole_writes_after-part {E} count octets r n is part = rw is (at (nat_eq n (length octets)) refl)
   where

@@ -1,7 +1,7 @@
--- Only contracts need this file. What contracts state about a slice of bits.
+-- Only contracts need this file. The octets that a bit slice reads.
 use Rattle.std.specs.Prelude.{ℕ, List}
 use Rattle.bufr_bits.specs.declared.bit_slice.BitSlice.{BitSlice}
 
--- the octets whose bits a slice reads
+-- the octets from which a slice reads bits
 abbrev pub octets_of : BitSlice → List ℕ
 octets_of s = s.octets.now

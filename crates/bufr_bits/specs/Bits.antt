@@ -1,5 +1,5 @@
--- Octets as bits, and bits as numbers. (WMO-No. 306, Volume I.2, FM 94: the most significant bit
--- comes first)
+-- Conversions between octets, bits and numbers. (WMO-No. 306, Volume I.2, FM 94: the most
+-- significant bit comes first)
 -- Cited by public contracts.
 use Rattle.std.specs.Prelude.{ℕ, zero, suc, ◌+◌, ◌-◌, ◌*◌, ◌^◌, ◌/◌, ◌%◌, ◌==◌, Bool, false, if◌then◌else◌, List, [], ◌∷◌, ◌++◌, take, drop, replicate, ◌≡◌, ◌<◌, ◌≤◌, length, min}
 use Rattle.std.specs.List.{list_all}
@@ -9,23 +9,24 @@ bits_of_octet n =
     (n / 128 % 2 == 1) ∷ (n / 64 % 2 == 1) ∷ (n / 32 % 2 == 1) ∷ (n / 16 % 2 == 1)
     ∷ (n / 8 % 2 == 1) ∷ (n / 4 % 2 == 1) ∷ (n / 2 % 2 == 1) ∷ (n % 2 == 1) ∷ []
 
--- the bits of octets, one octet after another
+-- the bits of all octets, in order
 -- rule: bit-order
 unfoldable pub bits_of : List ℕ → List Bool
 bits_of [] = []
 bits_of (octet ∷ more) = bits_of_octet octet ++ bits_of more
 
--- the number that n becomes when bits follow it: each bit doubles it and is added
+-- the number that results from appending bits to n; for each bit, the number is doubled and the bit
+-- is added
 abbrev pub number_after_bits : ℕ → List Bool → ℕ
 number_after_bits n [] = n
 number_after_bits n (bit ∷ bits) = number_after_bits (2 * n + (if bit then 1 else 0)) bits
 
--- the unsigned number that bits represent
+-- the unsigned number that the bits represent
 -- rule: field-number
 abbrev pub number_of : List Bool → ℕ
 number_of bits = number_after_bits 0 bits
 
--- the `width` bits that begin at bit `at` of the octets; fewer if the octets end first
+-- the `width` bits that begin at bit index `at` (counted from 0), or fewer if the octets end first
 -- rule: field-number
 abbrev pub bits_at : (octets : List ℕ) (at width : ℕ) → List Bool
 bits_at octets at width = take width (drop at (bits_of octets))
@@ -38,32 +39,33 @@ unfoldable pub bits_in : (value width : ℕ) → List Bool
 bits_in value zero = []
 bits_in value (suc width) = (value / 2 ^ width % 2 == 1) ∷ bits_in value width
 
--- the zero bits that fill the last octet of `length` bits
+-- the zero bits that pad `length` bits to a whole number of octets
 abbrev pub padding : (length : ℕ) → List Bool
 padding length = replicate ((8 - length % 8) % 8) false
 
 -- ---- Eight octets read as one number. (own)
 
--- `window` is the number in the eight octets that begin at index `first`.
+-- `window` is the number stored in the eight octets that begin at index `first`.
 pub record IsWindow (window first : ℕ) (octets : List ℕ) : Type 0 where
   pub within : first + 8 ≤ length octets
   pub small : window < 2 ^ 64
   pub bits : bits_of (take 8 (drop first octets)) ≡ bits_in window 64
 
--- ---- The state of a bit writer: whole octets, and the bits after them in a number.
+-- ---- The state of a bit writer: whole octets, and the remaining bits, stored as a number.
 
--- a bit writer: the bits written so far, and the number of further bits for which there is room
+-- a bit writer: the bits written so far, and the number of bits that still fit
 pub record BitWriterModel : Type 0 where
   pub bits : List Bool
   pub room : ℕ
 
--- the number of further bits for which there is room after `len` octets and `count` bits, in a
--- buffer of `capacity` octets; there are at most 2^63 bits in all
+-- the number of bits that still fit in a `capacity`-octet buffer after `len` octets and `count`
+-- bits have been written; the total is limited to 2^63 bits
 abbrev pub room_after : (len capacity count : ℕ) → ℕ
 room_after len capacity count = min (8 * capacity) (2 ^ 63) - (8 * len + count)
 
--- After `len` octets, `last` contains `count` bits and has `free` free ones: fewer than 64 in all,
--- and the buffer has room for these. At most 2^63 bits were written.
+-- `last` contains the `count` bits that follow the `len` whole octets, and has space for `free`
+-- more bits. `count` and `free` add up to less than 64, and the buffer has room for those
+-- `count + free` bits. At most 2^63 bits have been written.
 pub record IsWriting (len capacity last count free : ℕ) : Type 0 where
   pub few : count + free < 64
   pub low : last < 2 ^ count

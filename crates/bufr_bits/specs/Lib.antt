@@ -4,5 +4,5 @@ pub mod Bits
 pub mod Device
 pub mod Decimal
 pub mod Script
--- the names that proofs and other crates cite, re-exported
+-- re-exports of the names that proofs and other crates use
 pub mod Prelude

@@ -1,9 +1,9 @@
-//! Reading octets as bits, most significant first.
+//! Reading numbers that are stored as bits in octets, most significant bit first.
 ghost use Rattle.std.specs.Prelude.{◌≡◌, ◌≤◌, ◌<◌, ◌+◌, ◌-◌, ◌/◌, ◌%◌, ◌^◌, ◌==◌, ℕ, MatchOption, length, slice_index, slice_range, ◌*◌, option_map, SomeIff, IfSome};
 ghost use Rattle.bufr_bits.specs.Bits.{are_all_ones, IsWindow, number_of, bits_at};
 
-/// A slice of at most 2^60 octets that is read as bits. Bits are counted from 0, most significant
-/// first.
+/// A slice of octets that is read as a sequence of bits. The slice has at most 2^60 octets. Bits
+/// are counted from 0, starting with the most significant bit of the first octet.
 ///
 /// ```
 /// let bits = BitSlice::new(&[0x46, 0x59]);
@@ -20,7 +20,7 @@ pub struct BitSlice<'a> {
 impl<'a> BitSlice<'a> {
     ghost use Rattle.bufr_bits.specs.BitSlice.{octets_of};
 
-    /// Creates a slice of the bits of `octets`, which must have at most 2^60 octets.
+    /// Creates a bit slice from `octets`, which must have at most 2^60 octets.
     pub fn new(octets: &'a [u8]) -> BitSlice<'a>
         requires { length octets.now ≤ 2 ^ 60 }
         ensures { octets_of result ≡ octets.now }
@@ -28,16 +28,16 @@ impl<'a> BitSlice<'a> {
         BitSlice { octets }
     }
 
-    /// Returns the number of bits.
+    /// Returns the length of the slice in bits.
     pub fn len_bits(&self) -> u64
         ensures { result ≡ 8 * length (octets_of self.now) }
     {
         8 * self.octets.len() as u64
     }
 
-    /// Returns the unsigned number in the `width` bits that begin at bit `at`, most significant
-    /// first, or `None` if they extend past the end. The width must be at most 63. The number in 0
-    /// bits is 0.
+    /// Returns the unsigned number stored in the `width` bits that begin at bit `at`, most
+    /// significant bit first. Returns `None` if the number extends past the end of the slice. The
+    /// width must be at most 63. If the width is 0, the number is 0.
     // rule: bit-order, field-number, past-last-bit
     pub fn get(&self, at: u64, width: u32) -> Option<u64>
         requires { width ≤ 63 }
@@ -55,8 +55,9 @@ impl<'a> BitSlice<'a> {
         Some(self.number(at, width))
     }
 
-    /// Returns the unsigned number in the `width` bits that begin at bit `at`, most significant
-    /// first. The width must be 1 to 63, and the bits must not extend past the end.
+    /// Returns the unsigned number stored in the `width` bits that begin at bit `at`, most
+    /// significant bit first. The width must be 1 to 63, and the number must not extend past the
+    /// end of the slice.
     #[inline(always)]
     pub fn number(&self, at: u64, width: u32) -> u64
         requires some { 1 ≤ width }
@@ -72,9 +73,10 @@ impl<'a> BitSlice<'a> {
         }
     }
 
-    /// Does the work of [`BitSlice::number`] if the eight octets that begin with the first octet of
-    /// the bits do not all exist or do not contain all of the bits. If the last eight octets of the
-    /// slice contain the bits, the number is read from these; otherwise it is read octet by octet.
+    /// Returns the same number as [`BitSlice::number`]. This function handles numbers that span
+    /// nine octets or begin in the last seven octets of the slice. If the last eight octets of the
+    /// slice contain the whole number, it is read from those octets. Otherwise, the number is read
+    /// octet by octet.
     #[inline(never)]
     fn by_octets(&self, at: u64, width: u32) -> u64
         requires some { 1 ≤ width }
@@ -102,8 +104,8 @@ impl<'a> BitSlice<'a> {
         value
     }
 
-    /// Returns the eight bits that begin at bit `at` as an octet, or `None` if they extend past the
-    /// end.
+    /// Returns the octet that begins at bit `at`, or `None` if it extends past the end of the
+    /// slice.
     pub fn octet(&self, at: u64) -> Option<u8>
         ensures { SomeIff result (at + 8 ≤ 8 * length (octets_of self.now))
             (number_of (bits_at (octets_of self.now) at 8)) }
@@ -112,8 +114,8 @@ impl<'a> BitSlice<'a> {
         Some(octet as u8)
     }
 
-    /// Returns a slice (not a copy) of the `count` octets that begin at bit `at`. Returns `None` if
-    /// `at` is not a multiple of 8 or if the octets extend past the end.
+    /// Borrows the `count` octets that begin at bit `at`, without copying them. Returns `None` if
+    /// `at` is not a multiple of 8 or if the octets extend past the end of the slice.
     pub fn octets(&self, at: u64, count: usize) -> Option<&'a [u8]>
         ensures value { SomeIff (option_map (λ s. s.now) result)
             ((at % 8 ≡ 0) × (at + 8 * count ≤ 8 * length (octets_of self.now)))
@@ -130,8 +132,9 @@ impl<'a> BitSlice<'a> {
         Some(part(self.octets, (at / 8) as usize, count))
     }
 
-    /// Returns whether the `width` bits that begin at bit `at` are all ones, or `None` if they
-    /// extend past the end. The width is not limited. A width of 0 counts as all ones.
+    /// Returns whether all of the `width` bits that begin at bit `at` are ones. Returns `None` if
+    /// the bits extend past the end of the slice. The width may be greater than 63. An empty range
+    /// of bits counts as all ones.
     pub fn all_ones(&self, at: u64, width: u32) -> Option<bool>
         ensures { SomeIff result (at + width ≤ 8 * length (octets_of self.now))
             (are_all_ones (bits_at (octets_of self.now) at width)) }
@@ -162,8 +165,7 @@ fn part(octets: &[u8], first: usize, count: usize) -> &[u8]
     &octets[first..first + count]
 }
 
-/// Returns the number in the first eight octets, most significant octet first, or `None` if there
-/// are fewer.
+/// Returns the first eight octets as a big-endian number, or `None` if there are fewer than eight.
 #[inline(always)]
 fn first_window(octets: &[u8]) -> Option<u64>
     ensures { MatchOption result (length octets.now < 8) (λ window. IsWindow window 0 octets.now) }

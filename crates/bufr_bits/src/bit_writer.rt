@@ -1,12 +1,13 @@
-//! Writing bits one after another, most significant first.
+//! A writer that packs bits into octets, most significant bit first.
 ghost use Rattle.std.specs.Prelude.{◌≡◌, ◌⊎◌, ◌≤◌, ◌<◌, ◌+◌, ◌-◌, ◌*◌, ◌/◌, ◌%◌, ◌^◌, ◌++◌, [], Bool, List, ℕ, length, slice_index, min, max, vec_len, vec_capacity, OnOk, OnErr};
 ghost use Rattle.bufr_bits.specs.Bits.{bits_of, bits_in, bits_at, number_of, padding, BitWriterModel, IsWriting, room_after};
 
 use std::alloc::{AllocError, Global};
 use std::marker::Model;
 
-/// A writer that appends bits to a buffer, at most 2^63 of them. Contracts see the bits and the
-/// number of further bits for which there is room.
+/// A writer that appends bits to a buffer. The buffer can contain at most 2^63 bits. Contracts
+/// describe a writer in terms of the bits written so far and the number of additional bits for
+/// which room is reserved.
 ///
 /// ```
 /// let mut bits = BitWriter::new(rt.alloc());
@@ -18,10 +19,11 @@ use std::marker::Model;
 #[derive(Drop)]
 pub struct BitWriter {
     octets: Vec<u8>,
-    /// The last `count` bits, fewer than 64, which come after those of `octets`.
+    /// The last `count` bits written, which follow the bits in `octets`. `count` is less than 64.
     last: u64,
     count: u32,
-    /// The number of free bits in `last`. `octets` has room for them and for those in use.
+    /// The number of free bits in `last`. The spare capacity of `octets` is large enough for both
+    /// the free and the used bits of `last`.
     free: u32,
 }
 
@@ -38,7 +40,7 @@ impl Model for BitWriter {
 }
 
 impl BitWriter {
-    /// Creates a writer without bits. It does not allocate.
+    /// Creates an empty writer. This function does not allocate.
     pub fn new(alloc: Global) -> BitWriter
         ensures bits { result.bits ≡ [] }
         ensures room { result.room ≡ 0 }
@@ -58,26 +60,30 @@ impl BitWriter {
         8 * self.octets.len() as u64 + u64::from(self.count)
     }
 
-    /// Makes room for `bits` more bits. There must be at most 2^63 bits in all. If the writer has
-    /// to grow, it makes room for at least as many more octets as its old capacity.
+    /// Reserves room for `bits` additional bits. The total, including the bits already written,
+    /// must be at most 2^63 bits. If the buffer must grow, it reserves at least as many additional
+    /// octets as its old capacity.
     ///
     /// # Errors
     ///
-    /// [`AllocError`] if the writer cannot grow; its bits are left unchanged.
+    /// [`AllocError`] if the buffer cannot grow. In that case, the bits already written are left
+    /// unchanged.
     #[inline(always)]
     pub fn reserve(&mut self, bits: u64) -> Result<(), AllocError>
         requires { length self.old.bits + bits ≤ 2 ^ 63 }
         ensures bits { self.new.bits ≡ self.old.bits }
         ensures room { OnOk result (bits ≤ self.new.room) }
-        // The new room is at most 128 bits more than requested, or the old capacity if that is
-        // more. The old capacity is the bits that were written and those for which there was room.
+        // The new room is at most 128 bits more than requested, or at most the old capacity in bits
+        // if that is greater. The old capacity is the number of bits already written plus the old
+        // room.
         ensures most { self.new.room ≤ max (bits + 128) (length self.old.bits + self.old.room) }
-        // If the room changes, it becomes at least the old capacity less 64 bits, up to 2^63 bits
-        // in all.
+        // If the room changes, the new room is at least
+        // `min(old capacity, 2^63 - bits written) - 64`, in bits.
         ensures grows { (self.new.room ≡ self.old.room)
             ⊎ (min (length self.old.bits + self.old.room) (2 ^ 63 - length self.old.bits)
             ≤ self.new.room + 64) }
-        // If there is already room for 128 bits more than requested, nothing changes.
+        // If there is already room for at least 128 bits more than requested, the room does not
+        // change.
         ensures stays { bits + 128 ≤ self.old.room → self.new.room ≡ self.old.room }
     {
         if bits <= u64::from(self.free) {
@@ -91,8 +97,9 @@ impl BitWriter {
         Ok(())
     }
 
-    /// Appends `value` as `width` bits, most significant first. The width must be at most 63 and
-    /// the value below 2^`width`. [`BitWriter::reserve`] must have made room for the bits.
+    /// Appends `value` as a `width`-bit number, most significant bit first. The width must be at
+    /// most 63, and the value must be less than 2^`width`. Room for the bits must already be
+    /// reserved (see [`BitWriter::reserve`]).
     #[inline(always)]
     pub fn put(&mut self, value: u64, width: u32)
         requires width { width ≤ 63 }
@@ -111,7 +118,7 @@ impl BitWriter {
         }
     }
 
-    /// Does the work of [`BitWriter::put`] if `width` exceeds `free`.
+    /// Does the work of [`BitWriter::put`] if `width` is greater than `free`.
     #[inline(never)]
     fn put_over(&mut self, value: u64, width: u32)
         requires width { width ≤ 63 }
@@ -128,7 +135,7 @@ impl BitWriter {
             self.free = free_after(&self.octets, self.count);
             return;
         }
-        // `last` is full: its 64 bits become eight octets.
+        // `last` is full, so its 64 bits are appended to `octets` as eight octets.
         let rest = width - free;
         let full = (self.last << free) + (value >> rest);
         put(&mut self.octets, &full.to_be_bytes());
@@ -137,7 +144,8 @@ impl BitWriter {
         self.count = rest;
     }
 
-    /// Appends the bits of `octets`. [`BitWriter::reserve`] must have made room for them.
+    /// Appends all bits of `octets`. Room for the bits must already be reserved (see
+    /// [`BitWriter::reserve`]).
     pub fn put_octets(&mut self, octets: &[u8])
         requires { 8 * length octets.now ≤ self.old.room }
         ensures bits { self.new.bits ≡ self.old.bits ++ bits_of octets.now }
@@ -157,12 +165,14 @@ impl BitWriter {
         }
     }
 
-    /// Appends `value` as `width` bits, most significant first, and grows the writer if necessary.
-    /// The width must be at most 63, the value below 2^`width`, and the total at most 2^63 bits.
+    /// Appends `value` as a `width`-bit number, most significant bit first. The buffer grows if
+    /// necessary. The width must be at most 63, the value must be less than 2^`width`, and the
+    /// total number of bits must be at most 2^63.
     ///
     /// # Errors
     ///
-    /// [`AllocError`] if the writer cannot grow; its bits are left unchanged.
+    /// [`AllocError`] if the buffer cannot grow. In that case, the bits already written are left
+    /// unchanged.
     #[inline(always)]
     pub fn push(&mut self, value: u64, width: u32) -> Result<(), AllocError>
         requires width { width ≤ 63 }
@@ -177,12 +187,13 @@ impl BitWriter {
         Ok(())
     }
 
-    /// Appends the bits of `octets`, and grows the writer if necessary. The total must be at most
-    /// 2^63 bits.
+    /// Appends all bits of `octets`. The buffer grows if necessary. The total number of bits must
+    /// be at most 2^63.
     ///
     /// # Errors
     ///
-    /// [`AllocError`] if the writer cannot grow; its bits are left unchanged.
+    /// [`AllocError`] if the buffer cannot grow. In that case, the bits already written are left
+    /// unchanged.
     pub fn push_octets(&mut self, octets: &[u8]) -> Result<(), AllocError>
         requires { length self.old.bits + 8 * length octets.now ≤ 2 ^ 63 }
         ensures ok { OnOk result (self.new.bits ≡ self.old.bits ++ bits_of octets.now) }
@@ -195,7 +206,8 @@ impl BitWriter {
         Ok(())
     }
 
-    /// Returns the bits as octets. The last octet is padded with zero bits. This does not allocate.
+    /// Returns the written bits, packed into octets. The last octet is padded with zero bits. This
+    /// function does not allocate.
     pub fn into_octets(self) -> Vec<u8>
         ensures bits { bits_of result.items ≡ self.bits ++ padding (length self.bits) }
         ensures len { vec_len result ≡ (length self.bits + 7) / 8 }
@@ -211,7 +223,8 @@ impl BitWriter {
     }
 }
 
-/// Makes room for `count` more octets or, if that is more, for as many as the old capacity.
+/// Reserves room for `n` additional octets, where `n` is the greater of `count` and the old
+/// capacity.
 #[cold]
 #[inline(never)]
 fn grow(out: &mut Vec<u8>, count: usize) -> Result<(), AllocError>
@@ -226,7 +239,7 @@ fn grow(out: &mut Vec<u8>, count: usize) -> Result<(), AllocError>
     out.reserve_exact(count.max(out.capacity()))
 }
 
-/// Appends octets to `out`, which must have room for them.
+/// Appends octets to `out`. The spare capacity of `out` must be large enough for the octets.
 pub(crate) fn put(out: &mut Vec<u8>, octets: &[u8])
     requires { vec_len out.old + length octets.now ≤ vec_capacity out.old }
     ensures items { out.new.items ≡ out.old.items ++ octets.now }
@@ -238,8 +251,9 @@ pub(crate) fn put(out: &mut Vec<u8>, octets: &[u8])
     }
 }
 
-/// Returns how many more bits fit into a `last` with `count` bits: at most 63 bits in all, and no
-/// more than `octets` has room for.
+/// Returns the number of bits that can still be added to `last` if it already contains `count`
+/// bits. `last` may contain at most 63 bits, and no more than fit in the spare capacity of
+/// `octets`.
 fn free_after(octets: &Vec<u8>, count: u32) -> u32
     requires few { count < 64 }
     requires room { 8 * vec_len octets.now + count ≤ 8 * vec_capacity octets.now }
@@ -250,7 +264,7 @@ fn free_after(octets: &Vec<u8>, count: u32) -> u32
     room.min(63) - count
 }
 
-/// Appends the `count` bits in `last`, padded with zero bits to whole octets.
+/// Appends the `count` bits in `last`, padded with zero bits to a whole number of octets.
 fn put_last(out: &mut Vec<u8>, last: u64, count: u32)
     requires few { count < 64 }
     requires low { last < 2 ^ count }
@@ -266,16 +280,17 @@ fn put_last(out: &mut Vec<u8>, last: u64, count: u32)
     }
 }
 
-/// Law: if octets contain the bits of a value, with any bits before and after them, then
-/// [`BitSlice::get`](crate::BitSlice::get) returns the value for these bits.
+/// Law: If the bits of a value occur anywhere in a sequence of octets, reading those bits with
+/// [`BitSlice::get`](crate::BitSlice::get) returns the value.
 pub fn pushed_reads_back(value: u64, width: u32)
     requires { value < 2 ^ width }
     ensures { (before after : List Bool) (octets : List ℕ) → bits_of octets ≡ before ++ bits_in
         value width ++ after → number_of (bits_at octets (length before) width) ≡ value }
 {}
 
-/// Law: if octets contain the bits of other octets, with any bits before and after them, then
-/// [`BitSlice::octet`](crate::BitSlice::octet) returns each of the other octets at its position.
+/// Law: If the bits of `octets` occur anywhere in a longer sequence of bits, calling
+/// [`BitSlice::octet`](crate::BitSlice::octet) with the position of an octet's first bit returns
+/// that octet.
 pub fn pushed_octets_read_back(octets: &[u8])
     ensures bits { (before after : List Bool) (among : List ℕ)
         → bits_of among ≡ before ++ bits_of octets.now ++ after

@@ -1,5 +1,5 @@
-//! Conversion between numbers with a decimal scale and text. The number v at scale s means
-//! v / 10^s.
+//! Conversion between decimal text and scaled integers. The integer v with scale s represents the
+//! number v / 10^s.
 ghost use Rattle.std.specs.Prelude.{◌≡◌, ◌≤◌, ◌<◌, ◌+◌, ◌*◌, ◌^◌, ◌++◌, ◌==◌, ℕ, true, false, length, replicate, take, get_or, vec_len, vec_capacity, IfSome, MatchOption, OnOk, OnErr};
 ghost use Rattle.std.specs.Char.{is_ascii_digit};
 ghost use Rattle.std.specs.List.{list_all, position};
@@ -12,24 +12,26 @@ use itoa::Buffer;
 use std::alloc::AllocError;
 use thiserror::Error;
 
-/// The reason why a text is not a number at a scale. The first fault that applies is reported.
+/// The reason why text cannot be read as a number at a given scale. If several faults apply, the
+/// one that is listed first below is reported.
 #[derive(Clone, Copy, Debug, PartialEq, Eq, Error)]
 pub enum NumberFault {
-    /// The text is not an optional `-`, one or more digits, and optionally a point and one or more
-    /// digits.
+    /// The text does not have the required form: an optional `-`, one or more digits, and
+    /// optionally a decimal point followed by one or more digits.
     #[error("not a decimal number")]
     Syntax,
-    /// The number times 10^scale is not whole.
+    /// The number multiplied by 10^scale is not an integer.
     #[error("more places than the scale has")]
     Inexact,
-    /// The number times 10^scale does not fit into an `i128`.
+    /// The number multiplied by 10^scale does not fit in an `i128`.
     #[error("too large")]
     Large,
 }
 
-/// Appends the text of `v` at `scale` to `out`. A scale above 0 puts a point before the last
-/// `scale` digits, after leading zeros if no digit would precede the point. A scale below 0 appends
-/// `-scale` zeros to the digits, but not to 0. A negative number begins with `-`.
+/// Appends the number `v` / 10^`scale` to `out` as decimal text. If the scale is positive, a
+/// decimal point precedes the last `scale` digits. Leading zeros are added if necessary, so that at
+/// least one digit precedes the point. If the scale is negative, `-scale` zeros follow the digits,
+/// unless `v` is 0. A negative number begins with `-`.
 ///
 /// ```
 /// let mut out = Vec::new(rt.alloc());
@@ -41,7 +43,7 @@ pub enum NumberFault {
 ///
 /// # Errors
 ///
-/// [`AllocError`] if `out` cannot grow; it is left unchanged.
+/// [`AllocError`] if `out` cannot grow. In that case, `out` is left unchanged.
 // rule: decimal-zeros-after
 pub fn decimal_text(v: i128, scale: i16, out: &mut Vec<u8>) -> Result<(), AllocError>
     ensures ok { OnOk result (out.new.items ≡ out.old.items ++ decimal_text_of v scale) }
@@ -76,8 +78,9 @@ fn put_zero_digits(out: &mut Vec<u8>, count: usize)
     }
 }
 
-/// Returns the exponents of the powers of ten by which `scale` multiplies and divides a number that
-/// is read. At least one of them is 0.
+/// Splits `scale` into two exponents of ten. A parsed number is multiplied by 10 to the power of
+/// the first exponent and divided by 10 to the power of the second. At least one of the exponents
+/// is 0.
 fn powers_of(scale: i16) -> (usize, usize)
     ensures up { result.0 ≡ positive_scale scale }
     ensures down { result.1 ≡ negative_scale scale }
@@ -99,8 +102,8 @@ fn push_sign(out: &mut Vec<u8>, v: i128)
     }
 }
 
-/// Appends digits with a point before the last `places` of them, after leading zeros if no digit
-/// would precede the point.
+/// Appends digits and inserts a decimal point before the last `places` digits. Leading zeros are
+/// added if necessary, so that at least one digit precedes the point.
 // rule: decimal-point
 fn push_with_point(out: &mut Vec<u8>, digits: &[u8], places: usize)
     requires { vec_len out.old + length digits.now + places + 2 ≤ vec_capacity out.old }
@@ -118,8 +121,9 @@ fn push_with_point(out: &mut Vec<u8>, digits: &[u8], places: usize)
     }
 }
 
-/// Parses the text of a number at `scale`: an optional `-`, one or more digits, and optionally a
-/// point and one or more digits. Returns the number times 10^`scale`. This does not allocate.
+/// Parses a decimal number and returns it multiplied by 10^`scale`. The number consists of an
+/// optional `-`, one or more digits, and optionally a decimal point followed by one or more digits.
+/// This function does not allocate.
 ///
 /// ```
 /// assert_eq!(rt; decimal_read(b"288.15", 2), Ok(28815));
@@ -129,9 +133,9 @@ fn push_with_point(out: &mut Vec<u8>, digits: &[u8], places: usize)
 ///
 /// # Errors
 ///
-/// The first of these that applies: [`NumberFault::Syntax`] if the text does not have this form,
-/// [`NumberFault::Inexact`] if the result is not whole, or [`NumberFault::Large`] if it does not
-/// fit into an `i128`.
+/// The first of the following faults that applies: [`NumberFault::Syntax`] if the text does not
+/// have the form described above, [`NumberFault::Inexact`] if the result is not an integer, or
+/// [`NumberFault::Large`] if the result does not fit in an `i128`.
 // rule: inexact-before-too-large
 pub fn decimal_read(text: &[u8], scale: i16) -> Result<i128, NumberFault>
     ensures { result ≡ decimal_value_of text.now scale }
@@ -155,8 +159,8 @@ fn without_sign(text: &[u8]) -> (bool, &[u8])
     }
 }
 
-/// Splits a number without a sign into the digits before and after the point. Returns `None` if the
-/// text does not have this form.
+/// Splits an unsigned decimal number into the digits before and after the point. Returns `None` if
+/// `body` is not an unsigned decimal number.
 // rule: decimal-form
 fn parts_of(body: &[u8]) -> Option<(&[u8], &[u8])>
     ensures { MatchOption result (is_unsigned body.now ≡ false)
@@ -189,9 +193,9 @@ fn all_digits(text: &[u8]) -> bool
     text.iter().all(|c| c.is_ascii_digit())
 }
 
-/// Returns the number with these digits before and after the point, times 10^`up` and divided by
-/// 10^`down`, capped at `u128::MAX`. At least one of the exponents must be 0. Returns
-/// [`NumberFault::Inexact`] if the result is not whole.
+/// Multiplies a number by 10^`up` and divides it by 10^`down`. The number is given as the digits
+/// before and after its decimal point. At least one of the exponents must be 0. The result is
+/// capped at `u128::MAX`. Returns [`NumberFault::Inexact`] if the result is not an integer.
 fn scaled(whole: &[u8], fraction: &[u8], up: usize, down: usize) -> Result<u128, NumberFault>
     requires whole { all_digits whole.now ≡ true }
     requires fraction { all_digits fraction.now ≡ true }
@@ -217,8 +221,7 @@ fn are_zeros(digits: &[u8]) -> bool
     digits.iter().all(|digit| *digit == b'0')
 }
 
-/// Returns the number whose digits are those of `number` followed by `digits`, capped at
-/// `u128::MAX`.
+/// Appends decimal digits to `number` and returns the resulting number, capped at `u128::MAX`.
 fn extend_with_digits(number: u128, digits: &[u8]) -> u128
     requires { all_digits digits.now ≡ true }
     ensures { (n : ℕ) → number ≡ capped n → result ≡ capped (digits_value_after 10 n digits.now) }
@@ -232,7 +235,7 @@ fn extend_with_digits(number: u128, digits: &[u8]) -> u128
     value
 }
 
-/// Returns `number` times 10^`times`, capped at `u128::MAX`.
+/// Returns `number` multiplied by 10^`times`, capped at `u128::MAX`.
 fn times_ten(number: u128, times: usize) -> u128
     ensures { (n : ℕ) → number ≡ capped n → result ≡ capped (n * 10 ^ times) }
 {
@@ -243,7 +246,8 @@ fn times_ten(number: u128, times: usize) -> u128
     value
 }
 
-/// Returns the number with its sign, or [`NumberFault::Large`] if it does not fit into an `i128`.
+/// Applies the sign to a number. Returns [`NumberFault::Large`] if the signed number does not fit
+/// in an `i128`.
 fn apply_sign(negative: bool, number: u128) -> Result<i128, NumberFault>
     ensures { (n : ℕ) → number ≡ capped n → result ≡ signed negative n }
 {
@@ -255,10 +259,11 @@ fn apply_sign(negative: bool, number: u128) -> Result<i128, NumberFault>
     signed.ok_or(NumberFault::Large)
 }
 
-/// The greatest number of digits that always fit into a `u64`.
+/// The maximum number of decimal digits that always fit in a `u64`.
 const MAX_DIGITS: usize = 19;
 
-/// A decimal number, as it is written in a text, whose digits fit into a `u64`.
+/// A decimal number that was parsed from text. The digits of the number, read as one integer, fit
+/// in a `u64`. The number of digits after the decimal point is preserved.
 ///
 /// ```
 /// let (number, len) = ShortDecimal::prefix(b"-0.50  # K").ok_or("a number")?;
@@ -267,19 +272,20 @@ const MAX_DIGITS: usize = 19;
 /// ```
 #[derive(Clone, Copy, Debug, PartialEq, Eq)]
 pub struct ShortDecimal {
-    /// The digits as a number, without the point.
+    /// All digits of the number, read as one integer without the decimal point.
     pub digits: u64,
-    /// The number of digits after the point.
+    /// The number of digits after the decimal point.
     pub places: u8,
-    /// Whether the number is below zero.
+    /// Whether the number is negative.
     pub negative: bool,
 }
 
 impl ShortDecimal {
-    /// Parses the number at the start of a text. Returns it and its length in octets. At most 19
-    /// octets after the sign are examined, so the number may continue after these. Returns `None`
-    /// if the text does not begin with a number, if [`decimal_text`](crate::decimal_text) would
-    /// write it differently, or if the 19th octet after the sign is a point.
+    /// Parses the number at the start of `text`, and returns the number and its length in octets.
+    /// At most 19 octets after the sign are examined, so further digits of the number may follow in
+    /// `text`. Returns `None` if the text does not begin with a number, if
+    /// [`decimal_text`](crate::decimal_text) would write the number differently, or if the 19th
+    /// octet after the sign is a point.
     #[inline(always)]
     pub fn prefix(text: &[u8]) -> Option<(ShortDecimal, usize)>
         ensures some { IfSome result (λ found. 0 < found.1) }
@@ -287,7 +293,7 @@ impl ShortDecimal {
         ensures text { IfSome result (λ found. take found.1 text.now ≡ short_text found.0) }
         ensures octets { IfSome result
             (λ found. list_all is_decimal_octet (take found.1 text.now) ≡ true) }
-        // If the next octet is among those examined, it does not continue the number.
+        // If the octet after the number was examined, that octet does not continue the number.
         ensures longest { IfSome result (λ found. found.1 < searched_octets text.now
             → continues_number found.0.places (get_or text.now found.1 0) ≡ false) }
     {
@@ -307,13 +313,13 @@ impl ShortDecimal {
         Some((number, count + 1))
     }
 
-    /// Returns the number times 10^`scale`, as [`decimal_read`](crate::decimal_read) does for its
-    /// text.
+    /// Returns the number multiplied by 10^`scale`. Given the text of the number,
+    /// [`decimal_read`](crate::decimal_read) returns the same result.
     ///
     /// # Errors
     ///
-    /// [`NumberFault::Inexact`] if the result is not whole, or [`NumberFault::Large`] if it does
-    /// not fit into an `i128`.
+    /// [`NumberFault::Inexact`] if the result is not an integer, or [`NumberFault::Large`] if the
+    /// result does not fit in an `i128`.
     #[inline(always)]
     pub fn scaled(self, scale: i16) -> Result<i128, NumberFault>
         ensures { result ≡ decimal_value_of (short_text self) scale }
@@ -332,8 +338,8 @@ impl ShortDecimal {
     }
 }
 
-/// Parses the number without a sign at the start of a text. Returns its digits as a number, the
-/// number of digits after the point, and its length in octets.
+/// Parses the unsigned decimal number at the start of `body`. Returns all digits of the number as
+/// one integer, the number of digits after the point, and the length of the number in octets.
 #[inline(always)]
 fn unsigned_prefix(body: &[u8]) -> Option<(u64, u8, usize)>
     ensures some { IfSome result (λ found. 0 < found.2) }
@@ -365,8 +371,8 @@ fn unsigned_prefix(body: &[u8]) -> Option<(u64, u8, usize)>
     Some((number, places as u8, count + 1 + places))
 }
 
-/// Parses the digits at the start of a text, and appends them to those of `number`. Returns the
-/// resulting number and how many digits were appended.
+/// Parses the digits at the start of `text` and appends them to the decimal digits of `number`.
+/// Returns the resulting number and the number of digits appended.
 fn read_digits(number: u64, text: &[u8]) -> (u64, usize)
     requires { (number + 1) * 10 ^ length text.now ≤ 2 ^ 64 }
     ensures count { result.1 ≤ length text.now }
@@ -386,8 +392,8 @@ fn read_digits(number: u64, text: &[u8]) -> (u64, usize)
     (value, count)
 }
 
-/// Returns `number` divided by 10^`times`, or [`NumberFault::Inexact`] if the quotient is not
-/// whole.
+/// Divides `number` by 10^`times`. Returns [`NumberFault::Inexact`] if the quotient is not an
+/// integer.
 fn by_ten(number: u64, times: usize) -> Result<u64, NumberFault>
     ensures { result ≡ whole_quotient number (10 ^ times) }
 {
@@ -408,7 +414,8 @@ fn short_signed(negative: bool, number: u64) -> i128
     if negative { -size } else { size }
 }
 
-/// Law: if the text of a number at a scale is read at the same scale, the result is the number.
+/// Law: If a number is written as text at some scale, reading that text at the same scale returns
+/// the original number.
 pub fn decimal_reads_back(v: i128, scale: i16)
     ensures { decimal_value_of (decimal_text_of v scale) scale ≡ Ok v }
 {}

@@ -1,4 +1,4 @@
-//! Readers and writers that count their calls, and adapters for the readers and writers of `std`.
+//! Readers and writers that count their calls, and adapters for the readers and writers in `std`.
 ghost use Rattle.std.specs.Prelude.{◌≡◌, ◌≤◌, ◌<◌, ℕ, Bool, true, false, List, Option, length, min, IfOk, IsOk, nat_eq};
 ghost use Rattle.std.specs.Io.Buffered.{reader_remaining, reader_buffer};
 ghost use Rattle.std.specs.Io.KnownBytes.{ReadConsumes, WriteAppends, Keeps};
@@ -7,46 +7,48 @@ ghost use Rattle.bufr_bits.specs.Device.{Flushes, counted, failures_after, empty
 use std::io::{BufRead, BufReader, Read, Write};
 use thiserror::Error;
 
-/// The error of a failed call to a device. An interrupted call counts as failed, and no call is
-/// retried.
+/// The error that a device returns if a read, write or flush fails. An interrupted call counts as a
+/// failure, and no call is retried.
 #[derive(Clone, Copy, Debug, PartialEq, Eq, Error)]
 #[error("the device failed")]
 pub struct Failed;
 
-/// A reader of octets that counts its calls.
+/// An octet reader that counts its calls.
 ///
-/// Its contract uses ghost items, which exist only in proofs. Their counts stop at `u64::MAX`.
+/// The contract of this trait uses ghost items, which exist only in proofs. All counts saturate at
+/// `u64::MAX`.
 pub trait Source {
-    /// The octets that reads will return from here on, if they are known.
+    /// The octets that future reads will return, if known.
     ghost left: { Self → Option (List ℕ) };
 
-    /// The number of reads that failed.
+    /// The number of reads that have failed.
     ghost failures: { Self → ℕ };
 
-    /// The number of reads.
+    /// The number of reads made so far.
     ghost reads: { Self → ℕ };
 
-    /// The number of octets that all reads requested: the sum of the lengths of their buffers. (The
-    /// contract of a run does not need it.)
+    /// The total number of octets requested, which is the sum of the buffer lengths of all reads.
+    /// (The contract of a complete run does not use this count.)
     ghost asked: { Self → ℕ };
 
     /// Whether the next read may block or fail.
     ghost waits: { Self → Bool } = { λ _. true };
 
-    /// Returns `false` only if the next read neither blocks nor fails. The program flushes its
-    /// output before all other reads, so that live feeds work.
+    /// Returns whether the next read may block or fail. If the result is `false`, the next read
+    /// neither blocks nor fails. If the result is `true`, the program flushes its output before the
+    /// read, so that live feeds work.
     fn may_wait(&self) -> bool
         ensures { result ≡ false → waits self.now ≡ false }
     {
         true
     }
 
-    /// Reads octets into the beginning of `buf` and returns how many. It returns 0 only at the end
-    /// of the input, or if `buf` is empty.
+    /// Reads octets into the start of `buf` and returns the number of octets read. The result is 0
+    /// only at the end of the input or if `buf` is empty.
     ///
     /// # Errors
     ///
-    /// [`Failed`] if the device failed; no octet was read.
+    /// [`Failed`] if the device fails. In that case, no octets are read.
     fn read(&mut self, buf: &mut [u8]) -> Result<usize, Failed>
         ensures bound { IfOk result (λ n. n ≤ length buf.new) }
         ensures octets { ReadConsumes (left self.old) (left self.new) result buf.new }
@@ -56,33 +58,35 @@ pub trait Source {
         ensures sure { waits self.old ≡ false → IsOk result };
 }
 
-/// A writer of octets that counts its calls.
+/// An octet writer that counts its calls.
 ///
-/// Its contract uses ghost items, which exist only in proofs. Their counts stop at `u64::MAX`.
+/// The contract of this trait uses ghost items, which exist only in proofs. All counts saturate at
+/// `u64::MAX`.
 pub trait Sink {
-    /// The octets taken so far, if they are known.
+    /// The octets accepted so far, if known.
     ghost taken: { Self → Option (List ℕ) };
 
-    /// The number of writes and flushes that failed.
+    /// The number of writes and flushes that have failed.
     ghost failures: { Self → ℕ };
 
-    /// The number of writes that took none of their octets, although there were some.
+    /// The number of nonempty writes that accepted no octets.
     ghost empty_writes: { Self → ℕ };
 
-    /// The number of writes that took all of their octets; 0 in a sink that does not count them.
+    /// The number of writes that accepted all of their octets, or 0 for a sink that does not count
+    /// those writes.
     ghost whole_writes: { Self → ℕ } = { λ _. 0 };
 
-    /// The number of flushes made, and how many of these failed.
+    /// The number of flushes and the number of failed flushes.
     ghost flushes: { Self → Flushes };
 
-    /// Whether all octets taken so far have been flushed.
+    /// Whether all octets accepted so far have been flushed.
     ghost all_flushed: { Self → Bool };
 
-    /// Takes the first octets of `buf` and returns how many.
+    /// Writes octets from the start of `buf`, and returns the number of octets accepted.
     ///
     /// # Errors
     ///
-    /// [`Failed`] if the device failed; no octet was taken.
+    /// [`Failed`] if the device fails. In that case, no octets are accepted.
     fn write(&mut self, buf: &[u8]) -> Result<usize, Failed>
         ensures bound { IfOk result (λ n. n ≤ length buf.now) }
         ensures octets { WriteAppends (taken self.old) (taken self.new) result buf.now }
@@ -95,11 +99,11 @@ pub trait Sink {
         ensures handed { all_flushed self.new ≡ all_flushed_after_write (all_flushed self.old)
             result };
 
-    /// Flushes the octets that were taken.
+    /// Flushes the accepted octets.
     ///
     /// # Errors
     ///
-    /// [`Failed`] if the device failed.
+    /// [`Failed`] if the device fails.
     fn flush(&mut self) -> Result<(), Failed>
         ensures octets { Keeps (taken self.old) (taken self.new) }
         ensures failed { failures self.new ≡ failures_after (failures self.old) result }
@@ -110,7 +114,8 @@ pub trait Sink {
             result };
 }
 
-/// An adapter that makes a reader or writer of `std` a [`Source`] or a [`Sink`].
+/// An adapter that turns a reader from `std` into a [`Source`], or a writer from `std` into a
+/// [`Sink`].
 ///
 /// ```
 /// let mut source = Device::new(b"abc".as_slice());
@@ -132,7 +137,7 @@ pub struct Device<T> {
 }
 
 impl<T> Device<T> {
-    /// Wraps `inner`. No calls have been made yet.
+    /// Wraps `inner`. All call counts start at 0.
     pub fn new(inner: T) -> Device<T>
         ensures { result ≡ fresh_device inner }
     {
@@ -172,15 +177,15 @@ impl<T: Read> Source for Device<T> {
     }
 }
 
-/// An adapter that makes a buffered reader of `std` a [`Source`]. A read does not block while
-/// octets are buffered.
+/// An adapter that turns a `BufReader` into a [`Source`]. A read does not block if octets are
+/// already buffered.
 #[derive(Drop)]
 pub struct BufferedDevice<T: Read> {
     device: Device<BufReader<T>>,
 }
 
 impl<T: Read> BufferedDevice<T> {
-    /// Wraps `inner`. No calls have been made yet.
+    /// Wraps `inner`. All call counts start at 0.
     pub fn new(inner: BufReader<T>) -> BufferedDevice<T>
         ensures { result.device ≡ fresh_device inner }
     {
@@ -217,7 +222,7 @@ impl<T: Read> Source for BufferedDevice<T> {
         ensures asked { self.new.device.asked ≡ counted self.old.device.asked (length buf.new) }
         ensures sure { nat_eq (length (reader_buffer self.old.device.inner)) 0 ≡ false
             → IsOk result }
-        // If octets are buffered, a read returns as many of them as fit into `buf`.
+        // If octets are already buffered, a read returns as many of those octets as fit in `buf`.
         ensures answer { 0 < length (reader_buffer self.old.device.inner)
             → result ≡ Ok (min (length (reader_buffer self.old.device.inner)) (length buf.old)) }
     {

@@ -1,8 +1,9 @@
-//! The lowest crate of `bufr`: devices that read and write octets, octets as bits, and numbers as
-//! decimal text.
+//! This crate is the lowest layer of `bufr`. The crate reads and writes octets and bits, and
+//! converts between numbers and decimal text.
 //!
-//! *Octet* is WMO's word for byte. A device is a [`Source`] or a [`Sink`]. Bits are counted from 0,
-//! most significant first.
+//! *Octet* is WMO's word for byte. A device is a [`Source`], from which octets are read, or a
+//! [`Sink`], to which octets are written. Bits are counted from 0, and the most significant bit of
+//! an octet comes first.
 #![tactic(auto)]
 
 mod bit_slice;

@@ -1,5 +1,5 @@
-//! An in-memory reader and writer for tests. They process octets in small steps and can fail at a
-//! given place.
+//! An in-memory reader and an in-memory writer for tests. The reader and the writer process octets
+//! in small steps and can be made to fail after a given number of octets.
 ghost use Rattle.std.specs.Prelude.{◌≤◌, ◌<◌, vec_len, vec_capacity, ◌≡◌, Some, length, IfOk, IsOk, [], true, false, ◌-◌};
 ghost use Rattle.std.specs.Io.KnownBytes.{ReadConsumes, WriteAppends, Keeps};
 ghost use Rattle.bufr_bits.specs.Device.{counted, failures_after, empty_writes_after, flushes_after, whole_writes_after, all_flushed_after_write, all_flushed_after_flush};
@@ -8,8 +8,8 @@ use crate::bit_writer::put;
 use crate::{Failed, Sink, Source};
 use std::alloc::{AllocError, Global};
 
-/// A [`Source`] of octets in memory, for tests. It returns them in small steps and can fail at a
-/// given place.
+/// A [`Source`] that reads octets from memory, for tests. The reader returns the octets in small
+/// steps and can be made to fail after a given number of octets.
 #[derive(Drop)]
 pub struct ScriptIn<'a> {
     rest: &'a [u8],
@@ -22,9 +22,9 @@ pub struct ScriptIn<'a> {
 }
 
 impl<'a> ScriptIn<'a> {
-    /// Creates a reader of `octets` that returns at most `step` octets per read. The step must be
-    /// at least 1. If `fails_at` is given, the reader returns at most that many octets in all, and
-    /// each read after them fails.
+    /// Creates a reader that reads from `octets` and returns at most `step` octets per read. The
+    /// step must be at least 1. If `fails_at` is `Some(n)`, every read fails once the reader has
+    /// returned `n` octets.
     pub fn new(octets: &'a [u8], step: usize, fails_at: Option<usize>) -> ScriptIn<'a>
         requires { 0 < step }
         ensures octets { result.rest.now ≡ octets.now }
@@ -63,9 +63,9 @@ impl<'a> Source for ScriptIn<'a> {
         ensures failed { self.new.failures ≡ failures_after self.old.failures result }
         ensures made { self.new.reads ≡ counted self.old.reads 1 }
         ensures asked { self.new.asked ≡ counted self.old.asked (length buf.new) }
-        // Any read may block.
+        // Any read may block or fail.
         ensures sure { true ≡ false → IsOk result }
-        // Reads follow the script: its step and its place of failure determine the result.
+        // The step and the number of octets before the failure determine the result of each read.
         ensures answer { result ≡ read_answer self.old.step (length buf.old)
             (length self.old.rest.now) self.old.before_failure }
         ensures failing { self.new.before_failure
@@ -92,16 +92,16 @@ impl<'a> Source for ScriptIn<'a> {
 /// How a [`ScriptOut`] responds to writes when it is full, and whether it can be flushed.
 #[derive(Clone, Copy, Debug, PartialEq, Eq)]
 pub enum End {
-    /// Writes take no octets.
+    /// Writes to a full writer return 0.
     Zero,
-    /// Writes fail.
+    /// Writes to a full writer fail.
     Fail,
-    /// Writes fail. Every flush fails too, even if the writer is not full.
+    /// Writes to a full writer fail. Every flush also fails, even if the writer is not full.
     Flush,
 }
 
-/// A [`Sink`] in memory, for tests. It takes octets in small steps, and all of its memory is
-/// allocated at the start.
+/// A [`Sink`] that writes octets to memory, for tests. The writer accepts octets in small steps.
+/// All memory is allocated when the writer is created.
 #[derive(Drop)]
 pub struct ScriptOut {
     taken: Vec<u8>,
@@ -122,9 +122,9 @@ pub struct ScriptOut {
 impl ScriptOut {
     ghost use Rattle.bufr_bits.specs.Script.{left_of};
 
-    /// Creates a writer that takes at most `room` octets in all and at most `step` octets per
-    /// write. The step must be at least 1. All memory is allocated here, so no write can run out of
-    /// it. Until the writer is full, a write of no octets takes 0; after that, it behaves like any
+    /// Creates a writer that accepts at most `room` octets in total and at most `step` octets per
+    /// write. The step must be at least 1. All memory is allocated up front, so writes cannot run
+    /// out of memory. An empty write returns 0 until the writer is full, and then behaves like any
     /// other write.
     ///
     /// # Errors
@@ -158,7 +158,7 @@ impl ScriptOut {
         })
     }
 
-    /// Returns the octets taken so far.
+    /// Returns the octets accepted so far.
     pub fn taken(&self) -> &[u8]
         ensures { result.now ≡ self.now.taken.items }
     {
@@ -193,7 +193,7 @@ impl Sink for ScriptOut {
         ensures flushed { flushes_of self.new ≡ flushes_of self.old }
         ensures handed { self.new.all_flushed
             ≡ all_flushed_after_write self.old.all_flushed result }
-        // Writes follow the script: its step, its end and the remaining room determine the result.
+        // The step, `end` and the remaining room determine the result of each write.
         ensures answer { result ≡ write_answer self.old.end self.old.step
             (left_of self.old) (length buf.now) }
         ensures left { left_of self.new ≡ left_of self.old - octets_moved result }

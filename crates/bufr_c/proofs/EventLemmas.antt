@@ -325,7 +325,7 @@ rest-after old mid new n m few first more =
     let at : n + (m - n) ≡ m = omega (arith, few) in
     more ∙ (sym (ap (λ k. drop k mid) at) ∙ (sym (drop-drop (m - n) n mid) ∙ (ap (drop (m - n)) first ∙ (drop-drop (m - n) n old ∙ ap (λ k. drop k old) at))))
 
--- No fewer elements are written than before.
+-- The number of written elements does not decrease.
 pub written-more : {X : Type 0} (n m : ℕ) (before after more : List X) → n ≤ length before → m ≤ length after → take m after ≡ take n before ++ more → n ≤ m
 written-more n m before after more fits fits' written =
     omega (arith, ap length written, length-append (take n before) more, length-take-le n before fits, length-take-le m after fits')
@@ -498,7 +498,7 @@ so-far-no-room piece octets from output errors texts texts' place moves m text o
     rw (none.same_output, none.same_errors) (so-far-full piece octets from output errors texts' so' w.event (events_from (texts.at + place + moves) octets) (ap (λ n. events_from n
     octets) none.at ∙ next) lacks)
 
--- The same in a loop, which leaves the rest of the buffers unchanged.
+-- The same in a loop, which does not change the buffers after these texts.
 pub record TextsLoop (piece : StreamEvent → Piece) (octets : List ℕ) (from : ℕ) (old_output old_errors output errors : List ℕ) (texts : Texts) : Type 0 where
   pub so : SoFar piece octets from output errors texts
   pub rest : LeavesRest old_output old_errors texts output errors

@@ -58,7 +58,7 @@ pub message_done_fault : (b : List Row) (d : List Sequence) (s : Sections) (t : 
 message_done_fault b d s t r steps tree answers =
     sym (ap data_fault (no_fault b t s r steps answers)) ∙ fault_by_tree b d s (Ok t) tree
 
--- the fault of data that were refused for any reason other than memory
+-- the fault of data that were refused for any reason other than lack of memory
 its_fault : (b : List Row) (s : Sections) (t : Tree) (why : WalkFault) (steps : ℕ) → AnswersReading b t (data_of s) (Err why) steps → why ≢ fault.Memory
     → fault_of (data_of s) (reading_of (next_item b t) (data_of s)) ≡ Some why
 its_fault b s t why steps (inl (is, made)) other = is
@@ -240,8 +240,8 @@ rows-rest-full old before counts made counts' after rest none =
       messages_rest = rw none.messages rest.messages_rest;
     })
 
--- The same in a loop, in which the tables, the wanted descriptors and the places of the buffers do
--- not change.
+-- The same in a loop, which does not change the tables, the wanted descriptors or the places of the
+-- buffers.
 pub record RowsLoop (b : List Row) (d : List Sequence) (wanted octets : List ℕ) (from : ℕ) (old new : RowBuffers) (counts : Counts) (b' : List Row) (d' : List Sequence) (wanted' : List ℕ)
     : Type 0 where
   pub so : RowsSoFar b d wanted octets from (rows_at new) counts

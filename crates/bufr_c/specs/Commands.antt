@@ -1,5 +1,4 @@
--- Only contracts need this file. What a command writes for an event, and the text of an event.
--- (own)
+-- Only contracts need this file. The text that a command writes for an event. (own)
 use Rattle.std.specs.Prelude.{ℕ, ◌≡◌, ◌==◌, List, flat_map, Option, Some, None, if◌then◌else◌}
 use Rattle.bufr_frame.specs.Prelude.{StreamEvent}
 use Rattle.bufr_cli.specs.Prelude.{Piece, output_of, errors_of, is_accepted, ls_piece, dump_piece, Tallies}
@@ -10,24 +9,24 @@ use Rattle.bufr_c.specs.declared.command.Command.{Command}
 use Rattle.bufr_c.specs.declared.command.Command.TheVariants as command
 use Rattle.bufr_c.specs.declared.command.EventText.{EventText}
 
--- the piece that a command writes for an event
+-- the piece of output that a command writes for an event
 abbrev pub piece_by : Command → StreamEvent → Piece
 piece_by command.List = ls_piece
 piece_by (command.Dump b d) = dump_piece b.now d.now
 
--- This is the text of an event with this piece.
+-- `text` contains the piece's output and error text, and states whether the piece is accepted.
 pub record IsTextOf (text : EventText) (piece : Piece) : Type 0 where
   pub output : text.output.octets.items ≡ output_of piece
   pub errors : text.errors.octets.items ≡ errors_of piece
   pub accepted : text.accepted ≡ is_accepted piece
 
--- This is the text of all these pieces, and the tally has their counts.
+-- `text` contains the output and error text of all pieces, and `tally` counts the pieces.
 pub record IsTextOfAll (pieces : List Piece) (text : EventText) (tally : Tally) : Type 0 where
   pub output : text.output.octets.items ≡ flat_map output_of pieces
   pub errors : text.errors.octets.items ≡ flat_map errors_of pieces
   pub tallies : Tallies tally pieces
 
--- the form with this number, if there is one
+-- the form (as written, plain or compressed) that a number represents, if any
 abbrev pub form_by : ℕ → Option Form
 form_by number =
     if number == 0 then Some AsWritten

@@ -11,21 +11,21 @@ use Rattle.bufr_c.specs.declared.command.EventText.{EventText}
 use Rattle.bufr_c.specs.declared.texts.Texts.{Texts}
 use Rattle.bufr_c.specs.Commands.{IsTextOf}
 
--- the events of a stream that is searched from offset `at` on; offsets count from its start
+-- the events in a stream from offset `at` on, with offsets counted from the start of the stream
 abbrev pub events_from : (at : ℕ) → List ℕ → List StreamEvent
 events_from at octets = scan_from 0 at (drop at octets)
 
--- the index after an event
+-- the offset directly after an event
 abbrev pub end_of : StreamEvent → ℕ
 end_of (FrameAt offset octets) = offset + length octets
 end_of (StrayAt offset cause) = offset + 4
 
--- the index after the last of these events, or `from` if there are none
+-- the offset directly after the last event, or `from` if there are no events
 abbrev pub end_after : (from : ℕ) → List StreamEvent → ℕ
 end_after from [] = from
 end_after from (event ∷ events) = end_after (end_of event) events
 
--- A message of n octets begins at the start of m.
+-- The octets m begin with a message that is n octets long.
 pub record IsMessage (m : List ℕ) (n : ℕ) : Type 0 where
   pub begins : StartsWithBufr m
   pub states : n ≡ stated_length m
@@ -33,19 +33,19 @@ pub record IsMessage (m : List ℕ) (n : ℕ) : Type 0 where
   pub within : n ≤ length m
   pub ends : has_word_at (codes "7777") (n - 4) m ≡ true
 
--- A stray `BUFR` with this cause begins at the start of m.
+-- The octets m begin with a stray `BUFR` that has the given cause.
 pub record IsStray (m : List ℕ) (cause : Cause) : Type 0 where
   pub event : (offset : ℕ) → stream_event offset m (classify m) ≡ StrayAt offset cause ∷ []
   pub moves : candidate_len m (classify m) ≡ 4
   pub within : 4 ≤ length m
 
--- This is what begins at the start of m.
+-- The octets m begin with the given candidate, which is a message or a stray `BUFR`.
 abbrev pub IsCandidate : List ℕ → Candidate → Type 0
 IsCandidate m (Stray cause) = IsStray m cause
 IsCandidate m (Frame n) = IsMessage m n
 
--- The event that begins at the start of m, which is at `offset`, meets a condition. The search
--- continues n octets later, directly after the event.
+-- The octets m, at `offset` in the stream, begin with an event that meets the condition `Is`. The
+-- search continues directly after the event, n octets later.
 pub record FindsEvent (Is : StreamEvent → Type 0) (offset : ℕ) (m : List ℕ) (n : ℕ) : Type 0 where
   pub event : StreamEvent
   pub here : stream_event offset m (classify m) ≡ event ∷ []
@@ -55,17 +55,17 @@ pub record FindsEvent (Is : StreamEvent → Type 0) (offset : ℕ) (m : List ℕ
   pub within : n ≤ length m
   pub is : Is event
 
--- This is the text of the event that begins at the start of m.
+-- The octets m begin with an event, and `text` contains the text to write for it.
 abbrev pub WritesEvent : (StreamEvent → Piece) → (offset : ℕ) → List ℕ → ℕ → EventText → Type 0
 WritesEvent piece offset m n text = FindsEvent (λ event. IsTextOf text (piece event)) offset m n
 
--- In the caller's buffers, the octets after the texts are unchanged.
+-- In the caller's buffers, the octets after the written text are unchanged.
 pub record LeavesRest (output errors : List ℕ) (texts : Texts) (output' errors' : List ℕ)
     : Type 0 where
   pub output_rest : drop texts.output_length output' ≡ drop texts.output_length output
   pub errors_rest : drop texts.errors_length errors' ≡ drop texts.errors_length errors
 
--- The text of an event was appended to the earlier ones.
+-- The text for an event was appended to the earlier text.
 pub record HasPut (text : EventText) (old : Texts) (output errors : List ℕ) (new : Texts)
     (output' errors' : List ℕ) : Type 0 where
   pub written : take new.output_length output'
@@ -80,7 +80,7 @@ pub record HasPut (text : EventText) (old : Texts) (output errors : List ℕ) (n
   pub refused : new.refused ≡ old.refused
   pub reserved : new.reserved ≡ old.reserved
 
--- There is no room for the text of an event, and nothing was written.
+-- The buffers lacked room for an event's text, and nothing was written.
 pub record HasNoRoom (text : EventText) (old : Texts) (output errors : List ℕ) (new : Texts)
     (output' errors' : List ℕ) : Type 0 where
   pub same_output : output' ≡ output
@@ -96,7 +96,7 @@ pub record HasNoRoom (text : EventText) (old : Texts) (output errors : List ℕ)
   pub lacks : (length output < new.output_length + new.output_needed)
       ⊎ (length errors < new.errors_length + new.errors_needed)
 
--- The text of an event was appended if there was room for it (`true`); if not, nothing was written.
+-- The text for an event was appended (`true`), or nothing was written for lack of room.
 abbrev pub PutsText : EventText → Texts → (output errors : List ℕ) → Texts
     → (output' errors' : List ℕ) → Bool → Type 0
 PutsText text old output errors new output' errors' true =
@@ -104,7 +104,8 @@ PutsText text old output errors new output' errors' true =
 PutsText text old output errors new output' errors' false =
     HasNoRoom text old output errors new output' errors'
 
--- The buffers begin with the texts of these pieces; `texts` has their lengths and counts.
+-- The buffers begin with the text of the given pieces. `texts` contains the lengths of the output
+-- and the error text, and the numbers of accepted and rejected pieces.
 pub record Leaves (output errors : List ℕ) (texts : Texts) (pieces : List Piece) : Type 0 where
   pub written : take texts.output_length output ≡ flat_map output_of pieces
   pub blamed : take texts.errors_length errors ≡ flat_map errors_of pieces
@@ -113,7 +114,7 @@ pub record Leaves (output errors : List ℕ) (texts : Texts) (pieces : List Piec
   pub accepted : texts.accepted ≡ count_by is_accepted pieces
   pub refused : texts.refused ≡ count_by is_refused pieces
 
--- There is no room for these texts, and `texts` says how many octets they need.
+-- The buffers lack room for `written` or `blamed`, and `texts` contains the lengths of both.
 pub record LacksRoom (output errors : List ℕ) (texts : Texts) (written blamed : List ℕ)
     : Type 0 where
   pub output_needed : texts.output_needed ≡ length written
@@ -121,20 +122,20 @@ pub record LacksRoom (output errors : List ℕ) (texts : Texts) (written blamed 
   pub lacks : (length output < texts.output_length + texts.output_needed)
       ⊎ (length errors < texts.errors_length + texts.errors_needed)
 
--- There is no room for the text of the first of these events.
+-- The buffers lack room for the first event's text.
 abbrev pub StopsBefore : (StreamEvent → Piece) → (output errors : List ℕ) → Texts
     → List StreamEvent → Type 0
 StopsBefore piece output errors texts [] = ⊥
 StopsBefore piece output errors texts (next ∷ more) =
     LacksRoom output errors texts (output_of (piece next)) (errors_of (piece next))
 
--- This is the status of a call that read its tables.
+-- A call that has read its tables can return the given status (0, 73 or 74).
 abbrev pub IsRunStatus : ℤ → Type 0
 IsRunStatus status = (status ≡ pos 0) ⊎ ((status ≡ pos 73) ⊎ (status ≡ pos 74))
 
--- A call that began at offset `from` processed these events, and the next call continues at `at`.
--- If the status is 0, that is the end of the input (or `from`, if this is past the end). If it is
--- 73 or 74, that is directly after the last of these events.
+-- A call that began at offset `from` has processed the given events, and the next call continues at
+-- `at`. If the status is 0, `at` is the end of the input (or `from`, if that is later). If the
+-- status is 73 or 74, `at` is directly after the last processed event.
 pub record PassesOver (octets : List ℕ) (from : ℕ) (passed : List StreamEvent) (at : ℕ)
     (status : ℤ) : Type 0 where
   pub ran : IsRunStatus status
@@ -144,8 +145,8 @@ pub record PassesOver (octets : List ℕ) (from : ℕ) (passed : List StreamEven
   pub done : status ≡ pos 0 → (events_from at octets ≡ []) × (length octets ≤ at)
   pub stopped : (¬ (status ≡ pos 0)) → at ≡ end_after from passed
 
--- A call wrote the texts of the events that it processed. Status 74 means that there is no room for
--- that of the next one.
+-- A call wrote the text for each event that it processed. Status 74 means that the buffers lack
+-- room for the next event's text.
 pub record Passes (piece : StreamEvent → Piece) (octets : List ℕ) (from : ℕ)
     (output errors : List ℕ) (texts : Texts) (status : ℤ) : Type 0 where
   pub passed : List StreamEvent
@@ -154,7 +155,7 @@ pub record Passes (piece : StreamEvent → Piece) (octets : List ℕ) (from : �
   pub stops : status ≡ pos 74
       → StopsBefore piece output errors texts (events_from texts.at octets)
 
--- A call wrote nothing, and the next call begins at the same offset.
+-- A call wrote nothing, and the next call will begin at the same offset.
 pub record WritesNone (from : ℕ) (output errors : List ℕ) (texts : Texts)
     (output' errors' : List ℕ) : Type 0 where
   pub at : texts.at ≡ from
@@ -165,20 +166,22 @@ pub record WritesNone (from : ℕ) (output errors : List ℕ) (texts : Texts)
   pub same_output : output' ≡ output
   pub same_errors : errors' ≡ errors
 
--- This is the status of a call whose Table D has a sequence that contains itself.
+-- The status is 143, because a sequence in Table D contains itself.
 abbrev pub IsCycleStatus : List Sequence → ℤ → Type 0
 IsCycleStatus table status = (status ≡ pos 143) × ((fxy : ℕ) × IsFirstCycle table fxy)
 
--- This is the status of a call with an invalid table: the number of the fault plus `more`, or 73.
+-- The status reports a fault in a table. It is the fault number plus `more`, or 73 if memory ran
+-- out.
 abbrev pub IsTableStatus : (more : ℕ) → TableFault → ℤ → Type 0
 IsTableStatus more fault status =
     (status ≡ pos (more + (table_report fault).0)) ⊎ (status ≡ pos 73)
 
--- The call processed its input (0), or as much of it as there is room for (74).
+-- The call processed all of its input (status 0), or stopped because the buffers lacked room
+-- (status 74).
 abbrev pub HasRun : ℤ → Type 0
 HasRun status = (status ≡ pos 0) ⊎ (status ≡ pos 74)
 
--- Both tables can be read, and the condition holds for them.
+-- Both tables can be read, and they meet the condition `Holds`.
 pub record HoldsBy (table_b table_d : List ℕ) (Holds : List Row → List Sequence → Type 0)
     : Type 0 where
   pub b : List Row
@@ -187,15 +190,15 @@ pub record HoldsBy (table_b table_d : List ℕ) (Holds : List Row → List Seque
   pub is_d : table_d_of (records_of table_d) ≡ Ok d
   pub holds : Holds b d
 
--- Both tables can be read, and the first condition holds for them; or the status is neither 0 nor
--- 74, and the second condition holds.
+-- Either both tables can be read and meet the condition `Holds`, or the status is neither 0 nor 74
+-- and the condition `Otherwise` is true.
 abbrev pub ByTables : (table_b table_d : List ℕ) → (status : ℤ)
     → (List Row → List Sequence → Type 0) → Type 0 → Type 0
 ByTables table_b table_d status Holds Otherwise =
     HoldsBy table_b table_d Holds ⊎ ((¬ HasRun status) × Otherwise)
 
--- This is the status of a call that reads tables. If a table is invalid, the status reports its
--- fault, unless memory runs out.
+-- A call that reads tables can return the given status. If a table is invalid, the status reports
+-- the fault in it, or that memory ran out.
 pub record CallStatus (table_b table_d : List ℕ) (status : ℤ) : Type 0 where
   pub read : IfOk (table_b_of (records_of table_b)) (λ _.
       IfOk (table_d_of (records_of table_d)) (λ d. IsRunStatus status ⊎ IsCycleStatus d status))
@@ -203,8 +206,8 @@ pub record CallStatus (table_b table_d : List ℕ) (status : ℤ) : Type 0 where
   pub no_table_d : IfOk (table_b_of (records_of table_b)) (λ _.
       IfErr (table_d_of (records_of table_d)) (λ fault. IsTableStatus 100 fault status))
 
--- The messages of the text from offset `from` on were written; or there is no room for them, and
--- nothing was written.
+-- The messages encoded from the text that starts at offset `from` were written, or the buffers
+-- lacked room for them and nothing was written.
 pub record Encodes (pieces : List Piece) (octets : List ℕ) (from : ℕ) (output errors : List ℕ)
     (texts : Texts) (output' errors' : List ℕ) (status : ℤ) : Type 0 where
   pub ran : HasRun status

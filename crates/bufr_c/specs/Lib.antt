@@ -1,8 +1,8 @@
--- a line with another offset in place of the one that it reports
+-- a fault line with its offset replaced
 pub mod Moving
--- what a command writes for an event, and the text of an event
+-- the text that a command writes for an event
 pub mod Commands
 -- what a call leaves in the caller's buffers
 pub mod Leaving
--- the rows of items and of messages
+-- the rows for items and messages
 pub mod Rows

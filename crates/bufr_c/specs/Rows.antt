@@ -1,4 +1,4 @@
--- Only contracts need this file. The rows of items and of messages. (own)
+-- Only contracts need this file. The rows for items and messages. (own)
 use Rattle.std.specs.Prelude.{ℕ, ◌≡◌, ◌≤◌, ◌<◌, ◌⊎◌, ◌+◌, ◌^◌, ◌-◌, take, drop, ℤ, pos, neg_ℤ, int_lt, Bool, true, false, List, [], ◌∷◌, ◌++◌, length, nat_eq, Option, Some, None, Result, Ok, Err, if◌then◌else◌}
 use Rattle.std.specs.List.{list_any}
 use Rattle.std.specs.Int.{w128, to_le_bytes, cast_unsigned, from_bool}
@@ -14,10 +14,11 @@ use Rattle.bufr_c.specs.declared.rows.Counts.{Counts}
 use Rattle.bufr_c.specs.declared.rows.RowBuffers.{RowBuffers}
 use Rattle.bufr_c.specs.Leaving.{PassesOver, events_from}
 
--- ---- The rows of the items of one message.
+-- ---- The rows for the items in one message.
 
--- the rows of items and the octets of their texts, and what the next row needs: the wanted
--- descriptors, the index of the message, the index of the first octet of its texts, and the subset
+-- The rows for items and the octets of their strings, together with what the next row needs: the
+-- wanted descriptors, the message index, the index of the first octet of the message's strings, and
+-- the subset number.
 pub record Put : Type 0 where
   pub wanted : List ℕ
   pub message : ℕ
@@ -26,7 +27,7 @@ pub record Put : Type 0 where
   pub items : List ValueRow
   pub octets : List ℕ
 
--- no rows of a message yet
+-- the state before any row for a message is added
 abbrev pub no_items : (wanted : List ℕ) → (message base : ℕ) → Put
 no_items wanted message base =
     record {
@@ -38,7 +39,7 @@ no_items wanted message base =
       octets = [];
     }
 
--- a row from its parts
+-- the row for an item with the given values
 abbrev pub item_by : Put → (fxy kind : ℕ) → (scale value : ℤ) → (length : ℕ) → ValueRow
 item_by p fxy kind scale value length =
     record {
@@ -52,12 +53,12 @@ item_by p fxy kind scale value length =
       reserved = 0;
     }
 
--- the rows after one more, which has no octets
+-- the rows after adding a row without octets
 abbrev pub with_item : Put → (fxy kind : ℕ) → (scale value : ℤ) → (length : ℕ) → Put
 with_item p fxy kind scale value length =
     record p { items = p.items ++ item_by p fxy kind scale value length ∷ [] }
 
--- the rows after one more, which has octets; its value is the index of the first of them
+-- the rows after adding a row with octets; the row's value is the index of its first octet
 abbrev pub with_text : Put → (fxy kind : ℕ) → (scale : ℤ) → List ℕ → Put
 with_text p fxy kind scale octets =
     record p {
@@ -66,63 +67,63 @@ with_text p fxy kind scale octets =
       octets = p.octets ++ octets;
     }
 
--- the rows after a number that does not fit in 64 bits
+-- the rows after adding a number that does not fit in 64 bits
 abbrev pub with_wide : Put → (fxy : ℕ) → (scale value : ℤ) → Put
 with_wide p fxy scale n = with_text p fxy 4 scale (to_le_bytes w128 (cast_unsigned w128 n))
 
--- the rows after a number, which is wide if it does not fit in 64 bits
+-- the rows after adding a number; `with_wide` adds numbers that do not fit in 64 bits
 abbrev pub with_number : Put → (fxy : ℕ) → (scale value : ℤ) → Put
 with_number p fxy scale n =
     if int_lt n (neg_ℤ (pos (2 ^ 63))) then with_wide p fxy scale n
     else (if int_lt (pos (2 ^ 63 - 1)) n then with_wide p fxy scale n
     else with_item p fxy 1 scale n 0)
 
--- the rows after an item with this value
+-- the rows after adding an item with the given value
 abbrev pub with_value : Put → (fxy : ℕ) → ShownValue → Put
 with_value p fxy (shown_number n scale) = with_number p fxy scale n
 with_value p fxy (shown_text octets) = with_text p fxy 2 (pos 0) octets
 with_value p fxy shown_missing = with_item p fxy 0 (pos 0) (pos 0) 0
 with_value p fxy (shown_reference n) = with_item p fxy 3 (pos 0) n 0
 
--- whether a descriptor is wanted: one of the list, or any if the list is empty
+-- whether a descriptor is wanted; if the list of wanted descriptors is empty, all are wanted
 abbrev pub is_wanted : List ℕ → (fxy : ℕ) → Bool
 is_wanted [] fxy = true
 is_wanted (first ∷ more) fxy = list_any (λ wanted. nat_eq wanted fxy) (first ∷ more)
 
--- the rows after a call of a visitor
+-- the rows after a call to a visitor
 abbrev pub with_call : Put → Call → Put
 with_call p (subset_call number) = record p { subset = number }
 with_call p (item_call v) =
     if is_wanted p.wanted v.fxy then with_value p v.fxy v.value else p
 
--- The rows are those after the call, unless memory ran out.
+-- The given call to a visitor has updated the rows, unless memory ran out.
 abbrev pub PutsCall : {E : Type 0} → Put → Call → Result (Unit {0}) E → Put → Type 0
 PutsCall p call (Ok _) q = q ≡ with_call p call
 PutsCall p call (Err _) q = Unit {0}
 
--- the rows after all calls of a visitor
+-- the rows after several calls to a visitor
 abbrev pub with_calls : Put → List Timed → Put
 with_calls p [] = p
 with_calls p (t ∷ calls) = with_calls (with_call p t.call) calls
 
--- the rows after the items of data that are read without a fault; no more rows if there is a fault
+-- the rows after adding the items in the data; unchanged if the data contain a fault
 abbrev pub data_put : Put → List Timed → Option WalkFault → Put
 data_put p calls None = with_calls p calls
 data_put p calls (Some why) = p
 
--- the rows after the items of a message with this template; no more rows if its descriptors have
--- none
+-- the rows after adding the items of a message, given its template; unchanged if the template or
+-- the data contain a fault
 abbrev pub template_put : List Row → Sections → Put → Result Tree TemplateFault → Put
 template_put table s p (Ok template) =
     data_put p (calls_of (read_by table template (data_of s) 0 0))
     (fault_of (data_of s) (reading_of (next_item table template) (data_of s)))
 template_put table s p (Err fault) = p
 
--- the rows after the items of a message; no more rows if it is refused
+-- the rows after adding the items of a message; unchanged if the message is rejected
 abbrev pub message_put : List Row → List Sequence → Sections → Put → Put
 message_put b d s p = template_put b s p (tree_of (tables_of b d) s.descriptors)
 
--- ---- The number of the fault of a message, or 0 if it has none.
+-- ---- The number of the fault in a message, or 0 if there is no fault.
 
 abbrev pub data_fault : Option WalkFault → ℕ
 data_fault None = 0
@@ -136,9 +137,9 @@ template_fault table s (Err fault) = (template_report fault).0
 abbrev pub message_fault : List Row → List Sequence → Sections → ℕ
 message_fault b d s = template_fault b s (tree_of (tables_of b d) s.descriptors)
 
--- ---- The row of a message.
+-- ---- The row for a message.
 
--- the row of a message that cannot be divided into its sections, or of a stray `BUFR`
+-- the row for a stray `BUFR`, or for a message that cannot be split into sections
 abbrev pub plain_row : (offset length first fault : ℕ) → MessageRow
 plain_row offset length first fault =
     record {
@@ -169,7 +170,7 @@ plain_row offset length first fault =
       reserved = 0;
     }
 
--- the row of a message with its header
+-- the row for a message that can be split into sections, including the fields of its header
 abbrev pub head_row : Sections → (offset first items fault : ℕ) → MessageRow
 head_row s offset first items fault =
     record {
@@ -200,9 +201,9 @@ head_row s offset first items fault =
       reserved = 0;
     }
 
--- ---- The rows of events.
+-- ---- The rows for events.
 
--- the rows of items, the octets of their texts, and the rows of messages
+-- the rows for items, the octets of their strings, and the rows for messages
 pub record Rows : Type 0 where
   pub items : List ValueRow
   pub octets : List ℕ
@@ -211,12 +212,12 @@ pub record Rows : Type 0 where
 abbrev pub no_rows : Rows
 no_rows = record { items = []; octets = []; messages = [] }
 
--- the rows of one event that cannot be read
+-- the rows for a stray `BUFR`, or for a message that cannot be split into sections
 abbrev pub fault_rows : (offset length first fault : ℕ) → Rows
 fault_rows offset length first fault =
     record { items = []; octets = []; messages = plain_row offset length first fault ∷ [] }
 
--- the rows of the items of a message, and the row of the message itself
+-- the rows for the items of a message, and the row for the message itself
 abbrev pub put_rows : Put → Sections → (offset first fault : ℕ) → Rows
 put_rows p s offset first fault =
     record {
@@ -225,14 +226,14 @@ put_rows p s offset first fault =
       messages = head_row s offset first (length p.items) fault ∷ [];
     }
 
--- where the rows of an event are placed: the index of its row, that of the first octet of its
--- texts, and that of its first item
+-- the place of an event's rows: the indices of the event's own row, the first octet of its strings,
+-- and its first item
 pub record RowPlace : Type 0 where
   pub message : ℕ
   pub base : ℕ
   pub first : ℕ
 
--- the place after these rows
+-- the place directly after the given rows
 abbrev pub place_after : Rows → RowPlace
 place_after before =
     record {
@@ -241,7 +242,7 @@ place_after before =
       first = length before.items;
     }
 
--- the rows of a message with these sections, or with a fault in them
+-- the rows for a message, given its sections or the fault in them
 abbrev pub sections_rows : List Row → List Sequence → (wanted : List ℕ) → RowPlace
     → (offset length : ℕ) → Result Sections SectionFault → Rows
 sections_rows b d wanted place offset size (Ok s) =
@@ -250,14 +251,14 @@ sections_rows b d wanted place offset size (Ok s) =
 sections_rows b d wanted place offset size (Err fault) =
     fault_rows offset size place.first (section_report fault).0
 
--- the rows of an event
+-- the rows for an event
 abbrev pub rows_of : List Row → List Sequence → (wanted : List ℕ) → RowPlace → StreamEvent → Rows
 rows_of b d wanted place (FrameAt offset octets) =
     sections_rows b d wanted place offset (length octets) (sections_of octets)
 rows_of b d wanted place (StrayAt offset cause) =
     fault_rows offset 4 place.first (cause_report cause).0
 
--- two groups of rows, one after the other
+-- the concatenation of two groups of rows
 abbrev pub join_rows : Rows → Rows → Rows
 join_rows before more =
     record {
@@ -266,7 +267,7 @@ join_rows before more =
       messages = before.messages ++ more.messages;
     }
 
--- rows, followed by those of these events
+-- the given rows, followed by the rows for the given events
 abbrev pub rows_after : List Row → List Sequence → (wanted : List ℕ) → Rows → List StreamEvent
     → Rows
 rows_after b d wanted before [] = before
@@ -275,7 +276,7 @@ rows_after b d wanted before (event ∷ events) =
 
 -- ---- What a call leaves in the caller's buffers.
 
--- rows from their parts
+-- item rows, octets and message rows, combined into one record
 abbrev pub three : List ValueRow → List ℕ → List MessageRow → Rows
 three items octets messages = record { items = items; octets = octets; messages = messages }
 
@@ -283,14 +284,14 @@ three items octets messages = record { items = items; octets = octets; messages 
 abbrev pub rows_at : RowBuffers → Rows
 rows_at buffers = three buffers.items.now buffers.texts.now buffers.messages.now
 
--- The buffers are the same ones, and the reserved members are unchanged.
+-- The buffers are the same, and the reserved members are unchanged.
 pub record SameBuffers (old new : RowBuffers) : Type 0 where
   pub items : new.items.ghost_name ≡ old.items.ghost_name
   pub texts : new.texts.ghost_name ≡ old.texts.ghost_name
   pub messages : new.messages.ghost_name ≡ old.messages.ghost_name
   pub reserved : new.reserved ≡ old.reserved
 
--- the rows of one event: those of its items, and its own
+-- the rows for an event's items, and the event's own row
 abbrev pub rows_in : Put → MessageRow → Rows
 rows_in p row = three p.items p.octets (row ∷ [])
 
@@ -299,7 +300,7 @@ abbrev pub row_place : Counts → RowPlace
 row_place counts =
     record { message = counts.messages; base = counts.octets; first = counts.items }
 
--- The buffers begin with these rows, and `counts` has their numbers.
+-- The buffers begin with the given rows, and `counts` contains the row and octet counts.
 pub record LeavesRows (room : Rows) (counts : Counts) (rows : Rows) : Type 0 where
   pub items : take counts.items room.items ≡ rows.items
   pub octets : take counts.octets room.octets ≡ rows.octets
@@ -308,7 +309,8 @@ pub record LeavesRows (room : Rows) (counts : Counts) (rows : Rows) : Type 0 whe
   pub octets_fit : counts.octets ≤ length room.octets
   pub messages_fit : counts.messages ≤ length room.messages
 
--- There is no room for these rows, and `counts` says how much they need.
+-- The buffers lack room for the given rows, and `counts` states how many rows and octets are
+-- needed.
 pub record LacksRowRoom (room : Rows) (counts : Counts) (rows : Rows) : Type 0 where
   pub items_needed : counts.items_needed ≡ length rows.items
   pub octets_needed : counts.octets_needed ≡ length rows.octets
@@ -323,7 +325,7 @@ pub record LeavesRowsRest (before : Rows) (counts : Counts) (after : Rows) : Typ
   pub octets_rest : drop counts.octets after.octets ≡ drop counts.octets before.octets
   pub messages_rest : drop counts.messages after.messages ≡ drop counts.messages before.messages
 
--- Rows were appended to the earlier ones.
+-- The given rows were appended to the earlier rows.
 pub record HasPutRows (rows : Rows) (old : Counts) (before : Rows) (new : Counts) (after : Rows)
     : Type 0 where
   pub leaves : LeavesRows after new (join_rows (three (take old.items before.items)
@@ -332,7 +334,7 @@ pub record HasPutRows (rows : Rows) (old : Counts) (before : Rows) (new : Counts
   pub at : new.at ≡ old.at
   pub reserved : new.reserved ≡ old.reserved
 
--- There is no room for rows, and nothing was written.
+-- The buffers lacked room for the given rows, and nothing was written.
 pub record HasNoRowRoom (rows : Rows) (old : Counts) (before : Rows) (new : Counts) (after : Rows)
     : Type 0 where
   pub same : after ≡ before
@@ -343,20 +345,20 @@ pub record HasNoRowRoom (rows : Rows) (old : Counts) (before : Rows) (new : Coun
   pub reserved : new.reserved ≡ old.reserved
   pub lacks : LacksRowRoom after new rows
 
--- The rows were appended if there was room for them (`true`); if not, nothing was written.
+-- The rows were appended (`true`), or nothing was written for lack of room.
 abbrev pub PutsRows : Rows → Counts → Rows → Counts → Rows → Bool → Type 0
 PutsRows rows old before new after true = HasPutRows rows old before new after
 PutsRows rows old before new after false = HasNoRowRoom rows old before new after
 
--- There is no room for the rows of the first of these events.
+-- The buffers lack room for the first event's rows.
 abbrev pub StopsBeforeRows : List Row → List Sequence → (wanted : List ℕ) → (room : Rows)
     → Counts → List StreamEvent → Type 0
 StopsBeforeRows b d wanted room counts [] = ⊥
 StopsBeforeRows b d wanted room counts (next ∷ more) =
     LacksRowRoom room counts (rows_of b d wanted (row_place counts) next)
 
--- A call wrote the rows of the events that it processed. Status 74 means that there is no room for
--- those of the next one.
+-- A call wrote the rows for the events that it processed. Status 74 means that the buffers lack
+-- room for the next event's rows.
 pub record PassesRows (b : List Row) (d : List Sequence) (wanted octets : List ℕ) (from : ℕ)
     (room : Rows) (counts : Counts) (status : ℤ) : Type 0 where
   pub passed : List StreamEvent
@@ -365,7 +367,7 @@ pub record PassesRows (b : List Row) (d : List Sequence) (wanted octets : List �
   pub stops : status ≡ pos 74
       → StopsBeforeRows b d wanted room counts (events_from counts.at octets)
 
--- A call wrote nothing, and the next call begins at the same offset.
+-- A call wrote nothing, and the next call will begin at the same offset.
 pub record WritesNoRows (from : ℕ) (before : Rows) (counts : Counts) (after : Rows) : Type 0 where
   pub at : counts.at ≡ from
   pub items : counts.items ≡ 0

@@ -17,7 +17,7 @@ use crate::texts::{
 };
 use std::alloc::Global;
 
-/// Returns the version of the library: 1,000,000 * major + 1,000 * minor + patch.
+/// Returns the version of the library, encoded as 1,000,000 * major + 1,000 * minor + patch.
 #[unsafe(no_mangle)]
 pub extern "C" fn bufr_version() -> u32
     ensures { result ≡ 1000 }
@@ -25,11 +25,11 @@ pub extern "C" fn bufr_version() -> u32
     1_000
 }
 
-/// Lists the messages of a stream, starting at `texts.at`.
+/// Lists the messages in a stream, starting at offset `texts.at`.
 ///
-/// Writes a line for each accepted message to `lines`, and a fault line for each stray and each
-/// rejected message to `faults`. Returns 0 at the end of the stream, 73 if memory runs out, and 74
-/// before the first event whose line does not fit.
+/// Writes a line for each accepted message to `lines`, and a fault line for each stray `BUFR` and
+/// each rejected message to `faults`. Returns 0 at the end of the stream, 73 if memory runs out, or
+/// 74 if the line for the next event does not fit into the buffer.
 #[unsafe(no_mangle)]
 pub extern "C" fn bufr_list(
     alloc: Global,
@@ -49,12 +49,13 @@ pub extern "C" fn bufr_list(
     write_events(&run, octets, lines, faults, texts)
 }
 
-/// Dumps the messages of a stream, starting at `texts.at`.
+/// Dumps the messages in a stream, starting at offset `texts.at`.
 ///
-/// Writes the dump of each accepted message to `text`, and a fault line for each stray and each
-/// rejected message to `faults`. Returns 0 at the end of the stream, 73 if memory runs out, and 74
-/// before the first event whose text or fault line does not fit. If a table cannot be read, returns
-/// the number of its fault, plus 100 for Table D.
+/// Writes the dump of each accepted message to `text`, and a fault line for each stray `BUFR` and
+/// each rejected message to `faults`. Returns 0 at the end of the stream, 73 if memory runs out, or
+/// 74 if the dump or the fault line for the next event does not fit into the buffer. If Table B is
+/// invalid, returns the number of its fault. If Table D is invalid, returns 100 plus the number of
+/// its fault.
 #[tactic(auto, using(crate::proofs::EventLemmas::unread, crate::proofs::EventLemmas::dump_read, crate::proofs::EventLemmas::ran_status))]
 #[unsafe(no_mangle)]
 pub extern "C" fn bufr_dump(
@@ -83,12 +84,13 @@ pub extern "C" fn bufr_dump(
     write_events(&run, input.octets, text, faults, texts)
 }
 
-/// Encodes the documents of a text, starting at `texts.at`, up to the first that is rejected.
+/// Encodes documents as messages. Encoding starts at offset `texts.at` and stops at the first
+/// invalid document.
 ///
-/// Writes the messages to `messages`, and the fault line of the rejected document to `faults`.
-/// Returns 0 if all of this fits. If either buffer is too small, returns 74, writes nothing, and
-/// reports the required room in `texts`. Returns 75 if there is no form with this number. The other
-/// statuses are those of [`bufr_dump`].
+/// Writes the messages to `messages`, and the fault line for the rejected document, if any, to
+/// `faults`. Returns 0 if the whole output fits into the two buffers. If either buffer is too
+/// small, returns 74, writes nothing, and reports the required space in `texts`. Returns 75 if
+/// `input.form` is not a valid form number. The other statuses are the same as for [`bufr_dump`].
 #[tactic(auto, using(crate::proofs::EventLemmas::encode_unread, crate::proofs::EventLemmas::encode_read, crate::proofs::EventLemmas::known_status, crate::proofs::EventLemmas::known_form, crate::proofs::EventLemmas::unknown_form, crate::proofs::EventLemmas::ran_status, crate::proofs::EventLemmas::memory_status, crate::proofs::EventLemmas::stopped_73))]
 #[unsafe(no_mangle)]
 pub extern "C" fn bufr_encode(
@@ -133,12 +135,12 @@ pub extern "C" fn bufr_encode(
     DONE
 }
 
-/// Reads the items of the messages of a stream, starting at `counts.at`.
+/// Reads the items of the messages in a stream, starting at offset `counts.at`.
 ///
-/// Writes a row for each wanted item to `rows.items`, the octets of strings and wide numbers to
-/// `rows.texts`, and a row for each message or stray to `rows.messages`. Returns 0 at the end of
-/// the stream, 73 if memory runs out, and 74 before the first event that does not fit. If a table
-/// cannot be read, returns its fault as [`bufr_dump`] does.
+/// Writes a row for each requested item to `rows.items`, the octets of strings and wide numbers to
+/// `rows.texts`, and a row for each message or stray `BUFR` to `rows.messages`. Returns 0 at the
+/// end of the stream, 73 if memory runs out, or 74 if the rows for the next event do not fit into
+/// the buffers. If a table is invalid, returns the same status as [`bufr_dump`].
 #[tactic(auto, using(crate::proofs::RowLemmas::unread_rows, crate::proofs::RowLemmas::buffers_here, crate::proofs::RowLemmas::items_read, crate::proofs::EventLemmas::ran_status))]
 #[unsafe(no_mangle)]
 pub extern "C" fn bufr_items(

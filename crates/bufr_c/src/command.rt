@@ -1,4 +1,4 @@
-//! The text of one event, as the program `bufr` writes it.
+//! The output and the fault line for one event, as the program `bufr` writes them.
 ghost use Rattle.std.specs.Prelude.{◌≡◌, ◌∷◌, [], false, IfOk, OnOk};
 ghost use Rattle.bufr_frame.specs.Prelude.{scan, FrameAt, cause_report};
 ghost use Rattle.bufr_cli.specs.Prelude.{OnErrors, dump_piece, encode_pieces, fault_line, ls_piece};
@@ -14,38 +14,39 @@ use bufr_tables::{TableB, TableD};
 use bufr_text::Form;
 use std::alloc::Global;
 
-/// A command that runs on a stream.
+/// A command that processes a stream.
 #[derive(Clone, Copy)]
 pub(crate) enum Command<'t> {
-    /// `bufr ls`.
+    /// The command `bufr ls`.
     List,
-    /// `bufr dump`, using these tables.
+    /// The command `bufr dump`, with the tables that it uses.
     Dump(&'t TableB, &'t TableD),
 }
 
-/// A command and its allocator.
+/// A command, with the allocator that it uses.
 #[derive(Clone, Copy)]
 pub(crate) struct Run<'t> {
     pub(crate) alloc: Global,
     pub(crate) command: Command<'t>,
 }
 
-/// The text of one event, and the buffers that are reused to build it.
+/// The output and the fault line for one event, with buffers that are reused for each event.
 #[derive(Drop)]
 pub(crate) struct EventText {
     alloc: Global,
-    /// The text for the output.
+    /// The text to write to the output.
     pub(crate) output: TextOut,
-    /// The text for the error output.
+    /// The text to write to the error output.
     pub(crate) errors: TextOut,
     /// Whether the event is an accepted message.
     pub(crate) accepted: bool,
-    /// Output and fault lines with offset 0, before the offset is corrected.
+    /// The output and the fault lines of a command that ran on the message alone, at offset 0. The
+    /// text is then copied with the correct offset.
     lines: TextOut,
     faults: TextOut,
 }
 
-/// Returns the fault line of a stray at offset 0.
+/// Returns the fault line for a stray `BUFR` at offset 0.
 fn stray_line(cause: Cause) -> &'static [u8]
     ensures { result.now ≡ fault_line 0 (cause_report cause) }
 {
@@ -68,7 +69,7 @@ impl EventText {
         }
     }
 
-    /// Clears all text, but keeps its memory allocated.
+    /// Clears all text without freeing its memory.
     fn clear(&mut self)
         ensures output { self.new.output.octets.items ≡ [] }
         ensures errors { self.new.errors.octets.items ≡ [] }
@@ -83,7 +84,7 @@ impl EventText {
         self.accepted = false;
     }
 
-    /// Sets the text to the fault line of a stray.
+    /// Sets the error text to the fault line for a stray `BUFR` at `offset`.
     pub(crate) fn set_stray(&mut self, offset: u64, cause: Cause) -> Result<(), RunFault>
         ensures { OnOk result (IsTextOf self.new
             (OnErrors (fault_line offset (cause_report cause)))) }
@@ -92,8 +93,8 @@ impl EventText {
         write_moved(stray_line(cause), offset, &mut self.errors)
     }
 
-    /// Sets the text to what `bufr ls` writes for a message. Lists the message alone, as if it were
-    /// at offset 0, and then corrects the offset.
+    /// Sets the text to the output of `bufr ls` for a message at `offset`. The command runs on the
+    /// message alone, which is then at offset 0, and the offset is corrected afterwards.
     fn set_listed(&mut self, offset: u64, octets: &[u8]) -> Result<(), RunFault>
         requires { scan octets.now ≡ FrameAt 0 octets.now ∷ [] }
         ensures { OnOk result (IsTextOf self.new (ls_piece (FrameAt offset octets.now))) }
@@ -106,7 +107,9 @@ impl EventText {
         write_moved(self.faults.octets.as_slice(), offset, &mut self.errors)
     }
 
-    /// Sets the text to what `bufr dump` writes for a message, in the same way.
+    /// Sets the text to the output of `bufr dump` for a message at `offset`. The command runs on
+    /// the message alone, which is then at offset 0, and the offset in a fault line is corrected
+    /// afterwards.
     fn set_dumped(
         &mut self,
         offset: u64,
@@ -125,7 +128,7 @@ impl EventText {
         write_moved(self.faults.octets.as_slice(), offset, &mut self.errors)
     }
 
-    /// Sets the text to what a command writes for a message.
+    /// Sets the text to the output of a command for a message at `offset`.
     pub(crate) fn set_message(
         &mut self,
         command: &Command<'_>,
@@ -142,7 +145,7 @@ impl EventText {
         }
     }
 
-    /// Sets the text to what `bufr encode` writes for all documents of a text.
+    /// Sets the text to the output of `bufr encode` for all documents in `octets`.
     #[tactic(auto, using(crate::proofs::EventLemmas::all_encoded))]
     pub(crate) fn set_encoded(
         &mut self,

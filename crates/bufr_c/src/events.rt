@@ -1,4 +1,5 @@
-//! Finds the events of a stream in memory, and writes their texts into the caller's buffers.
+//! Finds the events in a stream in memory, and writes their output and fault lines into the
+//! caller's buffers.
 ghost use Rattle.std.specs.Prelude.{◌≡◌, ◌≤◌, ◌+◌, ◌++◌, length, take, drop, codes, OnOk, IfOk};
 ghost use Rattle.bufr_frame.specs.Prelude.{StartsWithBufr};
 ghost use Rattle.bufr_c.specs.Commands.{piece_by};
@@ -9,17 +10,18 @@ use crate::texts::{DONE, NO_ROOM, OUT_OF_MEMORY, Texts};
 use bufr_frame::{Cause, RunFault};
 use memchr::memmem;
 
-/// What begins at an occurrence of `BUFR`.
+/// A message or a stray. Both begin with the word `BUFR`.
 #[derive(Clone, Copy)]
 pub(crate) enum Candidate {
-    /// A stray, and its cause.
+    /// A stray `BUFR`, with its cause.
     Stray(Cause),
-    /// A message of this length in octets.
+    /// A message, with its length in octets.
     Frame(usize),
 }
 
-/// Returns what begins at the start of `m`, which starts with `BUFR`. The checks are made in the
-/// order of the fault numbers, and the first one that fails decides.
+/// Determines whether a message or a stray begins at the start of `m`, which starts with `BUFR`.
+/// The checks are made in the order of the fault numbers, and the first check that fails determines
+/// the cause of the stray.
 pub(crate) fn classify(m: &[u8]) -> Candidate
     requires { StartsWithBufr m.now }
     ensures { IsCandidate m.now result }
@@ -40,8 +42,8 @@ pub(crate) fn classify(m: &[u8]) -> Candidate
     Candidate::Frame(len)
 }
 
-/// Sets `text` to the text of the event at the start of `m`, which starts with `BUFR`. Returns the
-/// number of octets to skip before the search continues.
+/// Sets `text` to the output and the fault line for the event at the start of `m`, which starts
+/// with `BUFR`. Returns the number of octets to skip before searching for the next event.
 fn set_event(
     command: &Command<'_>,
     offset: u64,
@@ -64,7 +66,8 @@ fn set_event(
     }
 }
 
-/// Copies `values` into `to`, from index `at` on. Returns the index after the last copied value.
+/// Copies `values` into `to`, starting at index `at`. Returns the index after the last copied
+/// value.
 pub(crate) fn put<T: Copy>(values: &[T], at: usize, to: &mut [T]) -> usize
     requires { at + length values.now ≤ length to.old }
     ensures end { result ≡ at + length values.now }
@@ -77,8 +80,8 @@ pub(crate) fn put<T: Copy>(values: &[T], at: usize, to: &mut [T]) -> usize
     end
 }
 
-/// Appends the text of an event to the earlier texts if there is room, and returns whether there
-/// is. If not, sets the room that the event needs in `texts`.
+/// If the caller's buffers have enough space, appends the output and the fault line for an event to
+/// them and returns `true`. Otherwise, reports the required space in `texts` and returns `false`.
 pub(crate) fn write_text(
     text: &EventText,
     output: &mut [u8],
@@ -104,8 +107,8 @@ pub(crate) fn write_text(
     true
 }
 
-/// Writes the texts of the events from `texts.at` on, one event at a time, while there is room.
-/// Returns the status of the call.
+/// Writes the output and the fault lines for the events, starting at offset `texts.at`, until the
+/// next event does not fit into the buffers. Returns the status of the call.
 #[tactic(auto, using(crate::proofs::EventLemmas::so_far_stopped))]
 pub(crate) fn write_events(
     run: &Run<'_>,

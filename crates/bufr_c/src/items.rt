@@ -1,4 +1,4 @@
-//! The items of one message as rows.
+//! Rows for the items of one message.
 ghost use Rattle.std.specs.Prelude.{◌≡◌, ◌≤◌, length, OnOk, IfOk, [], pos};
 ghost use Rattle.bufr_frame.specs.Prelude.{sections_of, FrameAt, StartsWithBufr};
 ghost use Rattle.bufr_c.specs.Leaving.{FindsEvent};
@@ -13,13 +13,14 @@ use bufr_walk::{ItemView, SpecCache, Steps, TemplateCache, Value, Visitor, WalkF
 use std::alloc::{AllocError, Global};
 use std::marker::Model;
 
-/// The rows of the items of one message, and the octets of their texts.
+/// The rows for the items of one message, and the octets of its strings and wide numbers.
 #[derive(Drop)]
 pub(crate) struct ItemsOut<'w> {
     wanted: &'w [u16],
-    /// The index of the message among the rows of messages.
+    /// The index of the message's row in the caller's buffer.
     message: u32,
-    /// The index, in the caller's buffer, of the first octet of the message's texts.
+    /// The index, in the caller's buffer, of the first octet of the message's strings and wide
+    /// numbers.
     base: usize,
     subset: u16,
     pub(crate) items: Vec<ValueRow>,
@@ -55,7 +56,7 @@ impl<'w> ItemsOut<'w> {
         }
     }
 
-    /// Clears all rows, but keeps their memory allocated, and prepares for the next message.
+    /// Clears all rows without freeing their memory, and prepares for the next message.
     fn restart(&mut self, wanted: &'w [u16], message: u32, base: usize)
         ensures { self.new ≡ no_items wanted.now message base }
     {
@@ -67,14 +68,14 @@ impl<'w> ItemsOut<'w> {
         self.subset = 0;
     }
 
-    /// Returns whether items with this descriptor are wanted.
+    /// Returns whether the caller requested items with the given descriptor.
     fn is_wanted(&self, fxy: u16) -> bool
         ensures { result ≡ is_wanted self.now.wanted fxy }
     {
         self.wanted.is_empty() || self.wanted.contains(&fxy)
     }
 
-    /// Appends a row without octets.
+    /// Appends a row for an item without octets.
     fn put_row(&mut self, fxy: u16, kind: u8, scale: i16, value: i64) -> Result<(), AllocError>
         ensures { OnOk result (self.new ≡ with_item self.old fxy kind scale value 0) }
     {
@@ -91,7 +92,7 @@ impl<'w> ItemsOut<'w> {
         Ok(())
     }
 
-    /// Appends octets, and a row for them.
+    /// Appends the octets of an item, and a row for the item.
     fn put_text(&mut self, fxy: u16, kind: u8, scale: i16, octets: &[u8]) -> Result<(), AllocError>
         ensures { OnOk result (self.new ≡ with_text self.old fxy kind scale octets.now) }
     {
@@ -115,7 +116,7 @@ impl<'w> ItemsOut<'w> {
         Ok(())
     }
 
-    /// Appends a number that does not fit in 64 bits.
+    /// Appends a row for a number that does not fit in 64 bits, and the number itself as 16 octets.
     fn put_wide(&mut self, fxy: u16, scale: i16, number: i128) -> Result<(), AllocError>
         ensures { OnOk result (self.new ≡ with_wide self.old fxy scale number) }
     {
@@ -123,7 +124,8 @@ impl<'w> ItemsOut<'w> {
         self.put_text(fxy, WIDE, scale, &octets)
     }
 
-    /// Appends a number, which is wide if it does not fit in 64 bits.
+    /// Appends a row for a number. If the number does not fit in 64 bits, the row's kind is
+    /// [`WIDE`].
     fn put_number(&mut self, fxy: u16, scale: i16, number: i128) -> Result<(), AllocError>
         ensures { OnOk result (self.new ≡ with_number self.old fxy scale number) }
     {
@@ -161,7 +163,7 @@ impl<'w> Visitor for ItemsOut<'w> {
     }
 }
 
-/// Sets `list` to the descriptors of `message`.
+/// Sets `list` to the descriptor list of `message`.
 fn set_descriptors(list: &mut Vec<Fxy>, message: &Message<'_>) -> Result<(), AllocError>
     ensures { OnOk result (list.new.items ≡ message.now.descriptors) }
 {
@@ -174,14 +176,14 @@ fn set_descriptors(list: &mut Vec<Fxy>, message: &Message<'_>) -> Result<(), All
     Ok(())
 }
 
-/// A message and its template, borrowed for the same lifetime.
+/// A message and its template, which are borrowed for the same lifetime.
 struct Expanded<'a, 'o> {
     message: &'a Message<'o>,
     template: &'a Template,
 }
 
-/// Appends the items of a message, using the template that was selected. Returns the number of the
-/// message's fault, or 0 if it has none.
+/// Appends rows for the items of a message, using the template that `templates` has selected.
+/// Returns the number of the message's fault, or 0 if it has none.
 #[tactic(auto, using(crate::proofs::RowLemmas::message_done, crate::proofs::RowLemmas::message_refused, crate::proofs::RowLemmas::template_refused, crate::proofs::RowLemmas::message_done_fault, crate::proofs::RowLemmas::message_refused_fault, crate::proofs::RowLemmas::template_refused_fault))]
 fn put_selected(
     message: &Message<'_>,
@@ -214,15 +216,15 @@ fn put_selected(
     }
 }
 
-/// The rows of one event, and memory that is reused to build them.
+/// The rows for one event, with caches and buffers that are reused for each event.
 #[derive(Drop)]
 pub(crate) struct EventRows<'t> {
     templates: TemplateCache<'t>,
     descriptors: Vec<Fxy>,
     wanted: &'t [u16],
-    /// The rows of the event's items.
+    /// The rows for the items of the event.
     pub(crate) out: ItemsOut<'t>,
-    /// The row of the event itself.
+    /// The row for the message or the stray `BUFR`.
     pub(crate) row: MessageRow,
 }
 
@@ -241,8 +243,8 @@ impl<'t> EventRows<'t> {
         }
     }
 
-    /// Builds the rows of a message. `counts` says where in the caller's buffers they will be
-    /// written.
+    /// Builds the rows for a message. `counts` determines where the rows will be in the caller's
+    /// buffers.
     fn set_message(&mut self, offset: u64, octets: &[u8], counts: &Counts) -> Result<(), AllocError>
         requires { 12 ≤ length octets.now }
         ensures table_b { self.new.templates.table_b ≡ self.old.templates.table_b }
@@ -275,8 +277,8 @@ impl<'t> EventRows<'t> {
         Ok(())
     }
 
-    /// Builds the rows of the event at the start of `m`, which starts with `BUFR`. Returns the
-    /// number of octets to skip before the search continues.
+    /// Builds the rows for the event at the start of `m`, which starts with `BUFR`. Returns the
+    /// number of octets to skip before searching for the next event.
     pub(crate) fn set_event(
         &mut self,
         offset: u64,

@@ -1,5 +1,6 @@
-//! The library for C, and for any language that can call C: `bufr ls`, `bufr dump` and
-//! `bufr encode` on octets in memory, and the items of messages as rows of numbers.
+//! The library for C and for any language that can call C functions. The library runs `bufr ls`,
+//! `bufr dump` and `bufr encode` on data in memory, and reads the items of messages as rows of
+//! numbers.
 #![tactic(auto)]
 
 mod calls;

@@ -1,4 +1,4 @@
-//! Finds the events of a stream in memory, and writes their rows into the caller's buffers.
+//! Finds the events in a stream in memory, and writes their rows into the caller's buffers.
 ghost use Rattle.std.specs.Prelude.{◌≡◌, ◌≤◌, ◌+◌, ◌++◌, length, take, drop, codes, OnOk, IfOk};
 ghost use Rattle.bufr_c.specs.Leaving.{IsRunStatus};
 ghost use Rattle.bufr_c.specs.Rows.{LeavesRowsRest, PassesRows, PutsRows, SameBuffers, rows_at, rows_in};
@@ -9,8 +9,8 @@ use crate::rows::{Counts, RowBuffers};
 use crate::texts::{DONE, NO_ROOM, OUT_OF_MEMORY};
 use memchr::memmem;
 
-/// Appends the rows of an event to the earlier rows if there is room, and returns whether there is.
-/// If not, sets the room that the event needs in `counts`.
+/// If the caller's buffers have enough space, appends the rows for an event to them and returns
+/// `true`. Otherwise, reports the required space in `counts` and returns `false`.
 fn put_rows(event: &EventRows<'_>, rows: &mut RowBuffers<'_>, counts: &mut Counts) -> bool
     requires items { counts.old.items ≤ length rows.old.items.now }
     requires texts { counts.old.octets ≤ length rows.old.texts.now }
@@ -36,8 +36,8 @@ fn put_rows(event: &EventRows<'_>, rows: &mut RowBuffers<'_>, counts: &mut Count
     true
 }
 
-/// Writes the rows of the events from `counts.at` on, one event at a time, while there is room.
-/// Returns the status of the call.
+/// Writes the rows for the events, starting at offset `counts.at`, until the next event does not
+/// fit into the buffers. Returns the status of the call.
 #[tactic(auto, using(crate::proofs::RowLemmas::rows_stopped))]
 pub(crate) fn write_rows(
     event: &mut EventRows<'_>,

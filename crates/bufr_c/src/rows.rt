@@ -1,69 +1,72 @@
-//! The rows of items and of messages.
+//! Rows that describe items and messages.
 ghost use Rattle.std.specs.Prelude.{◌≡◌};
 ghost use Rattle.bufr_c.specs.Rows.{head_row, plain_row};
 
 use bufr_frame::Message;
 
-/// A missing value.
+/// The kind of an item whose value is missing.
 pub const MISSING: u8 = 0;
-/// A number: the value divided by ten to the power of the scale.
+/// The kind of an item that is a number. Dividing the item's value by 10^scale gives a number in
+/// the element's unit.
 pub const NUMBER: u8 = 1;
-/// A string of octets.
+/// The kind of an item that is a string.
 pub const TEXT: u8 = 2;
-/// A reference value that the data define.
+/// The kind of an item that redefines a reference value.
 pub const REFERENCE: u8 = 3;
-/// A number that does not fit in 64 bits: 16 octets, with the least significant first.
+/// The kind of a numeric item whose value does not fit in 64 bits. The number is stored in 16
+/// octets, least significant octet first.
 pub const WIDE: u8 = 4;
 
-/// The row of an item.
+/// A row that describes an item.
 #[repr(C)]
 #[derive(Clone, Copy, Debug, PartialEq, Eq)]
 pub struct ValueRow {
-    /// The number or the reference value. For a text or a wide number, the index of its first octet
-    /// in the texts.
+    /// The number or the reference value. For a string or a wide number, the index of the item's
+    /// first octet in the buffer `texts`.
     pub value: i64,
-    /// The index of the item's message among the rows of messages.
+    /// The index of the message's row in the buffer `messages`.
     pub message: u32,
-    /// The number of octets that the item has in the texts.
+    /// The number of octets that the item occupies in the buffer `texts`.
     pub length: u32,
-    /// The number of the subset, from 1.
+    /// The number of the item's subset. The first subset is number 1.
     pub subset: u16,
-    /// The descriptor: F, X and Y in 2, 6 and 8 bits.
+    /// The descriptor. F occupies the most significant 2 bits, X the next 6 bits, and Y the
+    /// remaining 8 bits.
     pub fxy: u16,
-    /// The scale of a number.
+    /// The scale, if the item is a number.
     pub scale: i16,
-    /// [`MISSING`], [`NUMBER`], [`TEXT`], [`REFERENCE`] or [`WIDE`].
+    /// The kind of the item: [`MISSING`], [`NUMBER`], [`TEXT`], [`REFERENCE`] or [`WIDE`].
     pub kind: u8,
-    /// 0 (reserved for later versions).
+    /// A field that is reserved for later versions. The value is always 0.
     pub reserved: u8,
 }
 
-/// The row of a message or a stray.
+/// A row that describes a message or a stray `BUFR`.
 #[repr(C)]
 #[derive(Clone, Copy, Debug, PartialEq, Eq)]
 pub struct MessageRow {
-    /// Where the message begins in the stream, in octets from 0.
+    /// The offset of the message or stray in the stream, in octets from 0.
     pub offset: u64,
-    /// The length in octets, which is 4 for a stray.
+    /// The length of the message in octets, or 4 for a stray.
     pub length: u64,
-    /// The index of the message's first item.
+    /// The index of the message's first item in the buffer `items`.
     pub first: usize,
-    /// The number of items.
+    /// The number of rows for the message's items.
     pub items: usize,
-    /// The originating centre.
+    /// The number of the originating centre.
     pub centre: u16,
-    /// The originating sub-centre.
+    /// The number of the originating sub-centre.
     pub subcentre: u16,
-    /// The year.
+    /// The year in the header. An edition 3 header contains the year of the century.
     pub year: u16,
     /// The number of subsets.
     pub subsets: u16,
-    /// The number of the fault, or 0 if the message was accepted.
+    /// The number of the fault that was found, or 0 if the message was accepted.
     pub fault: u8,
-    /// The edition. For a stray, or a message that cannot be divided into its sections, it is 0,
-    /// and so are all other values of the header.
+    /// The edition. For a stray, or for a message that cannot be split into its sections, the
+    /// edition and all other values of the header are 0.
     pub edition: u8,
-    /// The master table.
+    /// The number of the master table.
     pub master: u8,
     /// The update sequence number.
     pub update: u8,
@@ -73,9 +76,9 @@ pub struct MessageRow {
     pub subcategory: u8,
     /// The local data sub-category.
     pub local_subcategory: u8,
-    /// The version of the master table.
+    /// The version number of the master table.
     pub master_version: u8,
-    /// The version of the local tables.
+    /// The version number of the local tables.
     pub local_version: u8,
     /// The month.
     pub month: u8,
@@ -87,16 +90,16 @@ pub struct MessageRow {
     pub minute: u8,
     /// The second.
     pub second: u8,
-    /// 1 if the data are observed.
+    /// 1 for observed data, and 0 otherwise.
     pub observed: u8,
-    /// 1 if the data are compressed.
+    /// 1 for compressed data, and 0 otherwise.
     pub compressed: u8,
-    /// 0 (reserved for later versions).
+    /// A field that is reserved for later versions. The value is always 0.
     pub reserved: u64,
 }
 
 impl MessageRow {
-    /// Returns the row of a stray, or of a message whose header cannot be read.
+    /// Returns the row for a stray `BUFR`, or for a message whose header cannot be read.
     pub(crate) fn plain(offset: u64, length: u64, first: usize, fault: u8) -> MessageRow
         ensures { result ≡ plain_row offset length first fault }
     {
@@ -129,7 +132,7 @@ impl MessageRow {
         }
     }
 
-    /// Returns the row of a message with its header.
+    /// Returns the row for a message whose header can be read.
     pub(crate) fn of(
         message: &Message<'_>,
         offset: u64,
@@ -170,44 +173,49 @@ impl MessageRow {
     }
 }
 
-/// The buffers that [`crate::bufr_items`] writes to.
+/// The caller's buffers to which [`crate::bufr_items`] writes.
 #[repr(C)]
 #[derive(Drop)]
 pub struct RowBuffers<'a> {
-    /// The rows of items.
+    /// The buffer for the rows that describe items.
     pub items: &'a mut [ValueRow],
-    /// The octets of strings and wide numbers.
+    /// The buffer for the octets of strings and wide numbers.
     pub texts: &'a mut [u8],
-    /// The rows of messages.
+    /// The buffer for the rows that describe messages and strays.
     pub messages: &'a mut [MessageRow],
-    /// 0 (reserved for later versions).
+    /// A field that is reserved for later versions. The value must be 0.
     pub reserved: [u64; 2],
 }
 
-/// The progress of a call, and the number of rows and octets that it wrote.
+/// The progress of a call to [`crate::bufr_items`], and the numbers of rows and octets that it
+/// wrote.
 #[repr(C)]
 #[derive(Clone, Copy, Debug, PartialEq, Eq)]
 pub struct Counts {
-    /// Where the call begins, in octets from 0; afterwards, where the next call continues.
+    /// The offset in the stream, in octets from 0, at which the call starts. When the call returns,
+    /// the field contains the offset at which the next call should start.
     pub at: usize,
-    /// The number of rows written to the rows of items.
+    /// The number of rows written to the buffer `items`.
     pub items: usize,
-    /// The number of octets written to the texts.
+    /// The number of octets written to the buffer `texts`.
     pub octets: usize,
-    /// The number of rows written to the rows of messages.
+    /// The number of rows written to the buffer `messages`.
     pub messages: usize,
-    /// If the next event does not fit: the number of its items.
+    /// The number of rows that the next event needs in the buffer `items`, if the event does not
+    /// fit into the buffers.
     pub items_needed: usize,
-    /// If the next event does not fit: the number of octets that it has in the texts.
+    /// The number of octets that the next event needs in the buffer `texts`, if the event does not
+    /// fit into the buffers.
     pub octets_needed: usize,
-    /// If the next event does not fit: the number of its rows of messages, which is 1.
+    /// The number of rows that the next event needs in the buffer `messages`, if the event does not
+    /// fit into the buffers. The number is always 1.
     pub messages_needed: usize,
-    /// 0 (reserved for later versions).
+    /// A field that is reserved for later versions. The value is always 0.
     pub reserved: u64,
 }
 
 impl Counts {
-    /// Returns the counts of a call that begins at `at` and has not written anything.
+    /// Returns the initial counts for a call that starts at offset `at`.
     pub(crate) fn at(at: usize) -> Counts
         ensures at { result.at ≡ at }
         ensures items { result.items ≡ 0 }

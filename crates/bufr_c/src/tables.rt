@@ -1,4 +1,4 @@
-//! The tables that a call reads.
+//! Functions that read the tables in the input of a call.
 ghost use Rattle.std.specs.Prelude.{◌≡◌, ◌+◌, IfErr, IfOk, Ok, pos};
 ghost use Rattle.bufr_tables.specs.Prelude.{records_of, table_b_of, table_d_of, table_report};
 ghost use Rattle.bufr_c.specs.Leaving.{CallStatus, HasRun};
@@ -7,21 +7,22 @@ use crate::texts::{CallInput, OUT_OF_MEMORY};
 use bufr_tables::{TableB, TableD, TableFault};
 use std::alloc::Global;
 
-/// Table B and Table D.
+/// Table B and Table D, read from the input of a call.
 #[derive(Drop)]
 pub(crate) struct Tables {
     pub(crate) b: TableB,
     pub(crate) d: TableD,
 }
 
-/// Returns the status for an invalid Table D.
+/// Returns the status that reports a fault in Table D.
 fn table_d_status(fault: TableFault) -> i32
     ensures { result ≡ pos (100 + (table_report fault).0) }
 {
     100 + i32::from(fault.number())
 }
 
-/// Reads both tables, or returns the status of the call.
+/// Reads both tables. If a table is invalid or memory runs out, returns the status with which the
+/// call stops.
 #[tactic(auto, using(crate::proofs::EventLemmas::memory_status, crate::proofs::EventLemmas::table_b_status, crate::proofs::EventLemmas::table_d_status, crate::proofs::EventLemmas::stopped_73, crate::proofs::EventLemmas::stopped_by_b, crate::proofs::EventLemmas::stopped_by_d))]
 pub(crate) fn read_tables(alloc: Global, input: &CallInput<'_>) -> Result<Tables, i32>
     ensures b { IfOk result (λ t. table_b_of (records_of input.now.table_b.now) ≡ Ok t.b) }

@@ -1,4 +1,4 @@
-//! Text in memory.
+//! A writer that stores text in memory.
 ghost use Rattle.std.specs.Prelude.{◌≡◌, [], Some};
 ghost use Rattle.bufr_text.specs.Prelude.{Writes};
 ghost use Rattle.bufr_c.specs.Moving.{moved};
@@ -8,10 +8,10 @@ use bufr_frame::RunFault;
 use bufr_text::LineWriter;
 use std::alloc::Global;
 
-/// The size, in octets, of the block in which the start of a line is assembled.
+/// The size, in octets, of the block in which the beginning of a line is assembled.
 const LINE: usize = 64;
 
-/// A [`Sink`] in memory. A write fails only if memory runs out.
+/// A [`Sink`] that stores text in memory. A write fails only if memory runs out.
 #[derive(Drop)]
 pub(crate) struct TextOut {
     pub(crate) octets: Vec<u8>,
@@ -32,7 +32,7 @@ impl TextOut {
         }
     }
 
-    /// Clears the text, but keeps its memory allocated.
+    /// Clears the text without freeing its memory.
     pub(crate) fn clear(&mut self)
         ensures { self.new.octets.items ≡ [] }
     {
@@ -67,8 +67,8 @@ impl Sink for TextOut {
     }
 }
 
-/// Writes a line that reports offset 0, but with `offset` instead. Writes nothing if the line is
-/// empty.
+/// Writes a line that reports offset 0, but with `offset` in place of 0. Writes nothing if the line
+/// is empty.
 pub(crate) fn write_moved<W: Sink>(line: &[u8], offset: u64, out: &mut W) -> Result<(), RunFault>
     ensures { Writes (W.taken out.old) (W.taken out.new) (moved offset line.now) result }
 {

@@ -1,39 +1,39 @@
-//! The input of a call, and what the call reports to its caller.
+//! The input of a call, its status, and the progress that it reports to its caller.
 ghost use Rattle.std.specs.Prelude.{◌≡◌, drop};
 ghost use Rattle.bufr_c.specs.Commands.{form_by};
 
 use bufr_text::Form;
 
-/// The call reached the end of its input.
+/// The status of a call that reached the end of its input.
 pub(crate) const DONE: i32 = 0;
-/// Memory ran out.
+/// The status of a call that ran out of memory.
 pub(crate) const OUT_OF_MEMORY: i32 = 73;
-/// The next output does not fit into the caller's buffers.
+/// The status of a call whose next output does not fit into the caller's buffers.
 pub(crate) const NO_ROOM: i32 = 74;
-/// There is no form with this number.
+/// The status of a call whose input specifies an unknown form.
 pub(crate) const UNKNOWN_FORM: i32 = 75;
 
 /// The input of a call.
 #[repr(C)]
 #[derive(Clone, Copy, Debug)]
 pub struct CallInput<'a> {
-    /// The stream; for [`crate::bufr_encode`], the text.
+    /// The stream of messages, or the documents that [`crate::bufr_encode`] should encode.
     pub octets: &'a [u8],
-    /// The contents of the file with Table B.
+    /// The contents of the file that defines Table B.
     pub table_b: &'a [u8],
-    /// The contents of the file with Table D.
+    /// The contents of the file that defines Table D.
     pub table_d: &'a [u8],
-    /// For [`crate::bufr_items`]: the descriptors of the wanted items. If it is empty, all items
-    /// are wanted.
+    /// The descriptors of the items that [`crate::bufr_items`] should return. If the list is empty,
+    /// [`crate::bufr_items`] returns all items.
     pub wanted: &'a [u16],
-    /// For [`crate::bufr_encode`]: 0 for the form that each document specifies, 1 for plain data,
-    /// and 2 for compressed data.
+    /// The form of the messages that [`crate::bufr_encode`] writes: 0 for the form that each
+    /// document specifies, 1 for plain, or 2 for compressed.
     pub form: u64,
-    /// 0 (reserved for later versions).
+    /// A field that is reserved for later versions. The value must be 0.
     pub reserved: [u64; 7],
 }
 
-/// Returns the form with this number.
+/// Returns the form with the given number, or `None` if the number is invalid.
 pub(crate) fn form_by(form: u64) -> Option<Form>
     ensures { result ≡ form_by form }
 {
@@ -45,7 +45,7 @@ pub(crate) fn form_by(form: u64) -> Option<Form>
     }
 }
 
-/// Returns the octets from index `at` on, or none if `at` is past the end.
+/// Returns the octets from index `at` to the end, or no octets if `at` is past the end.
 #[tactic(auto, using(crate::proofs::EventLemmas::rest_from))]
 pub(crate) fn rest_of(octets: &[u8], at: usize) -> &[u8]
     ensures { result.now ≡ drop at octets.now }
@@ -53,30 +53,34 @@ pub(crate) fn rest_of(octets: &[u8], at: usize) -> &[u8]
     &octets[at.min(octets.len())..]
 }
 
-/// The progress of a call, and what it wrote.
+/// The progress of a call that writes text or messages, and the number of octets that it wrote.
 #[repr(C)]
 #[derive(Clone, Copy, Debug, PartialEq, Eq)]
 pub struct Texts {
-    /// Where the call begins, in octets from 0; afterwards, where the next call continues.
+    /// The offset in the input, in octets from 0, at which the call starts. When the call returns,
+    /// the field contains the offset at which the next call should start.
     pub at: usize,
-    /// The number of octets written to the output.
+    /// The number of octets written to the output buffer.
     pub output_length: usize,
-    /// The number of octets of fault lines written.
+    /// The number of octets written to the buffer for fault lines.
     pub errors_length: usize,
-    /// If the next event does not fit: the number of octets of its output.
+    /// The number of octets that the next event needs in the output buffer, if the event does not
+    /// fit into the buffers.
     pub output_needed: usize,
-    /// If the next event does not fit: the number of octets of its fault line.
+    /// The number of octets that the next event needs in the buffer for fault lines, if the event
+    /// does not fit into the buffers.
     pub errors_needed: usize,
-    /// The number of messages or documents that were accepted.
+    /// The number of messages or documents that the call accepted.
     pub accepted: u64,
-    /// The number of strays, and of messages or documents that were rejected.
+    /// The number of messages or documents that the call rejected, plus the number of strays that
+    /// it found.
     pub refused: u64,
-    /// 0 (reserved for later versions).
+    /// A field that is reserved for later versions. The value is always 0.
     pub reserved: u64,
 }
 
 impl Texts {
-    /// Returns the state of a call that begins at `at` and has not written anything.
+    /// Returns the initial progress of a call that starts at offset `at`.
     pub(crate) fn at(at: usize) -> Texts
         ensures at { result.at ≡ at }
         ensures output { result.output_length ≡ 0 }

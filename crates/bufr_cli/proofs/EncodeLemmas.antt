@@ -1,4 +1,4 @@
--- What a run of `encode` has written, and what follows.
+-- The progress of a run of `encode`, and the effect of each further step.
 use Rattle.bufr_text.proofs.LineLemmas.{lines-cons, lines-none}
 use Rattle.std.proofs.Common.{◌≡◌, ◌≢◌, ◌∙◌, ℕ, ◌+◌, ◌-◌, ◌*◌, ◌==◌, ◌≤◌, ◌<◌, ◌^◌, Bool, false, if◌then◌else◌, length-append, List, [], ◌∷◌, ◌++◌, length, None, arith, append_assoc, append-nil, Option, Result, Ok, Err, refl, sym, ap, subst, inl, inr, true, Some, map, count_by}
 use Rattle.std.specs.Io.KnownBytes.{Consumes}
@@ -34,9 +34,9 @@ pub read-refusal : (fault : ReadFault) → ((run : RunFault) → fault ≡ Run r
 read-refusal (Line line why) some = (line, why, refl)
 read-refusal (Run run) some = absurd (some run refl)
 
--- ---- Pieces, none of which ends the run.
+-- ---- The pieces of a run before and after the first refusal.
 
--- The pieces after them count as well.
+-- If none of these pieces is a refusal, the run continues with the pieces after them.
 up-to-more : (pieces more : List Piece) → count_by is_refused pieces ≡ 0 → up_to_refused (pieces ++ more) ≡ pieces ++ up_to_refused more
 unfolding up_to_refused
 up-to-more [] more none = refl
@@ -51,14 +51,14 @@ up-to-all : (pieces : List Piece) → count_by is_refused pieces ≡ 0 → up_to
 unfolding up_to_refused
 up-to-all pieces none = ap up_to_refused (sym (append-nil pieces)) ∙ up-to-more pieces [] none ∙ append-nil pieces
 
--- Nothing counts after the piece of a refusal.
+-- A refusal is the last piece of a run.
 up-to-refusal : (pieces more : List Piece) (p : Piece) → count_by is_refused pieces ≡ 0 → counted_refused verdict.Refused ≡ count_by is_refused (p ∷ [])
     → up_to_refused (pieces ++ p ∷ more) ≡ pieces ++ p ∷ []
 unfolding up_to_refused
 up-to-refusal pieces more (OnOutput text) none one = absurd (omega (arith, one))
 up-to-refusal pieces more (OnErrors text) none one = up-to-more pieces (OnErrors text ∷ more) none
 
--- The next piece is the first of the remaining pieces.
+-- The first piece is always part of the run.
 next-piece : (p : Piece) (more : List Piece) → (rest : List Piece) × (up_to_refused (p ∷ more) ≡ p ∷ rest)
 unfolding up_to_refused
 next-piece (OnOutput text) more = (up_to_refused more, refl)
@@ -101,7 +101,7 @@ read-prefix left left' s results bs call = by s.ended refl
     by true is = (parse (position_of s) [], ap documents_of (sym (append-nil bs)) ∙ reported-first left left' s results bs [] call (λ ended. refl))
     by false is = (parse_open (position_of s) [], ap open_documents_of (sym (append-nil bs)) ∙ reported-first-openly left left' s results bs [] call is)
 
--- Nothing was read or written yet.
+-- Nothing has been read or written yet.
 pub no-documents : (piece : ParseResult → Piece) (left : Option (List ℕ)) (s : ReaderModel) → s ≡ new_reader → WritesDocuments piece s (no_progress left)
 no-documents piece left s is =
     rw is (record {
@@ -114,7 +114,7 @@ no-documents piece left s is =
       each = λ going. omega arith;
     })
 
--- What is not at its end now was not at its end before.
+-- If the end of input has not been reached now, it had not been reached before.
 going-before : (before after : Bool) → (before ≡ true → after ≡ true) → after ≡ false → before ≡ false
 going-before false after kept going = refl
 going-before true after kept going = absurd (false≢true (sym going ∙ kept refl))
@@ -193,7 +193,7 @@ module _ (form : Form) (b : List Row) (d : List Sequence) (s : ReaderModel) (so 
     given : ReturnsNextDocument so.left so.left s s' next
     given = gives so.left so.left s [] (call-none so.left s) (inl refl)
 
-    -- There is not enough memory to read it.
+    -- Memory ran out.
     pub text-wants : (w : Writers) → IsCut (document_pieces form b d) so w w
     text-wants w =
         let more = read-prefix so.from so.left s wrote.results so.octets wrote.reads in
@@ -210,7 +210,7 @@ module _ (form : Form) (b : List Row) (d : List Sequence) (s : ReaderModel) (so 
           some = λ going. absurd (false≢true (sym going));
         }
 
-    -- The result is a document, or a line that is refused.
+    -- The result is a document or an invalid line.
     module _ (x : ParseResult) (is : parse_results next ≡ x ∷ []) where
       abbrev pub results : List ParseResult
       results = wrote.results ++ x ∷ []
@@ -231,7 +231,7 @@ module _ (form : Form) (b : List Row) (d : List Sequence) (s : ReaderModel) (so 
           by (Err (Line line why)) is bs reads = taken bs _ is reads
           by (Err (Run run)) is bs reads = absurd (omega (arith, ap length is))
 
-      -- The end was not reached before, either.
+      -- The end of input had not been reached before, either.
       going : s'.ended ≡ false → s.ended ≡ false
       going open' = by next is given.octets given.reads
         where

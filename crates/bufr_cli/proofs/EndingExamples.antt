@@ -1,4 +1,4 @@
--- Last lines, exit statuses, and endings that the contracts exclude, computed on worked examples.
+-- Worked examples of last lines and exit statuses, and endings that the contracts exclude.
 use Rattle.std.proofs.Common.{if◌then◌else◌, ◌==◌, ◌≡◌, ◌∙◌, None, true, false, ◌∷◌, ℕ, List, [], map, refl, ap, codes, Option, Some, Result, Ok, Err, sym, subst, arith, inl, inr}
 use Rattle.std.specs.Borrow.{Bor}
 use Rattle.std.specs.Fmt.{digits}
@@ -17,7 +17,7 @@ use Rattle.bufr_frame.specs.declared.fault.RunFault.{RunFault}
 use Rattle.std.specs.List.{concat}
 use Rattle.bufr_tables.specs.declared.fault.TableFault.TheVariants as table
 
--- ---- The last line and the exit status of each outcome, computed on worked examples.
+-- ---- The last line and the exit status of each outcome.
 
 -- A run that completed has no last line.
 ran-line : (tally : Tally) → last_line (Ran tally) ≡ []
@@ -92,14 +92,14 @@ no-write-fault pieces from to ends = idle-writers-do-not-fail ends.between ends.
 
 -- ---- Calls of the program that the contracts exclude.
 
--- an input without reads and failures, and inputs that consist of such inputs
+-- an input without reads or failures, and a program whose inputs are all like this one
 abbrev quiet : Input
 quiet = record { left = Some (codes "BUFR"); reads = 0; failures = 0 }
 
 abbrev quiet_inputs : Known (Unit {0}) (Unit {0})
 quiet_inputs = known (Some (codes "BUFR")) (λ name. Some (codes "BUFR")) (λ input. quiet) (λ file. quiet)
 
--- the faults that show in the counts of a reader
+-- the faults that change the counts of a reader
 abbrev IsOfReads : RunFault → Type 0
 IsOfReads Read = Unit {0}
 IsOfReads Write = ⊥
@@ -146,7 +146,7 @@ module _ (pieces : RunPieces) (before after : Writers) where
 held-back : (pieces : RunPieces) (before after : Writers) (tally : Tally) → after.output.all_flushed ≡ false → RunOutcome pieces quiet_inputs None before after (Ran tally) → ⊥
 held-back pieces before after tally held comes = false≢true (sym held ∙ run-is-handed-on pieces before after quiet_inputs None tally comes)
 
--- The same holds for a call of the program with status 0: its output is flushed.
+-- Likewise, a call of the program with status 0 has flushed its output.
 tables-are-read : {File : Type 0} (state_of : File → Input) (named : List ℕ → Option (List ℕ)) (tables : TableNames) (opens : List InputName → Type 0) (tally : Tally)
     → AreUnread state_of named tables opens (Ran tally) → ⊥
 tables-are-read state_of named tables opens tally (NoTableB opened (inl (inl (inl closed)))) = let is = closed.0 in absurd cc

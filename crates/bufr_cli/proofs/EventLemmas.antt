@@ -1,4 +1,4 @@
--- What a run over the events of a stream has written, and what follows.
+-- The progress of a run over the events of a stream, and the effect of each further step.
 use Rattle.bufr_frame.specs.Prelude.{Advances, FinderModel, NeedsRead, ReadsAndPasses, ReadsMore, ReturnsNextEvent, StreamEvent, events_of, new_finder, open_scan, scan, scan_from}
 use Rattle.std.proofs.Common.{◌≡◌, ◌∙◌, ◌≤◌, ◌<◌, ◌^◌, ℕ, ◌+◌, ◌-◌, Bool, true, false, List, [], ◌∷◌, ◌++◌, length, length-append, length-drop, refl, sym, ap, subst, arith, Option, Some, None, Result, Ok, Err, append-nil, append_assoc, map}
 use Rattle.std.specs.List.{concat}
@@ -14,7 +14,7 @@ use Rattle.bufr_frame.proofs.FinderLemmas.{read-step, events-are-open, Advances-
 use Rattle.bufr_cli.specs.Prelude.{CountsRead, IsCut, IsDone, IsOpen, NeedsOctets, Piece, Progress, ReadsOctets, Writers, WritesEvents, WritesPrefixes, event_pieces, no_progress, read_pieces, with_piece}
 use Rattle.bufr_cli.proofs.RunLemmas.{map-append}
 
--- Nothing was read or written yet.
+-- Nothing has been read or written yet.
 pub no-events : (piece : StreamEvent → Piece) (left : Option (List ℕ)) (s : FinderModel) → s ≡ new_finder → WritesEvents piece s (no_progress left)
 no-events piece left s is =
     rw is (record {

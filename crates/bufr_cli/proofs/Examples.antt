@@ -82,7 +82,7 @@ data-lines : map (λ fault. fault_line 0 (data_report fault)) (walk.DataEnd (spo
 unfolding digits
 data-lines = refl
 
--- the fault lines of refused lines of a text
+-- the fault lines of invalid lines in a text
 -- rule: fault-lines-of-reading
 refused-lines : map (λ fault. document_line 26 (line_report fault)) (NotAllowed ∷ SubsetCount ∷ HeaderRange ∷ [])
     ≡ codes "line 26: 50 line\n" ∷ codes "line 26: 57 subset count\n" ∷ codes "line 26: 61 header range\n" ∷ []
@@ -117,8 +117,8 @@ item-lines : map (λ why. refusal_line (document.Item 24 why)) (wrong.WrongDescr
 unfolding digits
 item-lines = refl
 
--- the same octets, declared to be edition 3: the table versions and the year are taken for the
--- month, the day, the hour and the minute
+-- the same octets, declared to be edition 3: the table versions and the year are read as the month,
+-- day, hour and minute
 edition-3-listed : map ls_piece (scan (slice_set one_block_number 7 3)) ≡ OnOutput (codes "offset=0 length=48 edition=3 centre=98/0 update=0 category=0/0/0 tables=0/0/0 time=0000-14-00T07:232:00 subsets=1 observed=1 compressed=0 optional=0 descriptors=1\n") ∷ []
 unfolding scan_from sections_of section_end min_section_1 digits
 edition-3-listed = refl

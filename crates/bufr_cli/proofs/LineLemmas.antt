@@ -16,7 +16,7 @@ use Rattle.bufr_cli.specs.declared.job.LineFault.TheVariants.{Help, Usage, Memor
 
 -- ---- Optional values.
 
--- What holds in any case holds if there is no value.
+-- A fact that is always true is also true if there is no value.
 pub if-none : {A : Type 0} (o : Option A) (P : Type 0) → P → IfNone o P
 if-none None P p = p
 if-none (Some x) P p = tt

@@ -1,4 +1,5 @@
--- Worked examples of which fault of a message, document or run is reported, and of exit statuses.
+-- Worked examples of the fault that is reported for a message, document or run, and of exit
+-- statuses.
 use Rattle.std.proofs.Common.{◌≡◌, ◌++◌, ℕ, List, [], ◌∷◌, map, take, slice_set, replicate, refl, codes}
 use Rattle.std.specs.Fmt.{digits}
 use Rattle.bufr_bits.specs.Prelude.{bits_of, decimal_value_of}
@@ -14,10 +15,10 @@ use Rattle.bufr_cli.specs.declared.outcome.Outcome.TheVariants.{Ran, TableB, Tab
 use Rattle.bufr_cli.proofs.Examples.{one_block_number}
 use Rattle.bufr_cli.proofs.RoundTripExamples.{blocks}
 
--- ---- Of two faults of a message, the first is reported: sections, then template, then data.
+-- ---- If a message has two faults, the first is reported: sections, then template, then data.
 
--- a message with one block number and no data, one whose section 4 is one octet too short, and the
--- latter as edition 2
+-- a message with one block number and no data, a message whose section 4 is one octet too short,
+-- and the same message as edition 2
 abbrev without_data : List ℕ
 without_data = slice_set (take 39 one_block_number) 6 47 ++ 0 ∷ 0 ∷ 4 ∷ 0 ∷ 55 ∷ 55 ∷ 55 ∷ 55 ∷ []
 
@@ -52,7 +53,7 @@ sections_listed : map (λ octets. ls_piece (FrameAt 0 octets)) (edition_2 ∷ pa
 unfolding sections_of section_end min_section_1 digits
 sections_listed = refl
 
--- ---- Of two faults of a text, the first is reported.
+-- ---- If a text has two faults, the first is reported.
 
 -- a document of one block number, with these lines after its descriptors
 abbrev document_with : List ℕ → List ℕ
@@ -67,8 +68,8 @@ unfolding up_to_refused parse_lines lines_of split_of line_step line_of worded k
     encoding_in tree_of level part_of inner_of next_item decimal_value_of digits
 written text = encode_pieces AsWritten blocks [] (documents_of text)
 
--- A document is read to its end before its template and items are checked: faults 50 and 57 on a
--- later line come before the item on line 24. In the next document, they come after it.
+-- A document is read to its end before its template and items are checked. Faults 50 and 57 on a
+-- later line are reported instead of the fault of the item on line 24, except in the next document.
 -- rule: document-read-first, first-refusal-ends
 lines_then_items : map written (document_with (codes "subset 1\n001001 200\nend\n") ∷ document_with (codes "subset 1\n001001 200\nend \n") ∷ document_with (codes "subset 1\n001001 200\nsubset 2\n") ∷ document_with (codes "subset 1\n001001 200\n")
     ∷ (document_with (codes "subset 1\n001001 200\nend\n") ++ codes "end\n") ∷ [])

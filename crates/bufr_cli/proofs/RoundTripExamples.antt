@@ -1,4 +1,5 @@
--- Streams that are dumped and encoded, and texts in one spelling, computed on worked examples.
+-- Worked examples of streams that are dumped and encoded again, and of texts in the normal
+-- spelling.
 use Rattle.std.proofs.Common.{◌≡◌, ℕ, List, [], ◌∷◌, ◌++◌, refl, codes, pos, slice_set}
 use Rattle.std.specs.Fmt.{digits}
 use Rattle.bufr_bits.specs.Prelude.{bits_of, bits_in, decimal_value_of, decimal_text_of, unsigned_text}
@@ -35,7 +36,7 @@ grown = refl
 abbrev text : List ℕ
 text = codes "message\nedition 4\nmaster 0\ncentre 98\nsubcentre 0\nupdate 0\ncategory 0\nsubcategory 0\nlocalsubcategory 0\nmasterversion 14\nlocalversion 0\nyear 2024\nmonth 1\nday 2\nhour 3\nminute 4\nsecond 5\nobserved 1\ncompressed 0\noptional 0\nsubsets 1\ndescriptors 001001\nsubset 1\n001001 10  # WMO BLOCK NUMBER [Numeric]\nend\n"
 
--- The output contains nothing of the errors.
+-- The output does not contain any fault lines.
 output-alone : dumped blocks [] (codes "BUFR" ++ 0 ∷ 0 ∷ 64 ∷ 4 ∷ (one_block_number ++ slice_set one_block_number 7 2)) ≡ text
 unfolding scan_from sections_of section_end min_section_1 tree_of inner_of level part_of next_item bits_of header_lines subset_lines runs_after hex_text descriptors_text keys leasts mosts
     decimal_text_of unsigned_text digits
@@ -49,7 +50,7 @@ unfolding scan_from sections_of section_end min_section_1 tree_of inner_of level
     hex_read is_hashed encoding_in decimal_value_of bits_in
 built-of-its-text = refl
 
--- ---- Texts that were written by hand, in the one spelling of a dump, on worked examples.
+-- ---- Texts that were written by hand, in the normal spelling.
 
 -- a document of this edition, with this text after its descriptors
 abbrev by_hand : (edition rest : List ℕ) → List ℕ
@@ -66,7 +67,7 @@ unfolding normal_texts parse_lines lines_of split_of line_step line_of worded ke
     is_hashed encoding_in min_section_1 tree_of level part_of inner_of next_item decimal_value_of bits_of bits_in header_lines runs_after hex_text descriptors_text digits decimal_text_of unsigned_text
 one-before-a-refused-line = refl
 
--- 200 does not fit in seven bits: the document is refused, and it has no text.
+-- 200 does not fit in seven bits, so the document is refused and has no normal text.
 none-of-a-refused-document : normal_texts AsWritten blocks [] (documents_of (by_hand (codes "4") (codes "subset 1\n001001 200\nend\n"))) ≡ []
 unfolding normal_texts parse_lines lines_of split_of line_step line_of worded keys leasts mosts without_prefix descriptors_read fxy_read value_read quoted_read hex_read
     is_hashed encoding_in min_section_1 tree_of level part_of inner_of next_item decimal_value_of

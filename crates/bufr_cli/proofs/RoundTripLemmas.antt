@@ -1,5 +1,5 @@
--- The text that `dump` writes for a stream, or a text written by hand, is encoded to messages with
--- this text.
+-- The dump text of a stream is encoded to messages that have the same dump text. A text that was
+-- written by hand is encoded to messages that have its normal text.
 use Rattle.std.proofs.Common.{subst, ◌-◌, None, option_map, ◌≡◌, ◌∙◌, ◌⊎◌, ℕ, suc, ◌+◌, ◌<◌, ◌≤◌, List, [], ◌∷◌, ◌++◌, length, map, Option, Some, Result, Ok, Err, refl, sym, ap, arith, inl, inr, length-append, flat_map, count_by, slice_index}
 use Rattle.std.specs.List.{AllByRecursion, AllZip, concat, filter}
 use Rattle.std.proofs.lemmas.List.Sums.{length-filter}
@@ -31,7 +31,7 @@ pub octets-all : (s : List ℕ) → ((i : ℕ) → slice_index s i < 256) → Al
 octets-all [] small = tt
 octets-all (c ∷ s) small = (small 0, octets-all s (λ i. small (suc i)))
 
--- ---- The pieces of lists.
+-- ---- Lists of pieces.
 
 -- If every piece goes to the output, all of them are written.
 pub outputs-whole : (ms : List (List ℕ)) → up_to_refused (map OnOutput ms) ≡ map OnOutput ms
@@ -55,7 +55,7 @@ pub outputs-accepted : (ms : List (List ℕ)) → length (filter is_accepted (ma
 outputs-accepted [] = refl
 outputs-accepted (m ∷ ms) = ap suc (outputs-accepted ms)
 
--- The accepted pieces contain all of the output, and nothing of the errors.
+-- The accepted pieces contain all of the output.
 accepted-output : (ps : List Piece) → flat_map output_of (filter is_accepted ps) ≡ flat_map output_of ps
 accepted-output [] = refl
 accepted-output (OnOutput text ∷ ps) = ap (λ l. text ++ l) (accepted-output ps)
@@ -167,15 +167,15 @@ placed-count piece at (m ∷ ms) = ap suc (placed-count piece (at + length m) ms
 abbrev accepted_of : (StreamEvent → Piece) → List StreamEvent → List (List ℕ)
 accepted_of piece es = flat_map (λ here. accepted_in here (piece here)) es
 
--- The results of events: their pieces, with the dump text and the accepted messages among them, and
--- the number of their octets.
+-- The results of events: their pieces, the dump text and the accepted messages in these pieces, and
+-- the number of octets in the frames.
 record Events : Type 0 where
   text : List ℕ
   accepted : List (List ℕ)
   pieces : List Piece
   most : ℕ
 
--- Read from a line number on, the text of the events is encoded to as many messages, with the same
+-- If the text of the events begins on this line, it is encoded to as many messages, with the same
 -- readings. In a stream, these messages are framed one by one and have the same pieces.
 record Built (b : List Row) (d : List Sequence) (events : Events) (line : ℕ) : Type 0 where
   messages : List (List ℕ)
@@ -346,7 +346,7 @@ pub three-runs : (records : List Record) (b : List Row) (d : List Sequence) (str
 three-runs records b d stream text messages again e e' rows octets (wrote, counts) (encodes, counted) (dumps, counts') =
     whole-round b d records stream text messages again rows octets wrote.output counts encodes.output encodes.errors counted dumps.output dumps.errors counts'
 
--- ---- Encoded text is dumped as the texts of its documents, in one spelling.
+-- ---- A text that is encoded and dumped has the normal spelling.
 
 -- The results of documents, and their texts. The messages on the output are framed one by one and
 -- have these texts. The texts are encoded to the same messages, from any line number on.
@@ -428,7 +428,7 @@ module _ (form : Form) (records : List Record) (b : List Row) (d : List Sequence
       document-more document (encoding_in form b d document) (map (result_piece form b d) more) (normal_texts form b d more) proper.0 refl (are-built more proper.1)
   are-built (Refused line fault ∷ more) proper = none-built b d piece_of _ refl refl
 
-  -- Any encoded text is dumped in one spelling.
+  -- Any text that is encoded and dumped has the normal spelling.
   pub one-spelling : (text : List ℕ) → IsDumpedInOneSpelling form b d text
   one-spelling text =
       let texts = normal_texts form b d (documents_of text) in

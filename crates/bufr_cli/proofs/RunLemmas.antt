@@ -1,4 +1,4 @@
--- What a run leaves, from its steps, and the outcome of a job.
+-- The effects of a run on its devices, derived from its steps, and the outcome of a job.
 use Rattle.bufr_frame.specs.Prelude.{max_reads, read_failures_after, AddsReads}
 use Rattle.std.proofs.Common.{◌≡◌, ◌≢◌, ◌⊎◌, ◌∙◌, ◌<◌, ◌≤◌, ◌^◌, ℕ, ◌+◌, ◌-◌, Bool, true, false, List, [], ◌∷◌, ◌++◌, length, length-append, refl, sym, ap, subst, arith, append_assoc, Option, None, Ok, Err, append-nil, Some, inl, inr, Result, flat_map, map, count_by, IfSome}
 use Rattle.std.specs.Io.KnownBytes.{Consumes, IsAtEnd, Keeps}
@@ -110,7 +110,7 @@ blames-then X Y before mid after f (out, err) blames = by f blames
     by Write (inl (x, y)) = inl (fails-then _ _ _ _ _ _ out x, e y)
     by Write (inr (x, y)) = inr (o x, fails-then _ _ _ _ _ _ err y)
 
--- the reads of a run that made n of them
+-- the number of reads in a run that made n reads
 abbrev reads-at-most : {X : Type 0} (reads reads' n : ℕ) (r : Result X RunFault) → AddsReads reads reads' 0 n → (r ≡ Err InputTooLong → n ≡ max_reads) → ReadsAtMost reads reads' r
 reads-at-most reads reads' n r counts long =
     let e : n - 0 ≡ n = omega arith in
@@ -172,7 +172,7 @@ pub record RunSoFar (reaches : Progress → Type 0) (from to : Input) (before af
   pub handed : IsAllFlushed unflushed before after
   pub same : HasNotFailed before.output after.output × HasNotFailed before.errors after.errors
 
--- Nothing was done yet.
+-- Nothing has been done yet.
 pub so-far-none : (reaches : Progress → Type 0) (from : Input) (before : Writers) (tally : Tally) (unflushed : Unflushed) → reaches (progress from from [] []) → tally.accepted ≡ 0
     → tally.refused ≡ 0 → RunSoFar reaches from from before before tally unflushed
 so-far-none reaches from before tally unflushed reached accepted refused = record {
@@ -299,9 +299,10 @@ module _ (reaches : Progress → Type 0) (from to : Input) (before mid : Writers
         same = (same-then _ _ _ _ _ _ ran.same.0 stays.0, same-then _ _ _ _ _ _ ran.same.1 stays.1);
       }
 
--- ---- What a run leaves, for each way in which it can end.
+-- ---- The effects of a run on its devices, for each way in which it can end.
 
--- What holds of the octets read, with anything that may follow, holds of an input that is known.
+-- If a property is true of the octets that were read, followed by any further input, it is true of
+-- a known input.
 known-whole : (left left' : Option (List ℕ)) (octets : List ℕ) (ended : Bool) (P : List ℕ → Type 0) → Consumes left left' octets → (ended ≡ true → IsAtEnd left')
     → ((t : List ℕ) → (ended ≡ true → t ≡ []) → P (octets ++ t)) → IfSome left P
 known-whole None left' octets ended P read at_end whole = tt
@@ -492,7 +493,7 @@ module _ (reaches : Progress → Type 0) (from to : Input) (before mid : Writers
       written = all-written before mid after _ ran.pieces done.certain hands.output hands.errors ran.written;
     }
 
-    -- Then a flush failed.
+    -- A flush failed.
     pub leaves-done-held : (f : RunFault) (result : Result Tally RunFault) → handed ≡ Err f → result ≡ Err f → LeavesDevices pieces from to before after result
     leaves-done-held f result is same =
         let write : f ≡ Write = rw is at hands.fault in
@@ -530,7 +531,7 @@ module _ (reaches : Progress → Type 0) (from to : Input) (before mid : Writers
 
 -- ---- The reads of a run that does not allocate memory for its pieces.
 
--- the reads of a run that made n of them
+-- the number of reads in a run that made n reads
 run-reads : {X : Type 0} (takes : Bool) (reads reads' n : ℕ) (r : Result X RunFault) → AddsReads reads reads' 0 n → (r ≡ Err InputTooLong → n ≡ max_reads)
     → (takes ≡ false → r ≡ Err Memory → n < max_reads) → RunReads takes reads reads' r
 run-reads false reads reads' n r counts long wanted = let so = reads-at-most reads reads' n r counts long in (so.0, so.1, so.2, so.3, wanted refl)

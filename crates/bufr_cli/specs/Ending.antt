@@ -17,16 +17,16 @@ use Rattle.bufr_cli.specs.declared.outcome.Outcome.TheVariants.{Ran, Usage, Cann
 use Rattle.std.specs.List.{concat}
 use Rattle.bufr_cli.specs.FaultLine.{report_line}
 
--- What happens to the output after a run with this result.
+-- Whether the output is flushed after a run depends on the run's result, as the cases below state.
 abbrev pub FlushesRest : {X : Type 0} → (before after : Writer) → Result X RunFault → Type 0
--- a run that completed has flushed it
+-- a run that completed has already flushed the output
 FlushesRest before after (Ok x) = after ≡ before
--- so has a run that failed to read (see `HasFlushed`)
+-- a run that stopped at a failed read has also flushed the output (see `HasFlushed`)
 FlushesRest before after (Err Read) = after ≡ before
 -- after a failed write, the output is not used again
 FlushesRest before after (Err Write) = after ≡ before
--- After `Memory` or `InputTooLong`, it is flushed at most once, and nothing more is written. Either
--- no call failed and everything is flushed, or the flush failed.
+-- After `Memory` or `InputTooLong`, the output is flushed at most once, and nothing more is written
+-- to it. Either everything was flushed and no call to the writer failed, or the flush failed.
 FlushesRest before after (Err fault) =
     Keeps before.taken after.taken × (after.empty_writes ≡ before.empty_writes)
     × (after.flushes.made ≤ counted before.flushes.made 1)
@@ -36,9 +36,9 @@ FlushesRest before after (Err fault) =
     × (after.flushes.failed ≡ counted before.flushes.failed 1)
     × (after.all_flushed ≡ before.all_flushed)))
 
--- A writer takes a prefix of a line, and the whole line if no call fails and no write takes
--- nothing. (The counts show that only if they are not at their greatest value, 2^64 - 1.) The
--- writer is not flushed.
+-- The writer accepted a prefix of the line. It accepted the whole line if no call failed and every
+-- nonempty write accepted at least one octet. (The counts reveal a failure only if they were below
+-- their maximum, 2^64 - 1, before it.) The writer was not flushed.
 abbrev pub WritesLine : (before after : Writer) → (line : List ℕ) → Type 0
 WritesLine before after line =
     GrowsByPrefix before.taken after.taken line
@@ -46,10 +46,10 @@ WritesLine before after line =
     → Appends before.taken after.taken line)
     × (after.flushes ≡ before.flushes)
 
--- A run over an input ended, and then its output was flushed.
+-- A run on an input ended, and any remaining output was then flushed.
 pub record EndsRun (pieces : RunPieces) (from to : Input) (before after : Writers)
     (ran : Result Tally RunFault) : Type 0 where
-  -- the writers after the run and before the last flush
+  -- the state of the writers after the run and before the last flush
   pub between : Writers
   pub leaves : LeavesDevices pieces from to before between ran
   pub rest : FlushesRest between.output after.output ran
@@ -58,13 +58,14 @@ pub record EndsRun (pieces : RunPieces) (from to : Input) (before after : Writer
 abbrev pub run_line : RunFault → List ℕ
 run_line fault = report_line (codes "bufr: " ∷ []) (run_report fault)
 
--- the line of a table that cannot be read; `Memory` is reported as it is in a run
+-- the line that reports a fault in a table; if memory runs out, the line is the same as for a run
+-- that runs out of memory
 -- rule: status-of-table, fault-73
 abbrev pub table_line : (name : List ℕ) → TableFault → List ℕ
 table_line name table.Memory = run_line Memory
 table_line name fault = report_line (name ∷ []) (table_report fault)
 
--- the last line of the errors: a fault or the usage text; nothing if the run completed
+-- the last line of the error output: a fault, the usage text, or nothing if the run completed
 -- rule: status-of-usage, status-of-open
 abbrev pub last_line : Outcome → List ℕ
 last_line (Ran tally) = []
@@ -74,7 +75,8 @@ last_line (TableB fault) = table_line (codes "table B: ") fault
 last_line (TableD fault) = table_line (codes "table D: ") fault
 last_line (Run fault) = run_line fault
 
--- the exit status: 0 if nothing was refused, 1 if something was, and 2 if the run did not complete
+-- the exit status: 0 if nothing was rejected, 1 if something was rejected, and 2 if the run did not
+-- complete
 -- rule: status-0-and-1, status-of-usage
 abbrev pub status_of : Outcome → ℕ
 status_of (Ran tally) = if tally.refused == 0 then 0 else 1

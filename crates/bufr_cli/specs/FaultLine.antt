@@ -1,4 +1,4 @@
--- The lines that report the faults of a stream, of its messages, and of documents. (own)
+-- The lines that report faults in a stream, in its messages, and in documents. (own)
 -- Cited by public contracts.
 use Rattle.std.specs.Prelude.{ℕ, List, [], ◌∷◌, ◌++◌, codes, decimal, Option}
 use Rattle.std.specs.Option.{option_map_or}
@@ -13,33 +13,35 @@ use Rattle.bufr_text.specs.declared.fault.ReadFault.{ReadFault}
 use Rattle.std.specs.List.{concat}
 use Rattle.bufr_text.specs.declared.fault.ReadFault.TheVariants as read
 
--- the number of a fault in a message of a stream, and its text in parts; `Memory` has no text
+-- the number and the description of a fault in a message; `Memory` has no description
 abbrev pub stream_report : StreamFault → ℕ × List (List ℕ)
 stream_report (stream.Section fault) = section_report fault
 stream_report (stream.Template fault) = template_report fault.now
 stream_report (stream.Data fault) = data_report fault.now
 
--- the line that reports a fault: its subject, its number and its text
+-- the line that reports a fault: a subject (such as `offset 5: `), and the number and the
+-- description of the fault
 abbrev pub report_line : (subject : List (List ℕ)) → (report : ℕ × List (List ℕ)) → List ℕ
 report_line subject report =
     concat (subject ++ decimal report.0 ∷ codes " " ∷ (report.1 ++ codes "\n" ∷ []))
 
--- the line that reports a fault in a stream, at the offset of `BUFR`
+-- the line that reports a fault in a stream and gives the offset of the word `BUFR`
 -- rule: stream-fault-line
 abbrev pub fault_line : (offset : ℕ) → (report : ℕ × List (List ℕ)) → List ℕ
 fault_line offset = report_line (codes "offset " ∷ decimal offset ∷ codes ": " ∷ [])
 
--- the line that reports a fault in a line of a text; lines are counted from 1
+-- the line that reports a fault in a document and gives the line number, counted from 1
 -- rule: fault-lines-of-reading
 abbrev pub document_line : (line : ℕ) → (report : ℕ × List (List ℕ)) → List ℕ
 document_line line = report_line (codes "line " ∷ decimal line ∷ codes ": " ∷ [])
 
--- the line that reports a fault in reading documents; empty for a fault that stops the run
+-- the line that reports a fault found while reading documents; it is empty if the run itself
+-- failed, for example because of a failed read
 abbrev pub line_of_read_fault : ReadFault → List ℕ
 line_of_read_fault (read.Line line fault) = document_line line (line_report fault)
 line_of_read_fault (read.Run fault) = []
 
--- the line that reports a fault in a document; empty for `Memory`, which stops the run
+-- the line that reports why a document is rejected; it is empty for `Memory`, which stops the run
 -- rule: fault-lines-of-encoding
 abbrev pub refusal_line : DocumentFault → List ℕ
 refusal_line why =

@@ -1,22 +1,21 @@
--- dumping a stream, encoding its text, and dumping the result again
+-- dumping a stream, encoding the dump, and dumping the result again
 pub mod RoundTrip
--- what a run does to its devices: its reads, writes and counts, and the device that a fault comes
--- from
+-- the effects of a run on its devices, and the device that causes a fault
 pub mod Running
--- what one step of a run does
+-- the effects of one step of a run
 pub mod Steps
--- the lines that report faults: in a stream with the offset, in a document with the line of the
--- text
+-- the lines that report faults, with the offset in a stream or the line number in a document
 pub mod FaultLine
--- the pieces that each command writes for an input, each of them for one of the two writers
+-- the pieces that each command writes for an input; each piece goes to one of the two writers
 pub mod Pieces
 -- how a run of the program ends: the last flush, the last line, and the exit status
 pub mod Ending
--- the command line, as clap parses it: commands and options, and the job or fault that results
+-- the command line as clap parses it, and the resulting job or fault
 pub mod Line
--- the outcome of a job for its input, and of a call of the program: a job, help, or an invalid line
+-- what the program does when it is run: it performs a job, prints help, or reports an invalid
+-- command line
 pub mod Program
--- what a buffered writer took and flushed, in terms of its sink
+-- what a buffered writer has accepted and flushed, in terms of its sink
 pub mod Buffering
--- the names that proofs and other crates cite, re-exported
+-- re-exports of the names that proofs and other crates use
 pub mod Prelude

@@ -1,6 +1,7 @@
--- The command line of `bufr`, in terms of the kit's crate clap: an `App` is a command (`top`) and
--- its subcommands, a `Rule` describes an option or argument, a `Row` has the values that a command
--- line gives for it (`first_of` finds the first one), and `Kinds` are the errors of clap. (own)
+-- The command line of `bufr`, described in terms of clap, a crate in the Rattle kit. An `App` is a
+-- command (`top`) with its subcommands, and a `Rule` describes an option or an argument. A `Row`
+-- contains the values of an option or argument on a command line (`first_of` returns the first
+-- value). `Kinds` is a list of the kinds of errors that clap reports. (own)
 -- Cited by public contracts.
 use Rattle.std.specs.Prelude.{◌≡◌, ◌≢◌, ◌⊎◌, ℕ, List, ◌++◌, Option, Some, None, true, codes, option_map, string_bytes}
 use Rattle.clap.specs.Words.{App, IsAmong, Kinds, Row, Rule, Text, first_of, new_app, new_rule, with_rule, with_subcommand}
@@ -17,7 +18,7 @@ use Rattle.bufr_cli.specs.declared.job.Subcommand.{Subcommand}
 use Rattle.bufr_cli.specs.declared.job.Subcommand.TheVariants.{Ls, Dump, Encode}
 use Rattle.bufr_cli.specs.declared.job.TableNames.{TableNames}
 
--- the required option `-B FILE` or `-D FILE`, with one value; `letter` is the octet of B or D
+-- the required option `-B FILE` or `-D FILE` with one value; `letter` is the ASCII code of B or D
 abbrev pub table_rule : (id : Text) → (letter : ℕ) → Rule
 table_rule id letter =
     record (new_rule id) { short = Some letter; value_names = 1; required = true }
@@ -32,7 +33,7 @@ tables_app name =
 abbrev pub form_rule : Rule
 form_rule = record (new_rule (codes "form")) { long = Some (codes "form"); value_names = 1 }
 
--- the command `bufr` without its subcommands; it has a version and needs a subcommand
+-- the command `bufr` without its subcommands; it has a version and requires a subcommand
 abbrev pub top_app : App
 top_app =
     record (new_app (codes "bufr")) {
@@ -40,8 +41,8 @@ top_app =
           { has_version = true; subcommand_required = true };
     }
 
--- the command `bufr` with its subcommands, each the `top` of an `App`: `ls [FILE]`, `dump`, and
--- `encode`, which also has `[--form WORD]`
+-- the command `bufr` with its subcommands `ls [FILE]`, `dump` and `encode` (which also has the
+-- option `--form WORD`); each subcommand is the `top` of an `App`
 -- rule: version, one-file
 abbrev pub bufr_app : App
 bufr_app =
@@ -54,36 +55,36 @@ name_of Ls = codes "ls"
 name_of (Dump tables) = codes "dump"
 name_of (Encode tables form) = codes "encode"
 
--- The names of the tables are the values of `-B` and `-D` in the rows of the command line.
+-- The names of the table files are the values of `-B` and `-D` on the command line.
 abbrev pub AreNamed : List Row → TableNames → Type 0
 AreNamed rows tables =
     (Some tables.table_b.now ≡ first_of (codes "B") rows)
     × (Some tables.table_d.now ≡ first_of (codes "D") rows)
 
--- the value of `--form` for a form; without this option, the documents determine the form
+-- the value of `--form` that selects a form; without the option, each document specifies its own
+-- form
 -- rule: form-words
 abbrev pub word_of : Form → Option Text
 word_of AsWritten = None
 word_of Plain = Some (codes "plain")
 word_of Compressed = Some (codes "compressed")
 
--- The tables and the form of a subcommand are the values of `-B`, `-D` and `--form`.
+-- The subcommand uses the tables and the form that `-B`, `-D` and `--form` specify.
 abbrev pub HasTables : List Row → Subcommand → Type 0
 HasTables rows Ls = Unit {0}
 HasTables rows (Dump tables) = AreNamed rows tables
 HasTables rows (Encode tables form) =
     AreNamed rows tables × (word_of form ≡ first_of (codes "form") rows)
 
--- The job consists of the subcommand on the command line, its tables and form, and the value of
--- FILE, if any.
+-- The job has the subcommand, tables, form and FILE (if any) that the command line specifies.
 abbrev pub IsJobOf : Option (Text × List Row) → Job → Type 0
 IsJobOf None job = ⊥
 IsJobOf (Some subcommand) job =
     (subcommand.0 ≡ name_of job.command) × HasTables subcommand.1 job.command
     × (option_map (λ name. name.now) job.file ≡ first_of (codes "FILE") subcommand.1)
 
--- Why the subcommand on the command line, which has this name and these values, is not a job:
--- `bufr` has no such subcommand, a table is missing, or there is no such form.
+-- The given reason explains why a subcommand with the given name and values does not specify a job:
+-- `bufr` has no subcommand with that name, a table is missing, or the value of `--form` is unknown.
 -- rule: form-words
 abbrev pub IsWhyNoJob : Text → List Row → NoJob → Type 0
 IsWhyNoJob name rows UnknownCommand = (command : Subcommand) → ¬ (name ≡ name_of command)
@@ -93,7 +94,7 @@ IsWhyNoJob name rows MissingTable =
 IsWhyNoJob name rows UnknownForm =
     (name ≡ codes "encode") × ((form : Form) → ¬ (word_of form ≡ first_of (codes "form") rows))
 
--- the text for standard error if a subcommand is not a job
+-- the text that is written to standard error if a subcommand does not specify a job
 abbrev pub no_job_text : NoJob → Text
 no_job_text UnknownCommand = codes "error: no command\n"
 no_job_text MissingTable = codes "error: -B or -D is missing\n"
@@ -101,15 +102,17 @@ no_job_text UnknownForm =
     codes "error: invalid value for '--form <WORD>'\n"
     ++ codes "  [possible values: plain, compressed]\n\nFor more information, try '--help'.\n"
 
--- The command line has no subcommand, or its subcommand is not a job; this is the text for it.
+-- The command line has no subcommand, or its subcommand does not specify a job, and the text
+-- reports the reason.
 -- rule: usage
 abbrev pub GivesNoJob : Option (Text × List Row) → (text : Text) → Type 0
 GivesNoJob None text = text ≡ no_job_text UnknownCommand
 GivesNoJob (Some subcommand) text =
     (why : NoJob) × IsWhyNoJob subcommand.0 subcommand.1 why × (text ≡ no_job_text why)
 
--- Why a command line is not a job: clap reports help, the version or another error (one of `kinds`;
--- its wording is not stated), or the subcommand is not a job, or memory ran out.
+-- The given reason explains why a command line does not specify a job: clap reports one of `kinds`
+-- (an error, or a request for help or the version; the wording is not specified), the subcommand
+-- does not specify a job, or memory runs out.
 -- rule: help, usage
 abbrev pub SaysWhy : Kinds → Option (Text × List Row) → LineFault → Type 0
 SaysWhy kinds subcommand (Help text) = IsAmong DisplayHelp kinds ⊎ IsAmong DisplayVersion kinds

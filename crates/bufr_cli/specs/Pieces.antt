@@ -1,5 +1,5 @@
--- The pieces that each command writes for an input, in order: texts for the output, and fault lines
--- for the errors. (own)
+-- The pieces that each command writes for an input, in order. A piece is text for the writer
+-- `output` or a fault line for the writer `errors`. (own)
 -- Cited by public contracts.
 use Rattle.std.specs.Prelude.{ℕ, Bool, true, false, not, List, [], ◌∷◌, map, Result, Ok, Err}
 use Rattle.std.specs.Option.{option_map_or}
@@ -14,12 +14,13 @@ use Rattle.bufr_tables.specs.Prelude.{tree_of, tables_of, template_report, Row, 
 use Rattle.bufr_walk.specs.Prelude.{next_item, data_report, data_of, reading_of, fault_of, DataReading}
 use Rattle.bufr_text.specs.declared.encode.Form.{Form}
 
--- a text for the output, or a fault line for the errors
+-- text for the writer `output`, or a fault line for the writer `errors`
 pub data Piece : Type 0 where
   OnOutput : (text : List ℕ) → Piece
   OnErrors : (text : List ℕ) → Piece
 
--- what a piece adds to the output, and to the errors
+-- the octets that a piece adds to the output; `errors_of` (below) returns the octets that it adds
+-- to the error output
 abbrev pub output_of : Piece → List ℕ
 output_of (OnOutput text) = text
 output_of (OnErrors text) = []
@@ -28,30 +29,30 @@ abbrev pub errors_of : Piece → List ℕ
 errors_of (OnOutput text) = []
 errors_of (OnErrors text) = text
 
--- whether a piece is for the output: its message or document was accepted
+-- whether a piece belongs to the output, as the pieces for accepted messages and documents do
 abbrev pub is_accepted : Piece → Bool
 is_accepted (OnOutput text) = true
 is_accepted (OnErrors text) = false
 
--- whether a piece is for the errors: its stray, message or document was refused
+-- whether a piece belongs to the error output, as the pieces for rejected messages and lines do
 abbrev pub is_refused : Piece → Bool
 is_refused piece = not (is_accepted piece)
 
--- the piece of a message or stray: its text, or the fault line of a report
+-- the piece for a message or a stray: the text of the message, or the line that reports the fault
 -- rule: refused-messages-write-nothing
 abbrev pub text_or_fault : (offset : ℕ) → Result (List ℕ) (ℕ × List (List ℕ)) → Piece
 text_or_fault offset (Ok text) = OnOutput text
 text_or_fault offset (Err report) = OnErrors (fault_line offset report)
 
--- the piece of `ls` for an event
+-- the piece that `ls` writes for an event
 -- rule: one-fault-a-message
 abbrev pub ls_piece : StreamEvent → Piece
 ls_piece (FrameAt offset octets) =
     text_or_fault offset (result_map_both (ls_line offset) section_report (sections_of octets))
 ls_piece (StrayAt offset cause) = text_or_fault offset (Err (cause_report cause))
 
--- the dump text of a message, or the report of its first fault: of its sections, its descriptor
--- list or its data
+-- The dump of a message, or the report of its first fault. The sections are checked first, then the
+-- descriptor list, and finally the data.
 -- rule: list-before-data
 abbrev pub dump_or_report : List Row → List Sequence → Result Sections SectionFault
     → Result (List ℕ) (ℕ × List (List ℕ))
@@ -62,31 +63,31 @@ dump_or_report b d parsed = do
   option_map_or (λ why. Err (data_report why)) (fault_of (data_of s) reading)
       (Ok (dump_text_of s (dump_items b s.subsets reading.values)))
 
--- the piece of `dump` for an event
+-- the piece that `dump` writes for an event
 -- rule: one-fault-a-message
 abbrev pub dump_piece : List Row → List Sequence → StreamEvent → Piece
 dump_piece b d (FrameAt offset octets) =
     text_or_fault offset (dump_or_report b d (sections_of octets))
 dump_piece b d (StrayAt offset cause) = text_or_fault offset (Err (cause_report cause))
 
--- the piece of a document: its message, or its fault line
+-- the piece for a document: the encoded message, or the line that reports the fault
 abbrev pub encoded : Result (List ℕ) DocumentFault → Piece
 encoded (Ok octets) = OnOutput octets
 encoded (Err why) = OnErrors (refusal_line why)
 
--- the piece of `encode` for a document or an invalid line
+-- the piece that `encode` writes for a document or an invalid line
 -- rule: document-read-first
 abbrev pub result_piece : Form → List Row → List Sequence → ParseResult → Piece
 result_piece form b d (Complete document) = encoded (encoding_in form b d document)
 result_piece form b d (Refused line fault) = OnErrors (document_line line (line_report fault))
 
--- the pieces up to the first that was refused
+-- the pieces up to and including the first fault line
 -- rule: first-refusal-ends
 unfoldable pub up_to_refused : List Piece → List Piece
 up_to_refused [] = []
 up_to_refused (OnOutput text ∷ more) = OnOutput text ∷ up_to_refused more
 up_to_refused (OnErrors text ∷ more) = OnErrors text ∷ []
 
--- the pieces of `encode` for the documents of a text; encoding stops at the first fault
+-- the pieces that `encode` writes for documents, up to and including the first fault line
 abbrev pub encode_pieces : Form → List Row → List Sequence → List ParseResult → List Piece
 encode_pieces form b d results = up_to_refused (map (result_piece form b d) results)

@@ -1,4 +1,4 @@
--- Re-exports the names that proofs and other crates cite, and declares nothing.
+-- Re-exports the names that proofs and other crates use, and declares nothing itself.
 pub use Rattle.bufr_cli.specs.RoundTrip.{accepted_in, accepted_messages, dump_pieces, dumped, longer_by, event_octets, rebuilding, rebuilt, IsBuiltAgain, IsWholeRound, written_by, IsCanonicalMessage, RoundTrips, Written, IsDumpedInOneSpelling, before_refused, built, form_pieces, normal_by, normal_text, RunsInMemory}
 unfoldable pub use Rattle.bufr_cli.specs.RoundTrip.{normal_texts}
 pub use Rattle.bufr_cli.specs.Running.{HasFlushed, IsFlushed, FlushesBoth, IsFlushedIf, FlushesIf, FlushesWritten, unflushed_after, RunPieces, WritesWhole, event_pieces, read_pieces, ReadsAndWrites, RunEnds, IsAllWritten, IsUnrefused, FlushesAtMost, FlushesByRead, FlushFails, NoFlushFails, LeavesDevices, WritesPieces, WritesPrefixes, Tallies, ReadsFewer, BlamesWriter, CountsCalls, Input, Writers, ReadsAll, WrittenInPart, holding, document_pieces, ReadsAtMost, Writer, input_of, writers_of, OnlyWrites, writer_of, HasNotFailed, HasFailed}

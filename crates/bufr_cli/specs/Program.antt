@@ -1,5 +1,5 @@
--- What a call of the program does: the inputs that it opens, the tables that it reads, its run and
--- its outcome. (own)
+-- The effects of running the program: the inputs that it opens, the tables that it reads, its
+-- output and its outcome. (own)
 -- Cited by public contracts.
 use Rattle.std.specs.Prelude.{◌≡◌, ◌≢◌, ◌⊎◌, ℕ, List, Option, Some, None, Result, Ok, Err, IfSome, [], ◌∷◌, ◌++◌, true, string_bytes}
 use Rattle.std.specs.Borrow.{Bor}
@@ -27,23 +27,24 @@ use Rattle.bufr_cli.specs.Line.{IsJobOf, SaysWhy, bufr_app}
 use Rattle.bufr_cli.specs.declared.job.LineFault.{LineFault}
 use Rattle.bufr_cli.specs.declared.job.LineFault.TheVariants.{Help, Usage, Memory}
 
--- What is opened: standard input, or the file with this name.
+-- an input that can be opened: standard input, or the file with the given name
 pub data InputName : Type 0 where
   standard_name : InputName
   file_name : (name : List ℕ) → InputName
 
--- If it is known what had been opened before, exactly these inputs were opened after that, in
--- order.
+-- If the inputs opened earlier are known, exactly the inputs in `names` were opened after them, in
+-- that order.
 abbrev pub Opens : (before after : Option (List InputName)) → List InputName → Type 0
 Opens None after names = Unit {0}
 Opens (Some before) None names = ⊥
 Opens (Some before) (Some after) names = after ≡ before ++ names
 
--- What is known of the inputs of a program, whose types are Standard and File.
+-- What is known about the program's inputs. `Standard` is the type of standard input, and `File` is
+-- the type of a file.
 pub record Known (Standard File : Type 0) : Type 0 where
   -- the octets of standard input, if they are known
   pub standard : Option (List ℕ)
-  -- the octets of the file with a name, if they are known (see `Inputs`)
+  -- the octets of the file with the given name, if they are known (see `Inputs`)
   pub named : List ℕ → Option (List ℕ)
   -- the state of standard input
   pub of_standard : Standard → Input
@@ -56,14 +57,14 @@ abbrev pub known : {Standard File : Type 0} → (standard : Option (List ℕ))
 known standard named of_standard of_file =
     record { standard = standard; named = named; of_standard = of_standard; of_file = of_file }
 
--- the pieces of a command whose tables were read
+-- the pieces that a command writes
 abbrev pub command_pieces : Command → RunPieces
 command_pieces command.Ls = event_pieces ls_piece
 command_pieces (command.Dump b d) = event_pieces (dump_piece b.now d.now)
 command_pieces (command.Encode form b d) = document_pieces form b.now d.now
 
--- The file with this name was not opened: it cannot be (then it is not among the known files), or
--- memory ran out.
+-- The file with the given name was not opened, either because it could not be opened (in which case
+-- its octets are unknown) or because memory ran out.
 abbrev pub IsClosed : (named : List ℕ → Option (List ℕ)) → (name : Bor (List ℕ)) → Outcome → Type 0
 IsClosed named name outcome =
     ((outcome ≡ CannotOpen name) × (named name.now ≡ None)) ⊎ (outcome ≡ Run run_fault.Memory)
@@ -72,22 +73,23 @@ abbrev pub ran_outcome : Result Tally RunFault → Outcome
 ran_outcome (Ok tally) = Ran tally
 ran_outcome (Err fault) = Run fault
 
--- A run reads an input of type R that contains these octets. `state_of` gives the state of the
--- input, which changes from `from` to `to`, and `run` states how.
+-- A run reads an input of type `R` that contains the given octets. `state_of` returns the input's
+-- state, and `run` relates the states before and after the run.
 abbrev pub RunsOver : {R : Type 0} → (state_of : R → Input) → (octets : Option (List ℕ))
     → (run : (from to : Input) → Type 0) → Type 0
 RunsOver {R} state_of octets run =
     (from to : R) × ((state_of from).left ≡ octets) × run (state_of from) (state_of to)
 
--- A run reads the file with this name, or standard input if there is no name.
+-- A run reads the file with the given name, or standard input if no name is given.
 -- rule: dash-is-a-name
 abbrev pub RunsOverInput : {Standard File : Type 0} → Known Standard File
     → (file : Option (Bor (List ℕ))) → (run : (from to : Input) → Type 0) → Type 0
 RunsOverInput inputs None run = RunsOver inputs.of_standard inputs.standard run
 RunsOverInput inputs (Some name) run = RunsOver inputs.of_file (inputs.named name.now) run
 
--- The outcome of a run that reads the file with this name, or standard input: the input is not
--- opened (standard input only if memory ran out), and nothing is written; or the run ends.
+-- The possible outcomes of a run that reads the file with the given name, or standard input if no
+-- name is given. Either the input is not opened and nothing is written, or the run takes place.
+-- Opening standard input fails only if memory runs out.
 pub data RunOutcome {Standard File : Type 0} (pieces : RunPieces) (inputs : Known Standard File)
     (file : Option (Bor (List ℕ))) (before after : Writers) (outcome : Outcome) : Type 0 where
   IsNotOpened : (name : Bor (List ℕ)) → file ≡ Some name → IsClosed inputs.named name outcome
@@ -98,28 +100,29 @@ pub data RunOutcome {Standard File : Type 0} (pieces : RunPieces) (inputs : Know
       → RunsOverInput inputs file (λ from to. EndsRun pieces from to before after ran)
       → RunOutcome pieces inputs file before after outcome
 
--- A file is not read to its end: a read failed, 2^32 reads did not reach the end, or memory ran out
--- before all of these were made.
+-- A file was not read to its end, because a read failed, because 2^32 reads did not reach the end,
+-- or because memory ran out after fewer reads.
 pub record FailsToRead (fault : RunFault) (from to : Input) : Type 0 where
   pub octets : List ℕ
   pub read : Consumes from.left to.left octets
-  -- a file is only read
+  -- a file is only read, so the fault cannot be a failed write
   pub none : fault ≢ run_fault.Write
-  -- the file counts a `Read` fault; X does not matter, since the result is a fault
+  -- if the fault is `Read`, the file counted one failed read; the type X does not matter, because
+  -- the result is a fault
   pub failures : to.failures ≡ read_failures_after {X = Unit {0}} from.failures (Err fault)
   pub reads : ReadsAtMost {X = Unit {0}} from.reads to.reads (Err fault)
   pub fewer : fault ≡ run_fault.Memory → ReadsFewer from.reads to.reads
 
--- The file with these octets is not read to its end, for this fault.
+-- A fault prevented the file with the given octets from being read to its end.
 -- rule: table-not-read
 abbrev pub IsUnread : {File : Type 0} → (state_of : File → Input) → (octets : Option (List ℕ))
     → Outcome → Type 0
 IsUnread state_of octets outcome =
     (fault : RunFault) × (outcome ≡ Run fault) × RunsOver state_of octets (FailsToRead fault)
 
--- A table is not available: its file is not opened, it is not read to its end, or the table has a
--- fault. `is_result` relates records to the result of reading the table from them, and `outcome_of`
--- gives the outcome for a fault of the table.
+-- A table is not available, because its file was not opened or not read to its end, or because the
+-- table is invalid. `is_result` relates the table's records to the result of reading them, and
+-- `outcome_of` returns the outcome for a fault in the table.
 abbrev pub TableOutcome : {X File : Type 0} → (state_of : File → Input)
     → (is_result : List Record → Result X TableFault → Type 0) → (outcome_of : TableFault → Outcome)
     → (named : List ℕ → Option (List ℕ)) → (name : Bor (List ℕ)) → Outcome → Type 0
@@ -128,18 +131,19 @@ TableOutcome state_of is_result outcome_of named name outcome =
     ⊎ ((fault : TableFault) × (outcome ≡ outcome_of fault)
     × IfSome (named name.now) (λ text. is_result (records_of text) (Err fault)))
 
--- Tables B and D are those in the files with these names, if the octets of the files are known.
+-- `b` and `d` are the tables in the files with the given names, as far as the octets of those files
+-- are known.
 pub record AreTables (named : List ℕ → Option (List ℕ)) (tables : TableNames) (b : List Row)
     (d : List Sequence) : Type 0 where
   pub table_b : IfSome (named tables.table_b.now) (λ text. table_b_of (records_of text) ≡ Ok b)
   pub table_d : IfSome (named tables.table_d.now) (λ text. ReadsTableD (records_of text) (Ok d))
 
--- the files of the tables, in the order in which they are opened
+-- the names of the table files, in the order in which the files are opened
 abbrev pub table_names : TableNames → List InputName
 table_names tables = file_name tables.table_b.now ∷ file_name tables.table_d.now ∷ []
 
--- One of the tables is not available. If it is Table B, nothing else is opened; if it is Table D,
--- Table B was read before. `opens` says which inputs were opened.
+-- One of the tables is not available. If Table B is not available, nothing else was opened. If
+-- Table D is not available, Table B was read first. `opens` states which inputs were opened.
 pub data AreUnread {File : Type 0} (state_of : File → Input) (named : List ℕ → Option (List ℕ))
     (tables : TableNames) (opens : List InputName → Type 0) (outcome : Outcome) : Type 0 where
   NoTableB : opens (file_name tables.table_b.now ∷ [])
@@ -150,13 +154,14 @@ pub data AreUnread {File : Type 0} (state_of : File → Input) (named : List ℕ
       → TableOutcome state_of ReadsTableD TableD named tables.table_d outcome
       → AreUnread state_of named tables opens outcome
 
--- what is opened for an input: the file with this name, or standard input if there is no name
+-- the input that is opened: the file with the given name, or standard input if no name is given
 abbrev pub input_name : Option (Bor (List ℕ)) → InputName
 input_name None = standard_name
 input_name (Some name) = file_name name.now
 
--- The outcome of `dump` or `encode`: a table is not available, and nothing is written; or both are,
--- the input is opened after them, and `RunOutcome` applies.
+-- The possible outcomes of `dump` and `encode`. Either a table is not available and nothing is
+-- written, or both tables are available, the input is opened after the tables, and `RunOutcome`
+-- applies.
 -- rule: tables-before-input
 pub data TablesOutcome {Standard File : Type 0} (pieces : List Row → List Sequence → RunPieces)
     (inputs : Known Standard File) (tables : TableNames) (opens : List InputName → Type 0)
@@ -168,7 +173,7 @@ pub data TablesOutcome {Standard File : Type 0} (pieces : List Row → List Sequ
       → RunOutcome (pieces b d) inputs file before after outcome
       → TablesOutcome pieces inputs tables opens file before after outcome
 
--- The outcome of a subcommand, and the inputs that it opens.
+-- A subcommand has the given outcome, and `opens` states which inputs it opens.
 abbrev pub CommandOutcome : {Standard File : Type 0} → Known Standard File
     → (opens : List InputName → Type 0) → Subcommand → (file : Option (Bor (List ℕ)))
     → (before after : Writers) → Outcome → Type 0
@@ -181,8 +186,8 @@ CommandOutcome inputs opens (Dump tables) file before after outcome =
 CommandOutcome inputs opens (Encode tables form) file before after outcome =
     TablesOutcome (document_pieces form) inputs tables opens file before after outcome
 
--- The help is written and flushed, with status 0; or that fails, and the last line reports it, with
--- status 2.
+-- Either the help text is written and flushed, and the status is 0, or a write or the flush fails,
+-- the last line reports the failure, and the status is 2.
 pub data WritesHelp (text : List ℕ) (before after : Writers) (status : ℕ) : Type 0 where
   InWhole : Appends before.output.taken after.output.taken text
       → after.output.all_flushed ≡ true → HasNotFailed before.output after.output
@@ -192,7 +197,8 @@ pub data WritesHelp (text : List ℕ) (before after : Writers) (status : ℕ) : 
       → WritesLine before.errors after.errors (run_line run_fault.Write) → status ≡ 2
       → WritesHelp text before after status
 
--- What is written if the command line is not a job: only help goes to the output.
+-- The effects of running the program if the command line does not specify a job. Only the text of
+-- the help or the version is written to the output.
 abbrev pub AnswersFault : LineFault → (before after : Writers) → (status : ℕ) → Type 0
 AnswersFault (Help text) before after status = WritesHelp (string_bytes text) before after status
 AnswersFault (Usage text) before after status =
@@ -202,9 +208,9 @@ AnswersFault Memory before after status =
     (after.output ≡ before.output)
     × WritesLine before.errors after.errors (run_line run_fault.Memory) × (status ≡ 2)
 
--- What a call of the program does. Either the command line is a job that clap accepts, and the last
--- line and the status report its outcome; or it is not, the program writes why not, and no input is
--- opened.
+-- The effects of running the program. Either clap accepts the command line, it specifies a job, and
+-- the last line and the status report the job's outcome; or the program opens no input and reports
+-- why the command line does not specify a job.
 -- rule: status-of-help
 pub data RunsProgram {Standard File : Type 0} (words : List Text) (inputs : Known Standard File)
     (opened opened' : Option (List InputName)) (before after : Writers) (status : ℕ) : Type 0 where

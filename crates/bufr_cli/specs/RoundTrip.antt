@@ -1,4 +1,4 @@
--- Only contracts need this file. Dumping a stream, encoding its text, and dumping the result again.
+-- Only contracts need this file. Dumping a stream, encoding the dump, and dumping the result again.
 -- (own)
 use Rattle.std.specs.Prelude.{◌≡◌, ℕ, ◌+◌, ◌≤◌, List, [], ◌∷◌, length, map, flat_map, count_by, Result, Ok, Err}
 use Rattle.std.specs.List.{AllByRecursion, AllZip, concat, filter}
@@ -16,50 +16,55 @@ use Rattle.bufr_cli.specs.declared.outcome.Tally.{Tally}
 use Rattle.bufr_tables.specs.declared.fault.TemplateFault.{TemplateFault}
 use Rattle.bufr_text.specs.declared.encode.Form.{Form}
 
--- the pieces that `dump` writes for a stream, one for each event, and what goes to its output
+-- the pieces that `dump` writes for a stream, one for each event; `dumped` (below) returns the
+-- resulting output
 abbrev pub dump_pieces : List Row → List Sequence → List ℕ → List Piece
 dump_pieces b d s = map (dump_piece b d) (scan s)
 
 abbrev pub dumped : List Row → List Sequence → List ℕ → List ℕ
 dumped b d s = flat_map output_of (dump_pieces b d s)
 
--- the pieces that `encode` writes for a text in a form, and what goes to its output
+-- the pieces that `encode` writes for the given text and form; `built` (below) returns the
+-- resulting output
 abbrev pub form_pieces : Form → List Row → List Sequence → (text : List ℕ) → List Piece
 form_pieces form b d text = encode_pieces form b d (documents_of text)
 
 abbrev pub built : Form → List Row → List Sequence → (text : List ℕ) → List ℕ
 built form b d text = flat_map output_of (form_pieces form b d text)
 
--- the pieces that `encode` writes for the dump text of a stream, and what goes to its output
+-- the pieces that `encode` writes for the dump of a stream; `rebuilt` (below) returns the resulting
+-- output
 abbrev pub rebuilding : List Row → List Sequence → List ℕ → List Piece
 rebuilding b d s = form_pieces AsWritten b d (dumped b d s)
 
 abbrev pub rebuilt : List Row → List Sequence → List ℕ → List ℕ
 rebuilt b d s = flat_map output_of (rebuilding b d s)
 
--- the octets of an event that is a message
+-- a list with the octets of a message as its only entry, or an empty list for a stray `BUFR`
 abbrev pub event_octets : StreamEvent → List (List ℕ)
 event_octets (FrameAt offset octets) = octets ∷ []
 event_octets (StrayAt offset cause) = []
 
--- the octets of an event whose message is accepted: its piece goes to the output
+-- a list with the octets of an accepted message (one whose piece belongs to the output) as its only
+-- entry, or an empty list for any other event
 abbrev pub accepted_in : StreamEvent → Piece → List (List ℕ)
 accepted_in here (OnOutput text) = event_octets here
 accepted_in here (OnErrors text) = []
 
--- the messages of a stream that are accepted, in order
+-- the accepted messages in a stream, in order
 abbrev pub accepted_messages : List Row → List Sequence → List ℕ → List (List ℕ)
 accepted_messages b d s = flat_map (λ here. accepted_in here (dump_piece b d here)) (scan s)
 
--- the number of octets by which these messages may grow when they are written again: up to two for
--- each edition 3 message with an odd section 3 or 4
+-- the maximum number of octets by which the given messages can grow when they are encoded again:
+-- two for each edition 3 message in which section 3 or 4 has an odd length
 -- rule: encode-may-grow
 abbrev pub longer_by : List (List ℕ) → ℕ
 longer_by [] = 0
 longer_by (m ∷ ms) = extra_octets m + longer_by ms
 
--- The first of two messages is accepted, and the second has the same reading. The second is no
--- longer than the first, except that in edition 3, up to two octets make odd sections even.
+-- The message m is accepted, and reading `written` gives the same result as reading m. `written` is
+-- no longer than m, except that in edition 3, up to two octets may be added to make the lengths of
+-- sections 3 and 4 even.
 pub record IsBuiltAgain (b : List Row) (d : List Sequence) (m written : List ℕ) : Type 0 where
   pub sections : Sections
   pub template : Tree
@@ -68,51 +73,50 @@ pub record IsBuiltAgain (b : List Row) (d : List Sequence) (m written : List ℕ
   pub accepted : IsAccepted b d m sections template values used
   pub same : HasSameReading b m sections template values written
 
--- The message is as an encoder writes it, for any reading with which it is accepted.
+-- The message is canonical for any sections, template and values with which it can be accepted.
 abbrev pub IsCanonicalMessage : List Row → List Sequence → List ℕ → Type 0
 IsCanonicalMessage b d m =
     (sections : Sections) (template : Tree) (values : Values) (used : ℕ)
     → IsAccepted b d m sections template values used → IsCanonical m sections values used
 
--- `encode` builds messages from the output of `dump` for a stream, and dumping them gives the same
--- text.
+-- Encoding the dump of a stream and dumping the resulting messages gives the same dump.
 pub record RoundTrips (b : List Row) (d : List Sequence) (s : List ℕ) : Type 0 where
-  -- `encode` refuses nothing, and builds as many messages as were dumped
+  -- `encode` rejects nothing, and writes as many messages as were dumped
   pub none_refused : count_by is_refused (rebuilding b d s) ≡ 0
   pub no_line : flat_map errors_of (rebuilding b d s) ≡ []
   pub as_many : count_by is_accepted (rebuilding b d s)
       ≡ count_by is_accepted (dump_pieces b d s)
-  -- The output of `encode` consists of these messages and nothing else. It is longer than the
-  -- stream by at most what edition 3 messages with odd sections may grow (`longer_by`). Each
-  -- message has the same reading as its original.
+  -- The output of `encode` consists of accepted messages and nothing else. The output is at most
+  -- `longer_by` octets longer than the stream. Reading each encoded message gives the same result
+  -- as reading the original message.
   pub messages : rebuilt b d s ≡ concat (accepted_messages b d (rebuilt b d s))
   pub no_longer : length (rebuilt b d s) ≤ length s + longer_by (accepted_messages b d s)
   pub readings : AllZip (IsBuiltAgain b d) (accepted_messages b d s)
       (accepted_messages b d (rebuilt b d s))
-  -- dumping this output gives exactly the pieces that went to the output for the stream: the same
-  -- text, octet for octet, and no fault
+  -- dumping the encoded messages gives exactly the output pieces for the original stream, and
+  -- therefore the same text, octet for octet, without faults
   pub same_pieces : dump_pieces b d (rebuilt b d s)
       ≡ filter is_accepted (dump_pieces b d s)
   pub same_text : dumped b d (rebuilt b d s) ≡ dumped b d s
   pub no_fault : flat_map errors_of (dump_pieces b d (rebuilt b d s)) ≡ []
-  -- dumping and encoding this output leaves it unchanged
+  -- dumping the encoded messages and encoding the dump gives the same messages again
   pub settled : rebuilt b d (rebuilt b d s) ≡ rebuilt b d s
 
--- An in-memory run wrote and counted these pieces.
+-- An in-memory run wrote the given pieces and counted them.
 pub record RunsInMemory (ran : RunInMemory) (pieces : List Piece) : Type 0 where
   pub output : taken_of ran.output ≡ flat_map output_of pieces
   pub errors : taken_of ran.errors ≡ flat_map errors_of pieces
   pub tallies : Tallies ran.tally pieces
 
--- what a run wrote: its output, its fault lines and its counts
+-- the result of a run: its output, its fault lines and its counts
 pub record Written : Type 0 where
   pub output : List ℕ
   pub errors : List ℕ
   pub tally : Tally
 
--- A stream was dumped to a text, the text was encoded to messages, and the messages were dumped
--- again. The two texts are the same, and only the first run may have refused anything. One by one,
--- the messages have the same readings as those that were dumped.
+-- A stream was dumped, the dump was encoded, and the resulting messages were dumped again. The two
+-- dumps are the same, and only the first run may have rejected anything. Reading each encoded
+-- message gives the same result as reading the corresponding message in the stream.
 pub record IsWholeRound (b : List Row) (d : List Sequence) (stream : List ℕ)
     (text messages again : Written) : Type 0 where
   pub same_text : again.output ≡ text.output
@@ -121,26 +125,25 @@ pub record IsWholeRound (b : List Row) (d : List Sequence) (stream : List ℕ)
   pub no_line : messages.errors ≡ []
   pub none_refused_again : again.tally.refused ≡ 0
   pub no_fault : again.errors ≡ []
-  -- the output consists of messages and nothing else, and each has the same reading as the one that
-  -- was dumped
+  -- the output of `encode` consists only of messages, and reading each one gives the same result as
+  -- reading the corresponding message in the stream
   pub are_messages : messages.output ≡ concat (accepted_messages b d messages.output)
   pub readings : AllZip (IsBuiltAgain b d) (accepted_messages b d stream)
       (accepted_messages b d messages.output)
   pub no_longer :
       length messages.output ≤ length stream + longer_by (accepted_messages b d stream)
-  -- if the dumped messages are as an encoder writes them, the output is the same, octet for octet
+  -- if the dumped messages are canonical, `encode` writes the same messages, octet for octet
   pub canonical : AllByRecursion (IsCanonicalMessage b d) (accepted_messages b d stream)
       → messages.output ≡ concat (accepted_messages b d stream)
 
--- what an in-memory run wrote
+-- the result of an in-memory run
 abbrev pub written_by : RunInMemory → Written
 written_by ran =
     record { output = taken_of ran.output; errors = taken_of ran.errors; tally = ran.tally }
 
--- ---- Encoding a text and dumping the result: the one spelling that dumps use. (own)
+-- ---- Encoding text and dumping the messages, which gives the text in its normal spelling. (own)
 
--- the text of a document in the spelling that dumps use, given the template of its descriptors;
--- empty if they have none
+-- the normal text of a document, or nothing if its template has a fault
 abbrev pub normal_by : Form → List Row → Document → Result Tree TemplateFault → List ℕ
 normal_by form b document (Ok template) = normal form b template document
 normal_by form b document (Err fault) = []
@@ -149,14 +152,14 @@ abbrev pub normal_text : Form → List Row → List Sequence → Document → Li
 normal_text form b d document =
     normal_by form b document (tree_of (tables_of b d) document.descriptors)
 
--- the text of a document that can be encoded, followed by those after it; none if the document is
--- refused
+-- the text of a document followed by the text of later documents, or no text if the document is
+-- rejected
 abbrev pub before_refused : Result (List ℕ) DocumentFault → (text : List ℕ)
     → (more : List (List ℕ)) → List (List ℕ)
 before_refused (Ok octets) text more = text ∷ more
 before_refused (Err refused) text more = []
 
--- the texts, in this spelling, of the documents before the first document or line that is refused
+-- the normal text of each document before the first rejected document or line
 unfoldable pub normal_texts : Form → List Row → List Sequence → List ParseResult → List (List ℕ)
 normal_texts form b d [] = []
 normal_texts form b d (Complete document ∷ more) =
@@ -164,12 +167,12 @@ normal_texts form b d (Complete document ∷ more) =
     (normal_texts form b d more)
 normal_texts form b d (Refused line fault ∷ more) = []
 
--- Dumping what `encode` builds from a text gives the documents of the text before the first one
--- that is refused, in the spelling that dumps use.
+-- Encoding text and dumping the messages gives the normal text of each document before the first
+-- rejected document or line.
 pub record IsDumpedInOneSpelling (form : Form) (b : List Row) (d : List Sequence)
     (text : List ℕ) : Type 0 where
-  -- each event is an accepted message whose text is that of its document; there is nothing else,
-  -- and no fault
+  -- each event is an accepted message whose dump is the normal text of its document; nothing is
+  -- rejected
   pub pieces : dump_pieces b d (built form b d text)
       ≡ map OnOutput (normal_texts form b d (documents_of text))
   pub same_text : dumped b d (built form b d text)
@@ -178,5 +181,6 @@ pub record IsDumpedInOneSpelling (form : Form) (b : List Row) (d : List Sequence
       ≡ count_by is_accepted (form_pieces form b d text)
   pub none_refused : count_by is_refused (dump_pieces b d (built form b d text)) ≡ 0
   pub no_fault : flat_map errors_of (dump_pieces b d (built form b d text)) ≡ []
-  -- encoding these texts, each in the form that it specifies, gives the same octets again
+  -- encoding each normal text in the form that it specifies gives the same messages again, octet
+  -- for octet
   pub settled : rebuilt b d (built form b d text) ≡ built form b d text

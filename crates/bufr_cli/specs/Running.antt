@@ -1,5 +1,5 @@
--- What a run over an input does to its devices: what it reads and writes, when it flushes, and
--- which device a fault comes from. (own)
+-- The effects of a run on its devices: what it reads and writes, when it flushes, and which device
+-- causes a fault. (own)
 -- Cited by public contracts.
 use Rattle.std.specs.Prelude.{if◌then◌else◌, ◌+◌, ℕ, Bool, true, OnOk, IfErr, IfOk, ◌≢◌, List, Option, ◌≡◌, ◌⊎◌, Result, Ok, Err, ◌<◌, ◌≤◌, false, ◌++◌, None, flat_map, count_by, option_to_list, map, [], IfSome, Vec, length}
 use Rattle.bufr_frame.specs.declared.fault.RunFault.{RunFault}
@@ -19,15 +19,15 @@ use Rattle.std.specs.Global.{Global}
 use Rattle.bufr_bits.specs.declared.device.Sink as sink
 use Rattle.bufr_bits.specs.declared.device.Source as source
 
--- ---- The counts of an input and of the writers, and which writer a fault comes from. (own)
+-- ---- The counts for an input and for the writers, and the writer that causes a fault. (own)
 
--- the state of an input, as in the ghost items of `Source`
+-- the state of an input, as described by the ghost items of `Source`
 pub record Input : Type 0 where
   pub left : Option (List ℕ)
   pub reads : ℕ
   pub failures : ℕ
 
--- the state of a writer, as in the ghost items of `Sink`
+-- the state of a writer, as described by the ghost items of `Sink`
 pub record Writer : Type 0 where
   pub taken : Option (List ℕ)
   pub failures : ℕ
@@ -59,7 +59,7 @@ abbrev pub writers_of : {W E : Type 0} → sink.Ghosts W → W → sink.Ghosts E
 writers_of output w errors e =
     record { output = writer_of output w; errors = writer_of errors e }
 
--- two writers that took these octets, if they are known, and whose counts are 0
+-- two writers that have accepted the given octets (if they are known) and whose counts are 0
 abbrev pub holding : (output errors : Option (List ℕ)) → Writers
 holding output errors =
     record {
@@ -79,31 +79,33 @@ holding output errors =
       };
     }
 
--- If the call failed, the writer counted one failed call or one empty write; if not, its counts are
--- unchanged.
+-- If the call failed, the writer counted one failed call or one write that accepted nothing.
+-- Otherwise, the writer's counts are unchanged.
 abbrev pub CountsCalls : {X : Type 0} → (before after : Writer) → Result X RunFault → Type 0
 CountsCalls before after result =
     CountsWrites before.failures after.failures before.empty_writes after.empty_writes result
 
--- If the call failed, the writer counted that. The writer was not flushed.
+-- If the call failed, the writer counted one failed call or one write that accepted nothing. The
+-- writer was not flushed.
 abbrev pub OnlyWrites : {X : Type 0} → (before after : Writer) → Result X RunFault → Type 0
 OnlyWrites before after result =
     CountsCalls before after result × (after.flushes ≡ before.flushes)
 
--- Between these states, no call of the writer failed, and no write took nothing.
+-- Between the two states, no call to the writer failed, and every nonempty write accepted at least
+-- one octet.
 abbrev pub HasNotFailed : (before after : Writer) → Type 0
 HasNotFailed before after =
     (after.failures ≡ before.failures) × (after.empty_writes ≡ before.empty_writes)
 
--- Between these states, either one call of the writer failed or one write took nothing.
+-- Between the two states, exactly one call to the writer failed, or exactly one nonempty write
+-- accepted no octets.
 abbrev pub HasFailed : (before after : Writer) → Type 0
 HasFailed before after =
     ((after.failures ≡ counted before.failures 1) × (after.empty_writes ≡ before.empty_writes))
     ⊎ ((after.failures ≡ before.failures)
     × (after.empty_writes ≡ counted before.empty_writes 1))
 
--- After a fault `Write`, exactly one of the two writers has failed, and has counted that. After any
--- other result, neither has.
+-- If the result is the fault `Write`, exactly one of the writers failed. Otherwise, neither failed.
 -- rule: fault-71
 abbrev pub BlamesWriter : {X : Type 0} → (before after : Writers) → Result X RunFault → Type 0
 BlamesWriter before after (Err Write) =
@@ -112,27 +114,27 @@ BlamesWriter before after (Err Write) =
 BlamesWriter before after result =
     HasNotFailed before.output after.output × HasNotFailed before.errors after.errors
 
--- All of the pieces were written, each to its writer, in order.
+-- All pieces were written in order, each to its writer.
 -- rule: output-in-order
 pub record WritesPieces (before after : Writers) (pieces : List Piece) : Type 0 where
   pub output : Appends before.output.taken after.output.taken (flat_map output_of pieces)
   pub errors : Appends before.errors.taken after.errors.taken (flat_map errors_of pieces)
 
--- Each writer took a prefix of what the pieces write to it.
+-- Each writer accepted a prefix of the octets in the pieces that belong to it.
 pub record WritesPrefixes (before after : Writers) (pieces : List Piece) : Type 0 where
   pub output : GrowsByPrefix before.output.taken after.output.taken (flat_map output_of pieces)
   pub errors : GrowsByPrefix before.errors.taken after.errors.taken (flat_map errors_of pieces)
 
--- The first pieces were written completely, and the next one in part.
+-- Some pieces were written completely, and at most part of the next one was written.
 pub record WrittenInPart (before after : Writers) (pieces : List Piece) : Type 0 where
   -- the pieces that were written completely
   pub given : List Piece
-  -- the piece after them, of which a prefix (possibly empty) was written
+  -- the next piece, if any; a prefix of it (possibly empty) was written
   pub next : Option Piece
   -- the pieces that were not written
   pub rest : List Piece
   pub parts : pieces ≡ given ++ (option_to_list next ++ rest)
-  -- the writers after `given`
+  -- the state of the writers after the pieces in `given` were written
   pub between : Writers
   pub whole : WritesPieces before between given
   pub prefix : WritesPrefixes between after (option_to_list next)
@@ -145,16 +147,16 @@ pub record Tallies (tally : Tally) (pieces : List Piece) : Type 0 where
   pub accepted : tally.accepted ≡ count_by is_accepted pieces
   pub refused : tally.refused ≡ count_by is_refused pieces
 
--- The pieces of a command, as functions of the octets of its input.
+-- The pieces that a command writes, depending on the octets of its input.
 pub record RunPieces : Type 0 where
-  -- the pieces of an input that ends after these octets
+  -- the pieces for an input that ends after the given octets
   pub whole : List ℕ → List Piece
-  -- the first pieces of an input that begins with these octets, whatever follows them
+  -- the certain pieces, which come first for every input that begins with the given octets
   pub certain : List ℕ → List Piece
-  -- whether the run stops after the first piece that is refused, as `encode` does
+  -- whether the run stops after the first fault line, as `encode` does
   pub stops : Bool
 
--- the pieces of a stream; `piece` gives that of an event
+-- the pieces for a stream; `piece` returns the piece for an event
 -- rule: input-without-bufr
 abbrev pub event_pieces : (StreamEvent → Piece) → RunPieces
 event_pieces piece =
@@ -164,7 +166,7 @@ event_pieces piece =
       stops = false;
     }
 
--- the pieces of the documents of a text
+-- the pieces for the documents in the input
 abbrev pub document_pieces : Form → List Row → List Sequence → RunPieces
 document_pieces form b d =
     record {
@@ -173,29 +175,30 @@ document_pieces form b d =
       stops = true;
     }
 
--- the pieces of the octets that were read: all if the input ended, and otherwise those that are
--- certain
+-- the pieces for the octets that were read: all pieces if the input ended, and only the certain
+-- pieces otherwise
 abbrev pub read_pieces : RunPieces → (ended : Bool) → List ℕ → List Piece
 read_pieces pieces ended bs = if ended then pieces.whole bs else pieces.certain bs
 
--- Between these states, either nothing was written to the writer, or everything that it took is
+-- Between the two states, either the writer did not change, or everything it had accepted was
 -- flushed.
 abbrev pub IsFlushed : (before after : Writer) → Type 0
 IsFlushed before after = (after ≡ before) ⊎ (after.all_flushed ≡ true)
 
--- What is flushed after a run.
+-- What a run has flushed depends on its result, as the cases below state.
 -- rule: output-held-back
 abbrev pub HasFlushed : {X : Type 0} → (before after : Writers) → Result X RunFault → Type 0
--- a run that completes has flushed everything
+-- a run that completed has flushed everything
 HasFlushed before after (Ok x) =
     (after.output.all_flushed ≡ true) × (after.errors.all_flushed ≡ true)
--- before a read that fails, everything that the run wrote was flushed
+-- before the read that failed, everything that the run had written was flushed
 HasFlushed before after (Err Read) =
     IsFlushed before.output after.output × IsFlushed before.errors after.errors
--- after other faults, the output need not be flushed yet; `FlushesRest` says what happens to it
+-- after other faults, the output need not have been flushed yet; `FlushesRest` states what happens
+-- to it
 HasFlushed before after (Err fault) = Unit {0}
 
--- Between these states, a flush of the writer failed.
+-- Between the two states, a flush of the writer failed.
 abbrev pub FlushFails : (before after : Writer) → Type 0
 FlushFails before after = after.flushes.failed ≢ before.flushes.failed
 
@@ -204,13 +207,14 @@ FlushesAtMost n before after =
     (after.output.flushes.made ≤ counted before.output.flushes.made n)
     × (after.errors.flushes.made ≤ counted before.errors.flushes.made n)
 
--- No flush of a writer failed.
+-- No flush of either writer failed.
 abbrev pub NoFlushFails : (before after : Writers) → Type 0
 NoFlushFails before after =
     (after.output.flushes.failed ≡ before.output.flushes.failed)
     × (after.errors.flushes.failed ≡ before.errors.flushes.failed)
 
--- Both writers were flushed, the output first, or a flush failed. What they took is unchanged.
+-- Either both writers were flushed (the output first), or a flush failed. The octets that the
+-- writers have accepted are unchanged.
 pub record FlushesBoth {X : Type 0} (before after : Writers) (result : Result X RunFault) : Type 0
   where
     pub output : Keeps before.output.taken after.output.taken
@@ -223,13 +227,14 @@ pub record FlushesBoth {X : Type 0} (before after : Writers) (result : Result X 
     pub fault : IfErr result (λ fault. fault ≡ Write)
     pub counts : BlamesWriter before after result
 
--- The writer is flushed if something was written to it, and unchanged otherwise.
+-- If something had been written to the writer, it was then flushed. Otherwise, the writer is
+-- unchanged.
 abbrev pub IsFlushedIf : (written : Bool) → (before after : Writer) → Type 0
 IsFlushedIf true before after = after.all_flushed ≡ true
 IsFlushedIf false before after = after ≡ before
 
--- If something was written to the writer, it is flushed, or the flush failed; otherwise, it is
--- unchanged. What it took is unchanged in any case.
+-- If something had been written to the writer, it was then flushed, or the flush failed. Otherwise,
+-- the writer is unchanged. In either case, the octets that the writer has accepted are unchanged.
 pub record FlushesIf (written : Bool) (before after : Writer)
     (result : Result (Unit {0}) RunFault) : Type 0 where
   pub keeps : Keeps before.taken after.taken
@@ -239,8 +244,8 @@ pub record FlushesIf (written : Bool) (before after : Writer)
   pub fault : IfErr result (λ fault. fault ≡ Write)
   pub counts : CountsCalls before after result
 
--- Before a read, each writer was flushed if something was written to it, the output first, or a
--- flush failed. If the read can neither block nor fail, both may be unchanged.
+-- Before a read, each writer with unflushed output was flushed (`output` first), or a flush failed.
+-- If the read can neither block nor fail, both writers may be unchanged.
 pub record FlushesWritten (waits : Bool) (unflushed unflushed' : Unflushed)
     (before after : Writers) (result : Result (Unit {0}) RunFault) : Type 0 where
   pub output : Keeps before.output.taken after.output.taken
@@ -255,7 +260,7 @@ pub record FlushesWritten (waits : Bool) (unflushed unflushed' : Unflushed)
   pub fault : IfErr result (λ fault. fault ≡ Write)
   pub counts : BlamesWriter before after result
 
--- the writers that are not flushed after one more piece was written
+-- the writers that need to be flushed once one more piece has been written
 abbrev pub unflushed_after : Unflushed → Verdict → Unflushed
 unflushed_after unflushed Accepted = record unflushed { output = true }
 unflushed_after unflushed Refused = record unflushed { errors = true }
@@ -264,24 +269,24 @@ unflushed_after unflushed Refused = record unflushed { errors = true }
 abbrev pub ReadsFewer : (reads reads' : ℕ) → Type 0
 ReadsFewer reads reads' = (n : ℕ) × (n < max_reads) × (reads' ≡ counted reads n)
 
--- At most 2^32 reads were made, and exactly 2^32 if the input is too long.
+-- At most 2^32 reads were made, and exactly 2^32 reads if the result is `InputTooLong`.
 -- rule: fault-72
 abbrev pub ReadsAtMost : {X : Type 0} → (reads reads' : ℕ) → Result X RunFault → Type 0
 ReadsAtMost reads reads' result =
     (n : ℕ) × (n ≤ max_reads) × (reads' ≡ counted reads n)
     × (result ≡ Err InputTooLong → n ≡ max_reads)
 
--- Each writer was flushed at most once before each read, and once at the end.
+-- Each writer was flushed at most once before each read and at most once at the end.
 abbrev pub FlushesByRead : (reads reads' : ℕ) → (before after : Writers) → Type 0
 FlushesByRead reads reads' before after =
     (n : ℕ) × (reads' ≡ counted reads n) × FlushesAtMost (n + 1) before after
 
--- The pieces of an input that consists of these octets were written and counted.
+-- All pieces for an input that consists of the given octets were written and counted.
 abbrev pub WritesWhole : RunPieces → (before after : Writers) → Tally → (octets : List ℕ) → Type 0
 WritesWhole pieces before after tally octets =
     WritesPieces before after (pieces.whole octets) × Tallies tally (pieces.whole octets)
 
--- A run read these octets, and wrote the first of their pieces.
+-- A run read some octets and wrote the pieces for them, either completely or in part.
 pub record ReadsAndWrites (pieces : RunPieces) (from to : Input) (before after : Writers) : Type 0
   where
     pub octets : List ℕ
@@ -291,59 +296,62 @@ pub record ReadsAndWrites (pieces : RunPieces) (from to : Input) (before after :
     pub at_end : ended ≡ true → IsAtEnd to.left
     pub written : WrittenInPart before after (read_pieces pieces ended octets)
 
--- If a refused piece stops the run, none of these pieces is refused.
+-- If a fault line would stop the run, none of the given pieces is a fault line.
 abbrev pub IsUnrefused : RunPieces → List Piece → Type 0
 IsUnrefused pieces given = pieces.stops ≡ true → count_by is_refused given ≡ 0
 
--- What is known of a run (`so`) that ended with this result.
+-- The run `so` ended with the given result, as described for each case below.
 -- rule: input-not-read, fault-line-not-written, reader-gone, fault-70
 abbrev pub RunEnds : {pieces : RunPieces} → {from to : Input} → {before after : Writers}
     → ReadsAndWrites pieces from to before after → Result Tally RunFault → Type 0
--- It completed, at the end of the input or after a refused piece that stops it. The pieces of the
--- whole input were written and counted. t is what the run did not read: nothing if it reached the
--- end, and otherwise any octets, since they do not change the pieces.
+-- The run completed, either at the end of the input or after a fault line that stopped it. The
+-- pieces for the whole input were written and counted. The unread part of the input, t, is empty if
+-- the run reached the end of the input. Otherwise, t can be any list of octets, because unread
+-- octets do not change the pieces.
 RunEnds {pieces} {from} {to} {before} {after} so (Ok tally) =
     (pieces.stops ≡ false → so.ended ≡ true) × IsAllWritten so.written
     × ((t : List ℕ) → (so.ended ≡ true → t ≡ [])
     → WritesWhole pieces before after tally (so.octets ++ t))
--- A write or a flush failed. If it was a flush, all pieces of the octets read so far had been
--- written.
+-- A write or a flush failed. A flush can fail only after the pieces for all the octets read so far
+-- have been written.
 RunEnds {pieces} {from} {to} {before} {after} so (Err Write) =
     FlushFails before.output after.output ⊎ FlushFails before.errors after.errors
     → IsAllWritten so.written
--- Memory ran out before any refused piece that stops the run. In a run that refused pieces do not
--- stop, it was needed to write a piece (`next`), or fewer than 2^32 reads had been made: after that
--- many, the fault is `InputTooLong`.
+-- Memory ran out before a fault line stopped the run. If fault lines do not stop the run, the
+-- memory was needed to write a piece (`next`), or fewer than 2^32 reads had been made. After 2^32
+-- reads, the fault is `InputTooLong` instead.
 RunEnds {pieces} {from} {to} {before} {after} so (Err Memory) =
     IsUnrefused pieces so.written.given
     × (pieces.stops ≡ false → so.written.next ≡ None → ReadsFewer from.reads to.reads)
--- A read failed, or 2^32 reads did not reach the end of the input (then each returned an octet or
--- more): all certain pieces were written, and none is a refused piece that stops the run.
+-- A read failed, or 2^32 reads, each of which returned at least one octet, did not reach the end of
+-- the input. All certain pieces were written, and none of them is a fault line that stops the run.
 RunEnds {pieces} {from} {to} {before} {after} so (Err fault) =
     (so.ended ≡ false) × IsAllWritten so.written × IsUnrefused pieces so.written.given
     × (fault ≡ InputTooLong → max_reads ≤ length so.octets)
 
--- What a run that has these pieces does to its devices.
+-- The effects of a run on its devices, given the pieces that its command writes.
 pub record LeavesDevices (pieces : RunPieces) (from to : Input) (before after : Writers)
     (result : Result Tally RunFault) : Type 0 where
   -- what the run read and wrote
   pub ran : ReadsAndWrites pieces from to before after
-  -- what the result says about that
+  -- what the result implies about the run
   pub ends : RunEnds ran result
-  -- if the run completed and its whole input is known, the pieces of that input were written and
-  -- counted (this follows from `ran` and `ends`)
+  -- if the run completed and the whole input is known, the pieces for the whole input were written
+  -- and counted (`ran` and `ends` imply this condition)
   pub whole : IfOk result (λ tally. IfSome from.left (WritesWhole pieces before after tally))
-  -- the errors are flushed after the output: if that fails, the output was already flushed
+  -- if flushing the error output failed, the output had already been flushed, because it is flushed
+  -- first
   pub order : FlushFails before.errors after.errors → IsFlushed before.output after.output
   pub flushed : HasFlushed before after result
-  -- the input counts a `Read` fault
+  -- if the result is the fault `Read`, the input counted one failed read
   pub failures : to.failures ≡ read_failures_after from.failures result
   pub reads : ReadsAtMost from.reads to.reads result
   pub flushes : FlushesByRead from.reads to.reads before after
-  -- a writer counts a `Write` fault
+  -- if the result is the fault `Write`, one of the writers counted a failure
   pub writers : BlamesWriter before after result
 
--- These octets were read, to the end of the input; or there is a fault, which is never `Write`.
+-- The given octets were read. Either the end of the input was reached, or a fault other than
+-- `Write` occurred.
 abbrev pub ReadsAll : (left left' : Option (List ℕ))
     → Result (Vec ℕ Global) RunFault → List ℕ → Type 0
 ReadsAll left left' (Ok octets) bs = Consumes left left' bs × IsAtEnd left' × (octets.items ≡ bs)

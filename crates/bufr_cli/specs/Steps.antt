@@ -1,5 +1,5 @@
--- Only contracts need this file. What one step of a run does: it writes a piece or reads octets.
--- (own)
+-- Only contracts need this file. The effects of one step of a run. Each step writes a piece or
+-- reads octets. (own)
 use Rattle.std.specs.Prelude.{ℕ, Bool, true, false, ◌≡◌, ◌≢◌, ◌+◌, ◌<◌, ◌≤◌, ◌^◌, max, List, [], ◌∷◌, ◌++◌, length, map, count_by, option_to_list, Option, None, Result, Ok, Err}
 use Rattle.std.specs.Io.KnownBytes.{Consumes, IsAtEnd}
 use Rattle.bufr_frame.specs.declared.fault.RunFault.{RunFault}
@@ -16,7 +16,8 @@ use Rattle.bufr_cli.specs.declared.outcome.Verdict.TheVariants.{Accepted, Refuse
 use Rattle.bufr_cli.specs.declared.run_pieces.RunStep.{RunStep}
 use Rattle.bufr_cli.specs.declared.run_pieces.RunStep.TheVariants as step
 
--- how many pieces a verdict adds to the count for the output, and to that for the errors
+-- the number that a verdict adds to the count of accepted pieces; `counted_refused` (below) returns
+-- the number that it adds to the count of rejected pieces
 abbrev pub counted_accepted : Verdict → ℕ
 counted_accepted Accepted = 1
 counted_accepted Refused = 0
@@ -25,7 +26,7 @@ abbrev pub counted_refused : Verdict → ℕ
 counted_refused Accepted = 0
 counted_refused Refused = 1
 
--- a tally after one more piece
+-- the tally after one more piece has been counted
 abbrev pub tally_after : Tally → Verdict → Tally
 tally_after tally verdict =
     record {
@@ -33,12 +34,12 @@ tally_after tally verdict =
       refused = tally.refused + counted_refused verdict;
     }
 
--- The writer to which the piece does not go is unchanged.
+-- The writer that does not receive the piece is unchanged.
 abbrev pub LeavesOther : (before after : Writers) → Verdict → Type 0
 LeavesOther before after Accepted = after.errors ≡ before.errors
 LeavesOther before after Refused = after.output ≡ before.output
 
--- The piece was written and counted, or a prefix of it was written.
+-- The piece was written and counted, or a fault occurred after a prefix of it had been written.
 abbrev pub LeavesPiece : (before after : Writers) → Piece → Result Verdict RunFault → Type 0
 LeavesPiece before after piece (Ok verdict) =
     WritesPieces before after (piece ∷ [])
@@ -47,48 +48,49 @@ LeavesPiece before after piece (Ok verdict) =
     × LeavesOther before after verdict
 LeavesPiece before after piece (Err fault) = WritesPrefixes before after (piece ∷ [])
 
--- Writing a piece fails only with `Write`, or with `Memory` if writing allocates memory.
+-- If a piece cannot be written, the fault is `Write` or, if writing may allocate memory, `Memory`.
 abbrev pub StopsPiece : {X : Type 0} → (takes_memory : Bool) → Result X RunFault → Type 0
 StopsPiece takes_memory (Err Read) = ⊥
 StopsPiece takes_memory (Err InputTooLong) = ⊥
 StopsPiece takes_memory (Err Memory) = takes_memory ≡ true
 StopsPiece takes_memory result = Unit {0}
 
--- At most 2^32 reads were made. If writing does not allocate memory, memory runs out only before
--- all of these were made.
+-- At most 2^32 reads were made. If writing a piece does not allocate memory, memory can run out
+-- only if fewer were made.
 abbrev pub RunReads : {X : Type 0} → (takes_memory : Bool) → (reads reads' : ℕ)
     → Result X RunFault → Type 0
 RunReads false reads reads' result = MakesReads reads reads' result
 RunReads true reads reads' result = ReadsAtMost reads reads' result
 
--- what a run has read of its input so far, and which pieces it has written
+-- the progress of a run: its input, the remaining input, the octets read, and the pieces written
 pub record Progress : Type 0 where
   pub from : Option (List ℕ)
   pub left : Option (List ℕ)
   pub octets : List ℕ
   pub pieces : List Piece
 
--- the progress of a run that has not read or written anything
+-- the progress of a run that has not read or written anything yet
 abbrev pub no_progress : Option (List ℕ) → Progress
 no_progress left = record { from = left; left = left; octets = []; pieces = [] }
 
--- the progress after one more piece was written
+-- the progress after one more piece has been written
 abbrev pub with_piece : Progress → Piece → Progress
 with_piece p piece =
     record { from = p.from; left = p.left; octets = p.octets; pieces = p.pieces ++ piece ∷ [] }
 
--- the progress after more octets were read; `left` is the remaining input
+-- the progress after more octets have been read; `left` is the remaining input
 abbrev pub with_octets : Progress → List ℕ → (left : Option (List ℕ)) → Progress
 with_octets p bs left =
     record { from = p.from; left = left; octets = p.octets ++ bs; pieces = p.pieces }
 
--- All certain pieces of the octets read so far were written.
+-- All certain pieces for the octets read so far have been written.
 pub record IsOpen (pieces : RunPieces) (p : Progress) : Type 0 where
   pub read : Consumes p.from p.left p.octets
   pub certain : pieces.certain p.octets ≡ p.pieces
   pub accepted : IsUnrefused pieces p.pieces
 
--- There are no more pieces: the end of the input was found, or a refused piece stopped the run.
+-- No more pieces follow, because the run has reached the end of the input or a fault line has
+-- stopped it.
 pub record IsDone (pieces : RunPieces) (p : Progress) : Type 0 where
   pub ended : Bool
   pub read : Consumes p.from p.left p.octets
@@ -97,7 +99,7 @@ pub record IsDone (pieces : RunPieces) (p : Progress) : Type 0 where
   pub certain : read_pieces pieces ended p.octets ≡ p.pieces
   pub whole : (t : List ℕ) → (ended ≡ true → t ≡ []) → pieces.whole (p.octets ++ t) ≡ p.pieces
 
--- A prefix of the next piece was written, or memory ran out before there was a next piece.
+-- A prefix of the next piece was written, or memory ran out before the next piece was determined.
 pub record IsCut (pieces : RunPieces) (p : Progress) (before after : Writers) : Type 0 where
   pub ended : Bool
   pub read : Consumes p.from p.left p.octets
@@ -109,8 +111,8 @@ pub record IsCut (pieces : RunPieces) (p : Progress) (before after : Writers) : 
   pub accepted : IsUnrefused pieces p.pieces
   pub some : pieces.stops ≡ false → next ≢ None
 
--- The next piece was written, or a read is needed first, or there are no more pieces, or a fault
--- cut off the next piece.
+-- The step wrote the next piece, found that a read is needed first or that no more pieces follow,
+-- or stopped at a fault before it had written the next piece completely.
 abbrev pub TakesStep : RunPieces → (reaches : Progress → Type 0) → Progress
     → (before after : Writers) → Result RunStep RunFault → Type 0
 TakesStep pieces reaches p before after (Ok (step.Piece verdict)) =
@@ -121,16 +123,16 @@ TakesStep pieces reaches p before after (Ok step.Read) =
 TakesStep pieces reaches p before after (Ok step.End) = (after ≡ before) × IsDone pieces p
 TakesStep pieces reaches p before after (Err fault) = IsCut pieces p before after
 
--- Octets were read, or a fault prevented that. An input is too long only if at least 2^32 octets
--- were read.
+-- Either octets were read, or a fault occurred and none were read. `InputTooLong` can occur only
+-- after at least 2^32 octets have been read.
 abbrev pub ReadsOctets : (reaches : Progress → Type 0) → Progress → (left : Option (List ℕ))
     → Result (Unit {0}) RunFault → Type 0
 ReadsOctets reaches p left (Ok u) = (bs : List ℕ) × reaches (with_octets p bs left)
 ReadsOctets reaches p left (Err fault) =
     Consumes p.left left [] × (fault ≡ InputTooLong → max_reads ≤ length p.octets)
 
--- One more read was made, or it failed, or all 2^32 were already made, or memory ran out before
--- that.
+-- One more read was made, a read failed, 2^32 reads had already been made, or memory ran out after
+-- fewer reads.
 abbrev pub CountsRead : (before after : ℕ) → Result (Unit {0}) RunFault → Type 0
 CountsRead before after (Ok u) = after ≡ before + 1
 CountsRead before after (Err Read) = Unit {0}
@@ -138,9 +140,9 @@ CountsRead before after (Err Write) = ⊥
 CountsRead before after (Err InputTooLong) = after ≡ max_reads
 CountsRead before after (Err Memory) = after < max_reads
 
--- ---- The progress of a finder and of a reader of documents.
+-- ---- The progress of a finder and of a document reader.
 
--- The pieces of the events that a finder passed were written.
+-- The pieces for all the events that a finder has moved past have been written.
 pub record WritesEvents (piece : StreamEvent → Piece) (s : FinderModel) (so : Progress) : Type 0
   where
     pub events : List StreamEvent
@@ -150,15 +152,15 @@ pub record WritesEvents (piece : StreamEvent → Piece) (s : FinderModel) (so : 
     pub few : length so.pieces ≤ s.at
     pub near : s.at < 2 ^ 63
 
--- No event in the remaining octets of a finder is certain.
+-- No event in a finder's remaining octets is certain yet.
 pub record NeedsOctets (s : FinderModel) : Type 0 where
   pub sound : s.fault ≡ None
   pub going : s.ended ≡ false
   pub few : length s.rest < max 4096 s.longest
   pub none : (at : ℕ) → NoEventCertain at s.rest
 
--- The pieces of the documents that a reader returned were written, and none was refused. Before the
--- end of the input, each read returned an octet.
+-- The pieces for the documents that a reader has returned have been written, and none of those
+-- documents was rejected. Before the end of the input, each read returned at least one octet.
 pub record WritesDocuments (piece : ParseResult → Piece) (s : ReaderModel) (so : Progress) : Type 0
   where
     pub results : List ParseResult
@@ -169,13 +171,14 @@ pub record WritesDocuments (piece : ParseResult → Piece) (s : ReaderModel) (so
     pub most : s.reads ≤ max_reads
     pub each : s.ended ≡ false → s.reads ≤ length so.octets
 
--- The documents so far were written, or the last one was refused and the run is done.
+-- The pieces for the documents returned so far have been written, or the last document was rejected
+-- and the run is done.
 abbrev pub EncodesDocuments : Form → List Row → List Sequence → (last : Verdict) → ReaderModel
     → Progress → Type 0
 EncodesDocuments form b d Accepted s so = WritesDocuments (result_piece form b d) s so
 EncodesDocuments form b d Refused s so = IsDone (document_pieces form b d) so
 
--- No document was refused, and no complete line is buffered.
+-- No document has been rejected, and no complete line is buffered.
 pub record NeedsText (last : Verdict) (s : ReaderModel) : Type 0 where
   pub accepted : last ≡ Accepted
   pub sound : s.fault ≡ None

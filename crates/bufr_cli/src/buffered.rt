@@ -8,14 +8,14 @@ ghost use Rattle.bufr_cli.specs.Prelude.{CallsAtMost, CountsCall, StaysBounded, 
 use bufr_bits::{Failed, Sink};
 use std::alloc::{AllocError, Global};
 
-/// The size, in octets, of the buffers of the program's own reader and writers. With buffers of
-/// this size, one system call serves many reads of the finder, or many lines of output.
+/// The size of the program's read and write buffers, in octets. Buffers of this size let one system
+/// call serve many reads by the finder or many lines of output.
 pub const BUFFERED: usize = 65_536;
 
 /// A buffered writer that does not call its sink again after a failure.
 ///
 /// Once a call has failed, every later call fails immediately. After a successful flush, nothing is
-/// buffered. When the writer is dropped, it does not write the octets that are still buffered.
+/// buffered. Dropping the writer discards any octets that are still buffered.
 ///
 /// ```
 /// let mut w = Buffered::new(rt.alloc(), BUFFERED, Device::new(rt.stdout()))?;
@@ -33,7 +33,7 @@ pub struct Buffered<S: Sink> {
 }
 
 impl<S: Sink> Buffered<S> {
-    /// Creates a writer that buffers at most `capacity` octets before it writes them to `sink`.
+    /// Creates a writer that buffers at most `capacity` octets before writing them to `sink`.
     ///
     /// # Errors
     ///
@@ -59,8 +59,8 @@ impl<S: Sink> Buffered<S> {
     }
 }
 
-/// Writes `octets` until a write fails or takes nothing. Returns the number of octets that were not
-/// taken.
+/// Writes `octets` to `sink`, stopping if a write fails or accepts nothing. Returns the number of
+/// octets that were not accepted.
 #[tactic(auto, using(bufr_text::proofs::PushLemmas::write_steps))]
 fn write_out<S: Sink>(octets: &[u8], sink: &mut S) -> usize
     ensures moved { (rest : List ℕ) × (result ≡ length rest)
@@ -69,8 +69,8 @@ fn write_out<S: Sink>(octets: &[u8], sink: &mut S) -> usize
         (S.empty_writes sink.old) (S.empty_writes sink.new) }
     ensures cut { 0 < result → Fails (S.failures sink.old) (S.failures sink.new)
         (S.empty_writes sink.old) (S.empty_writes sink.new) }
-    // Each write is passed all remaining octets, so at most one write takes everything that it is
-    // passed.
+    // Each write is passed all the remaining octets, so at most one write accepts everything that
+    // it is passed.
     ensures few { S.whole_writes sink.new ≤ counted (S.whole_writes sink.old) 1 }
     ensures flushes { S.flushes sink.new ≡ S.flushes sink.old }
     ensures unflushed { result < length octets.now → S.all_flushed sink.new ≡ false }
@@ -88,7 +88,7 @@ fn write_out<S: Sink>(octets: &[u8], sink: &mut S) -> usize
     0
 }
 
-/// Removes all octets except the last `left`.
+/// Removes all but the last `left` octets.
 fn remove_front(octets: &mut Vec<u8>, left: usize)
     requires { left ≤ vec_len octets.old }
     ensures items { octets.new.items ≡ drop (vec_len octets.old - left) octets.old.items }
@@ -100,7 +100,8 @@ fn remove_front(octets: &mut Vec<u8>, left: usize)
 }
 
 impl<S: Sink> Buffered<S> {
-    /// Writes the buffered octets to the sink. Octets that the sink does not take remain buffered.
+    /// Writes the buffered octets to the sink. Octets that the sink does not accept remain
+    /// buffered.
     fn hand_on(&mut self) -> Result<(), Failed>
         ensures octets { Keeps (taken_by S.taken self.old) (taken_by S.taken self.new) }
         ensures none { OnOk result (self.new.held.items ≡ []) }
@@ -120,9 +121,9 @@ impl<S: Sink> Buffered<S> {
         Ok(())
     }
 
-    /// Writes octets for which the buffer has no room. First writes the buffered octets to the
-    /// sink. Then buffers `buf` if it fits in the empty buffer, and otherwise writes it to the
-    /// sink.
+    /// Writes octets that do not fit in the buffer's remaining space. The buffered octets are
+    /// written to the sink first. Then `buf` is buffered if it fits in the empty buffer; otherwise,
+    /// it is written to the sink.
     fn write_through(&mut self, buf: &[u8]) -> Result<usize, Failed>
         ensures bound { IfOk result (λ n. n ≤ length buf.now) }
         ensures octets { WriteAppends (taken_by S.taken self.old) (taken_by S.taken self.new)
@@ -149,7 +150,7 @@ impl<S: Sink> Buffered<S> {
         Ok(n)
     }
 
-    /// Writes the buffered octets to the sink, and then flushes it.
+    /// Writes the buffered octets to the sink, and then flushes the sink.
     fn flush_through(&mut self) -> Result<(), Failed>
         ensures octets { Keeps (taken_by S.taken self.old) (taken_by S.taken self.new) }
         ensures flushed { flushed_by S.all_flushed self.new
@@ -164,8 +165,8 @@ impl<S: Sink> Buffered<S> {
         self.sink.flush()
     }
 
-    /// Does the work of [`Buffered::write`] if the octets cannot be buffered or an earlier call
-    /// failed.
+    /// Implements [`Buffered::write`] for octets that cannot be buffered, and for calls after a
+    /// failure.
     #[inline(never)]
     fn write_or_fail(&mut self, buf: &[u8]) -> Result<usize, Failed>
         ensures bound { IfOk result (λ n. n ≤ length buf.now) }
@@ -212,15 +213,15 @@ impl<S: Sink> Sink for Buffered<S> {
         ensures octets { WriteAppends (taken_by S.taken self.old) (taken_by S.taken self.new)
             result buf.now }
         ensures failed { self.new.failures ≡ failures_after self.old.failures result }
-        // Octets that fit are buffered, and the sink is not called. A write of at least one octet
-        // takes at least one, or fails.
+        // Before the first failure, octets that fit in the buffer are buffered, and the sink is not
+        // called. A nonempty write accepts at least one octet or fails.
         ensures takes { self.old.failures ≡ 0
             → vec_len self.old.held + length buf.now
             ≤ min self.old.capacity (vec_capacity self.old.held)
             → (result ≡ Ok (length buf.now)) × (self.new.sink ≡ self.old.sink) }
-        // Otherwise, at most two writes to the sink take everything that they are passed: one of
-        // the buffered octets, and one of `buf`. If the result is less than the length of `buf`,
-        // the sink was passed all of `buf` and took only part of it.
+        // If the octets do not fit, at most two writes to the sink accept everything that they are
+        // passed: the write of the buffered octets, and the write of `buf`. If the result is less
+        // than the length of `buf`, the sink was passed all of `buf` and accepted only part of it.
         ensures calls { CallsAtMost S.Sink 2 0 self.old.sink self.new.sink }
         ensures full { IfOk result (λ n. n < length buf.now
             → CallsAtMost S.Sink 1 0 self.old.sink self.new.sink) }
@@ -229,8 +230,8 @@ impl<S: Sink> Sink for Buffered<S> {
         ensures handed { flushed_by S.all_flushed self.new
             ≡ all_flushed_after_write (flushed_by S.all_flushed self.old) result }
         ensures bounded { StaysBounded self.old self.new }
-        // Until the first failure, a call fails if and only if a call to the sink fails or takes
-        // nothing. After that, the sink is not called.
+        // Before the first failure, a call fails if and only if a call to the sink fails or accepts
+        // nothing. After the first failure, the sink is not called.
         ensures counts { self.old.failures ≡ 0
             → CountsCall S.Sink self.old.sink self.new.sink result }
         ensures again { 0 < self.old.failures → IsErr result × (self.new.sink ≡ self.old.sink)
@@ -253,11 +254,11 @@ impl<S: Sink> Sink for Buffered<S> {
         ensures handed { flushed_by S.all_flushed self.new
             ≡ all_flushed_after_flush (flushed_by S.all_flushed self.old) result }
         ensures bounded { StaysBounded self.old self.new }
-        // At most one write to the sink takes everything that it is passed, and the sink is flushed
-        // at most once.
+        // At most one write to the sink accepts everything that it is passed, and the sink is
+        // flushed at most once.
         ensures calls { CallsAtMost S.Sink 1 1 self.old.sink self.new.sink }
-        // Until the first failure, a call fails if and only if a call to the sink fails or takes
-        // nothing. After that, the sink is not called.
+        // Before the first failure, a call fails if and only if a call to the sink fails or accepts
+        // nothing. After the first failure, the sink is not called.
         ensures counts { self.old.failures ≡ 0
             → CountsCall S.Sink self.old.sink self.new.sink result }
         ensures again { 0 < self.old.failures → IsErr result × (self.new.sink ≡ self.old.sink)

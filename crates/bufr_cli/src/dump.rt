@@ -1,4 +1,4 @@
-//! `bufr dump`: writes the messages of a stream as text.
+//! The command `bufr dump`, which writes the messages in a stream as text.
 ghost use Rattle.std.specs.Prelude.{◌≡◌, true, Ok, OnOk, refl};
 ghost use Rattle.bufr_cli.specs.Prelude.{LeavesDevices, event_pieces, dump_or_report, dump_piece, text_or_fault, BlamesWriter, input_of, writers_of, StopsPiece, LeavesPiece};
 
@@ -26,8 +26,8 @@ fn set_descriptors(list: &mut Vec<Fxy>, message: &Message<'_>) -> Result<(), All
     Ok(())
 }
 
-/// State that a run reuses from message to message, because messages often have the same
-/// descriptors.
+/// State that is reused from one message to the next, because consecutive messages often have the
+/// same descriptors.
 #[derive(Drop)]
 struct DumpRun<'a> {
     templates: TemplateCache<'a>,
@@ -42,8 +42,8 @@ struct Expanded<'a, 'o> {
     template: &'a Template,
 }
 
-/// Writes the dump of a message to `w`, using the template that was selected, or writes a fault
-/// line to `e`.
+/// Writes the dump of a message to `w`, using the selected template. If the message is rejected,
+/// writes a fault line to `e` instead.
 // rule: refused-messages-write-nothing
 fn dump_selected<W: Sink, E: Sink>(
     offset: u64,
@@ -69,7 +69,7 @@ fn dump_selected<W: Sink, E: Sink>(
 {
     match run.templates.answer() {
         Ok(template) => {
-            // `read_by` borrows both for the same lifetime.
+            // `read_by` borrows the message and the template for the same lifetime.
             let Expanded { message, template } = Expanded { message, template };
             let mut steps = Steps::new();
             match read_by(message, template, &mut run.memory.specs, &mut steps) {
@@ -126,14 +126,14 @@ impl<'a> MessageWriter for DumpRun<'a> {
     }
 }
 
-/// Dumps the messages of `r` to `w`, using the given tables.
+/// Reads messages from `r` and writes their dumps to `w`, using the given tables.
 ///
-/// Messages are dumped in the order of the stream, each as soon as it is certain. For each stray
-/// and each rejected message, writes a fault line to `e` and nothing to `w`. At the end, flushes
-/// `w` and then `e`.
+/// Messages are dumped in stream order, each as soon as enough input has been read to identify it.
+/// For each stray `BUFR` and each rejected message, a fault line is written to `e`, and nothing is
+/// written to `w`. At the end, `w` is flushed, and then `e`.
 ///
-/// A message is rejected for its first fault. Its sections are checked first, then its descriptors
-/// ([`TemplateFault`]), and then its data ([`WalkFault`]).
+/// Only the first fault in a message is reported. Sections are checked first, then descriptors
+/// ([`TemplateFault`]), and then data ([`WalkFault`]).
 ///
 /// ```
 /// let table_b = TableB::read(rt.alloc(), b"fxy,name,unit,scale,reference,width\n")?;
@@ -147,10 +147,10 @@ impl<'a> MessageWriter for DumpRun<'a> {
 ///
 /// # Errors
 ///
-/// [`RunFault::Read`] and [`RunFault::InputTooLong`] under the same conditions as
-/// [`bufr_frame::Finder::next`]; in both cases, the output for all certain events has been written.
-/// [`RunFault::Write`] if a writer fails or takes nothing, and [`RunFault::Memory`] if memory runs
-/// out; in both cases, a prefix of the output has been written.
+/// [`RunFault::Read`] or [`RunFault::InputTooLong`] if [`bufr_frame::Finder::next`] would fail with
+/// that fault. In both cases, the output for all earlier events has been written.
+/// [`RunFault::Write`] if a writer fails or accepts nothing, and [`RunFault::Memory`] if memory
+/// runs out. In both cases, a prefix of the output has been written.
 pub fn run_dump<R: Source, W: Sink, E: Sink>(
     alloc: Global,
     r: &mut R,
@@ -159,8 +159,8 @@ pub fn run_dump<R: Source, W: Sink, E: Sink>(
     table_b: &TableB,
     table_d: &TableD,
 ) -> Result<Tally, RunFault>
-    // If the run completes and its whole input is known, exactly the pieces of that input are
-    // written, and the tally counts them.
+    // If the run completes and its whole input is known, the run writes exactly the pieces for that
+    // input, and the tally counts them.
     ensures { LeavesDevices (event_pieces (dump_piece table_b.now table_d.now))
         (input_of R.Source r.old) (input_of R.Source r.new)
         (writers_of W.Sink w.old E.Sink e.old) (writers_of W.Sink w.new E.Sink e.new) result }

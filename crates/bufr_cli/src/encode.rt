@@ -1,4 +1,4 @@
-//! `bufr encode`: encodes the documents of a text as messages.
+//! The command `bufr encode`, which encodes the documents in dump text as messages.
 ghost use Rattle.std.specs.Prelude.{◌≡◌, true};
 ghost use Rattle.bufr_text.specs.Prelude.{Complete};
 ghost use Rattle.bufr_text.specs.declared.encode.Form.TheVariants.{AsWritten};
@@ -14,19 +14,20 @@ use bufr_text::{Document, DocumentFault, DumpReader, Form, ReadFault, encode_by,
 use bufr_walk::{Steps, TemplateCache};
 use std::alloc::Global;
 
-/// The state of a run: the reader of its documents, the form in which they are encoded, and what is
-/// reused from document to document.
+/// The state of a run: the reader of the documents, the form in which to encode them, and the
+/// templates that are reused from one document to the next.
 #[derive(Drop)]
 struct EncodeRun<'a> {
     alloc: Global,
     reader: DumpReader,
     form: Form,
     templates: TemplateCache<'a>,
-    /// The verdict on the last document. If the document was rejected, the run ends.
+    /// The verdict on the last document. If that document was rejected, the run stops.
     last: Verdict,
 }
 
-/// Encodes a document and writes the whole message to `w`, or writes a fault line to `e`.
+/// Encodes a document and writes the message to `w`. If the document is rejected, writes a fault
+/// line to `e` instead.
 fn write_document<W: Sink, E: Sink>(
     run: &mut EncodeRun<'_>,
     document: &Document,
@@ -106,18 +107,19 @@ impl<'a> PieceWriter for EncodeRun<'a> {
     fn read_more<R: Source>(&mut self, r: &mut R) -> Result<(), RunFault> {
         match self.reader.read_more(r) {
             Err(ReadFault::Run(fault)) => Err(fault),
-            // Reading has no other fault.
+            // A read can fail only with a run fault.
             _ => Ok(()),
         }
     }
 }
 
-/// Encodes the documents of the text `r` in the given form, using the given tables.
+/// Encodes the documents in `r` as messages in the given form, using the given tables, and writes
+/// the messages to `w`.
 ///
-/// Documents are encoded in the order of the text. Each message is written to `w` as soon as the
-/// `end` line of its document has been read. The run stops at the first invalid document: its fault
-/// line is written to `e`, and nothing of it is written to `w`. At the end, flushes `w` and then
-/// `e`.
+/// Documents are encoded in input order. Each message is written to `w` as soon as the `end` line
+/// of its document has been read. The run stops at the first invalid document: a fault line is
+/// written to `e`, and nothing is written to `w` for that document. At the end, `w` is flushed, and
+/// then `e`.
 ///
 /// ```
 /// let table_b = TableB::read(rt.alloc(), b"fxy,name,unit,scale,reference,width\n")?;
@@ -132,10 +134,10 @@ impl<'a> PieceWriter for EncodeRun<'a> {
 ///
 /// # Errors
 ///
-/// [`RunFault::Read`] and [`RunFault::InputTooLong`] under the same conditions as
-/// [`DumpReader::next_document`]; in both cases, the messages of all complete documents have been
-/// written. [`RunFault::Write`] if a writer fails or takes nothing, and [`RunFault::Memory`] if
-/// memory runs out; in both cases, a prefix of the messages has been written.
+/// [`RunFault::Read`] or [`RunFault::InputTooLong`] if [`DumpReader::next_document`] would fail
+/// with that fault. In both cases, the messages for all complete documents have been written.
+/// [`RunFault::Write`] if a writer fails or accepts nothing, and [`RunFault::Memory`] if memory
+/// runs out. In both cases, a prefix of the output has been written.
 pub fn run_encode_form<R: Source, W: Sink, E: Sink>(
     alloc: Global,
     r: &mut R,
@@ -145,8 +147,8 @@ pub fn run_encode_form<R: Source, W: Sink, E: Sink>(
     table_d: &TableD,
     form: Form,
 ) -> Result<Tally, RunFault>
-    // If the run completes and its whole input is known, exactly the pieces of that input are
-    // written, and the tally counts them.
+    // If the run completes and its whole input is known, the run writes exactly the pieces for that
+    // input, and the tally counts them.
     ensures { LeavesDevices (document_pieces form table_b.now table_d.now)
         (input_of R.Source r.old) (input_of R.Source r.new)
         (writers_of W.Sink w.old E.Sink e.old) (writers_of W.Sink w.new E.Sink e.new) result }
@@ -161,9 +163,10 @@ pub fn run_encode_form<R: Source, W: Sink, E: Sink>(
     run_pieces(&mut run, r, w, e)
 }
 
-/// Encodes the documents of the text `r`, each in the form that it specifies.
+/// Encodes each document in `r` as a message in the form that the document specifies, using the
+/// given tables, and writes the messages to `w`.
 ///
-/// This is [`run_encode_form`] with [`Form::AsWritten`].
+/// This function is equivalent to [`run_encode_form`] with [`Form::AsWritten`].
 ///
 /// ```
 /// let table_b = TableB::read(rt.alloc(), b"fxy,name,unit,scale,reference,width\n")?;
@@ -177,7 +180,7 @@ pub fn run_encode_form<R: Source, W: Sink, E: Sink>(
 ///
 /// # Errors
 ///
-/// The same as those of [`run_encode_form`].
+/// Returns the same errors as [`run_encode_form`].
 pub fn run_encode<R: Source, W: Sink, E: Sink>(
     alloc: Global,
     r: &mut R,
@@ -186,8 +189,8 @@ pub fn run_encode<R: Source, W: Sink, E: Sink>(
     table_b: &TableB,
     table_d: &TableD,
 ) -> Result<Tally, RunFault>
-    // If the run completes and its whole input is known, exactly the pieces of that input are
-    // written, and the tally counts them.
+    // If the run completes and its whole input is known, the run writes exactly the pieces for that
+    // input, and the tally counts them.
     ensures { LeavesDevices (document_pieces AsWritten table_b.now table_d.now)
         (input_of R.Source r.old) (input_of R.Source r.new)
         (writers_of W.Sink w.old E.Sink e.old) (writers_of W.Sink w.new E.Sink e.new) result }

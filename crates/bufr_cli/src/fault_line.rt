@@ -1,4 +1,4 @@
-//! Fault lines for streams and their messages, and for texts and their documents.
+//! Fault lines for strays and messages in a stream, and for lines and documents in dump text.
 ghost use Rattle.std.specs.Prelude.{◌≡◌, [], ◌∷◌, ◌++◌, IfErr, codes, decimal};
 ghost use Rattle.bufr_frame.specs.Prelude.{cause_report, section_report};
 ghost use Rattle.bufr_tables.specs.Prelude.{fxy_text, template_report};
@@ -15,22 +15,22 @@ use bufr_tables::{Fxy, TemplateFault};
 use bufr_text::{DocumentFault, LineWriter, ReadFault, TextLineFault};
 use bufr_walk::{Spot, WalkFault};
 
-/// The size, in octets, of the block in which a line is assembled. The longest line reports a fault
-/// in the data, and has 107 octets.
+/// The size, in octets, of the block in which a fault line is assembled. The longest fault line
+/// reports a data fault and is 107 octets long.
 const LINE: usize = 112;
 
-/// The size, in octets, of the block in which the line of a stray is assembled. The longest such
-/// line has 44 octets.
+/// The size, in octets, of the block in which the fault line for a stray is assembled. The longest
+/// such line is 44 octets long.
 const STRAY_LINE: usize = 48;
 
-/// The reason why a message of a stream is rejected.
+/// The reason why a message in a stream is rejected.
 #[derive(Clone, Copy)]
 pub(crate) enum StreamFault<'f> {
-    /// The message cannot be divided into its sections.
+    /// The message cannot be split into its sections.
     Section(SectionFault),
-    /// Its descriptors cannot be expanded into a template.
+    /// The descriptors of the message cannot be expanded into a template.
     Template(&'f TemplateFault),
-    /// Its data cannot be read.
+    /// The data of the message cannot be read.
     Data(&'f WalkFault),
 }
 
@@ -42,8 +42,8 @@ fn push_number<E: Sink>(line: &mut LineWriter<'_, '_, E>, number: u8)
     line.push(b" ");
 }
 
-/// Pushes the prefix of a fault line: a word, the position that the word introduces, and the number
-/// of the fault.
+/// Pushes the beginning of a fault line: a word, a position, and the fault number. The word states
+/// what kind of position follows.
 #[inline(always)]
 // rule: stream-fault-line
 fn push_prefix<E: Sink>(line: &mut LineWriter<'_, '_, E>, word: &[u8], position: u64, number: u8)
@@ -94,7 +94,7 @@ fn push_section_fault<E: Sink>(line: &mut LineWriter<'_, '_, E>, fault: SectionF
     }
 }
 
-/// Pushes the text of a template fault. [`TemplateFault::Memory`] has no text.
+/// Pushes the description of a template fault. [`TemplateFault::Memory`] has no description.
 #[inline(never)]
 // rule: fault-20, fault-21, fault-22, fault-23, fault-24, fault-25, fault-26, fault-27, fault-28
 fn push_template_fault<E: Sink>(line: &mut LineWriter<'_, '_, E>, fault: &TemplateFault)
@@ -125,7 +125,7 @@ fn push_spot<E: Sink>(line: &mut LineWriter<'_, '_, E>, name: &[u8], spot: Spot)
     line.push_named(b" bit ", spot.bit);
 }
 
-/// Pushes the text of a data fault. [`WalkFault::Memory`] has no text.
+/// Pushes the description of a data fault. [`WalkFault::Memory`] has no description.
 #[inline(never)]
 // rule: fault-30, fault-31, fault-32, fault-33, fault-34, fault-35
 fn push_walk_fault<E: Sink>(line: &mut LineWriter<'_, '_, E>, fault: &WalkFault)
@@ -166,7 +166,7 @@ fn push_fault<E: Sink>(line: &mut LineWriter<'_, '_, E>, offset: u64, fault: Str
     }
 }
 
-/// Writes the fault line of the stray at `offset`, in octets from 0.
+/// Writes the fault line for the stray `BUFR` at `offset`. Offsets are counted in octets from 0.
 #[inline(always)]
 pub(crate) fn write_stray<E: Sink>(offset: u64, cause: Cause, e: &mut E) -> Result<(), RunFault>
     ensures writes { Writes (E.taken e.old) (E.taken e.new)
@@ -183,7 +183,8 @@ pub(crate) fn write_stray<E: Sink>(offset: u64, cause: Cause, e: &mut E) -> Resu
     outcome
 }
 
-/// Writes the fault line of the rejected message at `offset`, in octets from 0.
+/// Writes the fault line for the rejected message at `offset`. Offsets are counted in octets from
+/// 0.
 pub(crate) fn write_fault<E: Sink>(
     offset: u64,
     fault: StreamFault<'_>,
@@ -202,8 +203,8 @@ pub(crate) fn write_fault<E: Sink>(
     outcome
 }
 
-/// Pushes a fault line: the number of the line in the text (from 1), and the number and text of the
-/// fault.
+/// Pushes a fault line that gives a line number, counted from 1, and the number and description of
+/// the fault.
 fn push_line<E: Sink>(line: &mut LineWriter<'_, '_, E>, position: u64, number: u8, text: &[u8])
     ensures { Pushes line.old (document_line position (number, text.now ∷ [])) line.new }
 {
@@ -223,8 +224,8 @@ fn push_expected<E: Sink>(line: &mut LineWriter<'_, '_, E>, expected: Expected)
     }
 }
 
-/// Pushes the number of the fault that stops the walk over the template, and the descriptor at
-/// which it occurs.
+/// Pushes the number of the fault that stopped the walk over the template, and the descriptor at
+/// which the walk stopped.
 // rule: fault-62
 fn push_walk<E: Sink>(line: &mut LineWriter<'_, '_, E>, refusal: &WalkRefusal)
     ensures { Pushes line.old (concat (item_report (ItemFault.Walk refusal.now)).1) line.new }
@@ -270,12 +271,13 @@ fn push_document_fault<E: Sink>(line: &mut LineWriter<'_, '_, E>, fault: Documen
     }
 }
 
-/// Writes the fault line of a document that cannot be encoded. [`DocumentFault::Memory`] has no
+/// Writes the fault line for a document that cannot be encoded. [`DocumentFault::Memory`] has no
 /// fault line.
 ///
 /// # Errors
 ///
-/// [`RunFault::Write`] if the writer fails or takes nothing; a prefix of the line has been written.
+/// [`RunFault::Write`] if the writer fails or accepts nothing. In that case, a prefix of the line
+/// has been written.
 // rule: fault-lines-of-encoding
 pub fn write_document_fault<E: Sink>(fault: DocumentFault, e: &mut E) -> Result<(), RunFault>
     ensures writes { Writes (E.taken e.old) (E.taken e.new) (refusal_line fault) result }
@@ -290,7 +292,7 @@ pub fn write_document_fault<E: Sink>(fault: DocumentFault, e: &mut E) -> Result<
     outcome
 }
 
-/// Returns the text of a line fault.
+/// Returns the description of a fault in a line of dump text.
 fn text_of(fault: TextLineFault) -> &'static [u8]
     ensures { result.now ∷ [] ≡ (line_report fault).1 }
 {
@@ -310,11 +312,12 @@ fn push_read_fault<E: Sink>(line: &mut LineWriter<'_, '_, E>, fault: ReadFault)
     }
 }
 
-/// Writes the fault line of an invalid line in a text. [`ReadFault::Run`] has no fault line.
+/// Writes the fault line for an invalid line in dump text. [`ReadFault::Run`] has no fault line.
 ///
 /// # Errors
 ///
-/// [`RunFault::Write`] if the writer fails or takes nothing; a prefix of the line has been written.
+/// [`RunFault::Write`] if the writer fails or accepts nothing. In that case, a prefix of the line
+/// has been written.
 // rule: fault-lines-of-reading
 pub fn write_read_fault<E: Sink>(fault: ReadFault, e: &mut E) -> Result<(), RunFault>
     ensures writes { Writes (E.taken e.old) (E.taken e.new) (line_of_read_fault fault) result }

@@ -1,4 +1,4 @@
-//! The command line.
+//! Defines and parses the command line.
 ghost use Rattle.std.specs.Prelude.{◌≡◌, [], IfErr, IfNone, IfOk, IfSome, codes, map, false, Some};
 ghost use Rattle.clap.specs.declared.builder.command.Command.TheViews.{out-Command};
 ghost use Rattle.clap.specs.Words.{app_of, fault_of, first_of, found_of, new_app, new_rule, rows_of, rule_of, subcommand_of, with_rule, with_subcommand};
@@ -24,11 +24,13 @@ pub struct TableNames<'a> {
 /// The subcommands of `bufr`.
 #[derive(Clone, Copy, Debug, PartialEq, Eq)]
 pub enum Subcommand<'a> {
-    /// `bufr ls`: list the messages.
+    /// The command `bufr ls`, which lists the messages.
     Ls,
-    /// `bufr dump`: write the messages as text, using these tables.
+    /// The command `bufr dump`, which writes the messages as text, using the tables in the given
+    /// files.
     Dump(TableNames<'a>),
-    /// `bufr encode`: encode the documents in a text, using these tables and this form.
+    /// The command `bufr encode`, which encodes documents as messages in the given form, using the
+    /// tables in the given files.
     Encode(TableNames<'a>, Form),
 }
 
@@ -44,10 +46,11 @@ pub struct Job<'a> {
 /// The reason why a command line does not specify a job.
 #[derive(Debug, Drop, thiserror::Error)]
 pub enum LineFault {
-    /// It requests help or the version; this text is for standard output.
+    /// The command line requests help or the version. The variant contains the text to print on
+    /// standard output.
     #[error("help was asked for")]
     Help(String),
-    /// It is invalid; this text is for standard error.
+    /// The command line is invalid. The variant contains the text to print on standard error.
     #[error("the command line is not understood")]
     Usage(String),
     /// Memory ran out.
@@ -58,7 +61,7 @@ pub enum LineFault {
 /// The version that `bufr --version` prints.
 const VERSION: &str = "0.1.0";
 
-/// The notes after the help for the program.
+/// The notes at the end of the program's help text.
 const PROGRAM_NOTES: &str = "\
 Exit status:
   0  no faults were reported
@@ -72,7 +75,7 @@ Examples:
   bufr dump -B B.csv -D D.csv bulletins.bufr > bulletins.txt
   bufr encode -B B.csv -D D.csv bulletins.txt > again.bufr";
 
-/// The notes after the help for `ls`.
+/// The notes at the end of the help text for `ls`.
 const LS_NOTES: &str = "\
 Each line on standard output describes one message.
 Each line on standard error reports one fault. For a fault in the stream, it
@@ -92,7 +95,7 @@ Exit status:
 Example:
   bufr ls bulletins.bufr 2> faults.txt";
 
-/// The notes after the help for `dump`.
+/// The notes at the end of the help text for `dump`.
 const DUMP_NOTES: &str = "\
 Every message is printed on standard output unless it has a fault.
 Each line on standard error reports one fault. For a fault in the stream, it
@@ -125,7 +128,7 @@ Exit status:
 Example:
   bufr dump -B B.csv -D D.csv bulletins.bufr > bulletins.txt";
 
-/// The notes after the help for `encode`.
+/// The notes at the end of the help text for `encode`.
 const ENCODE_NOTES: &str = "\
 Each document (the dump of one message) is encoded as soon as it is complete.
 bufr stops at the first invalid document and writes nothing for that document.
@@ -175,7 +178,8 @@ impl From<AllocError> for LineFault {
     }
 }
 
-/// Creates a command with this name and description, and with `notes` after its help.
+/// Creates a command with the given name and description, and with `notes` at the end of its help
+/// text.
 fn named_command<'a>(
     alloc: Global,
     name: &'a str,
@@ -190,7 +194,7 @@ fn named_command<'a>(
         .after_help(notes)
 }
 
-/// Creates the argument for the input file, with this description in the help.
+/// Creates the argument that names the input file. `help` describes the argument in the help text.
 fn file_argument<'a>(alloc: Global, help: &'a str) -> Arg<'a>
     ensures rule { rule_of result ≡ new_rule (codes "FILE") }
     ensures global { result.global ≡ false }
@@ -198,7 +202,8 @@ fn file_argument<'a>(alloc: Global, help: &'a str) -> Arg<'a>
     Arg::new(alloc, "FILE").help(help)
 }
 
-/// Creates a required option of one letter for a table, with this description in the help.
+/// Creates a required one-letter option that names a table file. `help` describes the option in the
+/// help text.
 fn table_option<'a>(alloc: Global, id: &'a str, letter: char, help: &'a str) -> Arg<'a>
     ensures rule { rule_of result ≡ table_rule id.entry.now letter }
     ensures global { result.global ≡ false }
@@ -210,7 +215,7 @@ fn table_option<'a>(alloc: Global, id: &'a str, letter: char, help: &'a str) -> 
         .help(help)
 }
 
-/// Creates a command that reads tables: `-B FILE -D FILE [FILE]`.
+/// Creates a command that takes two tables and an optional input file: `-B FILE -D FILE [FILE]`.
 fn command_with_tables<'a>(
     alloc: Global,
     name: &'a str,
@@ -242,7 +247,7 @@ fn encode_command<'a>(alloc: Global) -> Result<clap::Command<'a>, AllocError>
     command.arg(form)
 }
 
-/// Creates the command `bufr` with only one of its subcommands, `ls`.
+/// Creates the command `bufr` with `ls` as its only subcommand.
 fn top_command<'a>(alloc: Global) -> Result<clap::Command<'a>, AllocError>
     ensures { IfOk result (λ c. app_of c ≡ with_subcommand top_app
         (with_rule (new_app (codes "ls")) (new_rule (codes "FILE"))).top) }
@@ -255,7 +260,7 @@ fn top_command<'a>(alloc: Global) -> Result<clap::Command<'a>, AllocError>
     command.subcommand(ls)
 }
 
-/// Creates the command `bufr` with all of its subcommands.
+/// Creates the command `bufr` with all its subcommands.
 // rule: version, one-file
 fn command_line<'a>(alloc: Global) -> Result<clap::Command<'a>, AllocError>
     ensures { IfOk result (λ c. app_of c ≡ bufr_app) }
@@ -304,15 +309,16 @@ fn form_of(found: &ArgMatches<'_>) -> Option<Form>
     }
 }
 
-/// The reason why a subcommand that clap accepted is not a job. clap itself rejects the first two
-/// cases, but the code must cover every case. clap does not check the name of the form.
+/// The reason why arguments that clap accepted do not specify a job. In practice, clap itself
+/// rejects the first two cases, but the code must cover every case. The third case can occur,
+/// because clap does not check the name of the form.
 #[derive(Clone, Copy, Debug, PartialEq, Eq)]
 enum NoJob {
-    /// There is no subcommand with this name.
+    /// No subcommand has the given name.
     UnknownCommand,
-    /// A table is missing.
+    /// A required table is missing.
     MissingTable,
-    /// There is no form with this name.
+    /// No form has the given name.
     UnknownForm,
 }
 
@@ -330,7 +336,7 @@ impl NoJob {
     }
 }
 
-/// Returns the subcommand with this name, including its tables and form.
+/// Returns the subcommand with the given name, together with its tables and its form.
 fn command_of<'a>(name: &str, found: &ArgMatches<'a>) -> Result<Subcommand<'a>, NoJob>
     ensures name { IfOk result (λ command. name.now ≡ name_of command) }
     ensures tables { IfOk result (HasTables (rows_of (found_of found.now))) }
@@ -357,7 +363,7 @@ fn command_of<'a>(name: &str, found: &ArgMatches<'a>) -> Result<Subcommand<'a>, 
     Err(NoJob::UnknownCommand)
 }
 
-/// Parses a command line. The first of its words is the program's name.
+/// Parses a command line. The first word is the name of the program.
 ///
 /// ```
 /// let words = ["bufr", "ls", "bulletins.bufr"];
@@ -368,7 +374,7 @@ fn command_of<'a>(name: &str, found: &ArgMatches<'a>) -> Result<Subcommand<'a>, 
 /// # Errors
 ///
 /// [`LineFault::Help`] if help or the version is requested. [`LineFault::Usage`] if clap rejects
-/// the words, there is no subcommand, a table is missing or the form is unknown.
+/// the words, if the subcommand or a table is missing, or if the form is unknown.
 /// [`LineFault::Memory`] if memory runs out.
 // rule: help, usage
 pub fn parse_line<'a, S: AsStr>(alloc: Global, words: &'a [S]) -> Result<Job<'a>, LineFault>
@@ -376,8 +382,9 @@ pub fn parse_line<'a, S: AsStr>(alloc: Global, words: &'a [S]) -> Result<Job<'a>
         (λ job. IsJobOf (subcommand_of bufr_app (map S.text words.entry.now)) job) }
     ensures accepted { IfOk result (λ _.
         fault_of bufr_app (map S.text words.entry.now) ≡ []) }
-    // Returns help only if clap's rules for the line request it, and a usage fault only if they
-    // reject the line or it does not specify a job.
+    // Help is returned only if clap's rules produce help for the command line. A usage fault is
+    // returned only if those rules reject the command line, or if the command line does not specify
+    // a job.
     ensures fault { IfErr result (SaysWhy (fault_of bufr_app (map S.text words.entry.now))
         (subcommand_of bufr_app (map S.text words.entry.now))) }
 {

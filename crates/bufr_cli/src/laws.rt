@@ -1,6 +1,5 @@
-//! Laws about the texts that the program writes: `encode` reads back what `dump` writes, and
-//! dumping that again gives the same text. [`dump_encode_dump`] performs these three steps in
-//! memory.
+//! Laws about round trips: `encode` accepts the output of `dump`, and dumping the encoded messages
+//! gives the same text again. [`dump_encode_dump`] performs a complete round trip in memory.
 ghost use Rattle.std.specs.List.{AllByRecursion, concat};
 ghost use Rattle.std.specs.Prelude.{◌≡◌, List, ℕ, [], Option, Some, IfOk};
 ghost use Rattle.bufr_cli.specs.Prelude.{IsDumpedInOneSpelling, RoundTrips, IsWholeRound, IsCanonicalMessage, Written, accepted_messages, rebuilt, RunsInMemory, written_by, dump_pieces, form_pieces, holding, WritesWhole, document_pieces, dump_piece, event_pieces};
@@ -20,18 +19,18 @@ use std::alloc::Global;
 
 /// Law: dumps round-trip.
 ///
-/// For every stream of octets and all tables that can be read, `encode` accepts the whole text that
-/// `dump` writes. The messages that it builds have, one by one, the same readings as those that
-/// were dumped. No message is longer than its original, except that an edition 3 message can grow
-/// by up to two octets if its section 3 or 4 has an odd length. Dumping the new messages gives the
-/// same text, octet for octet.
+/// For any stream of octets and any tables that can be read, `encode` accepts the whole output of
+/// `dump`. Reading a message that `encode` builds gives the same result as reading the original
+/// message. No message is longer than the original, except that an edition 3 message can grow by up
+/// to two octets if its section 3 or section 4 has an odd length. Dumping the new messages gives
+/// the same text, octet for octet.
 ///
-/// If all accepted messages are canonical, as an encoder writes them, `encode` rebuilds them from
-/// the dump octet for octet. In a canonical message, reserved bits and octets are zero, nothing
-/// follows the descriptors, and no redefined reference value is written as minus zero. Each item of
-/// compressed data is packed in the way that `encode` packs its values. The data take as few octets
-/// as possible (in edition 3, as few as make the length of section 4 even), and the unused bits at
-/// their end are zero.
+/// If all accepted messages are canonical, `encode` rebuilds them from the dump, octet for octet. A
+/// canonical message is one that an encoder would write: reserved bits and octets are zero, nothing
+/// follows the descriptors, and no redefined reference value is written as minus zero. In
+/// compressed data, each item is packed as `encode` would pack it. The data occupy as few octets as
+/// possible (in edition 3, the fewest octets that make the length of section 4 even), and the
+/// unused bits at the end of the data are zero.
 // rule: encode-may-grow
 pub fn dumped_streams_are_built_again()
     ensures { (records : List Record) (table_b : List Row) (table_d : List Sequence)
@@ -43,10 +42,11 @@ pub fn dumped_streams_are_built_again()
 
 /// Law: three runs of the program complete a round trip.
 ///
-/// If `dump`, `encode` and `dump` again complete with the same tables, each run on the output of
-/// the previous one, then the two dumps are the same text, and only the first run rejects anything.
-/// The encoded messages have, one by one, the readings of those that were dumped. If all of those
-/// were canonical, the encoded messages are the same, octet for octet.
+/// Suppose that `dump`, `encode` and a second `dump` complete with the same tables, and that each
+/// run after the first reads the output of the previous one. Then the two dumps are identical, and
+/// only the first run can have rejected anything. Reading an encoded message gives the same result
+/// as reading the original message. If all the dumped messages are canonical, the encoded messages
+/// are identical to them, octet for octet.
 pub fn runs_close_the_round()
     ensures { (records : List Record) (table_b : List Row) (table_d : List Sequence)
         (stream : List ℕ) (text messages again : Written) (e e' : Option (List ℕ))
@@ -60,30 +60,30 @@ pub fn runs_close_the_round()
         → IsWholeRound table_b table_d stream text messages again }
 {}
 
-/// Law: encoding a text and dumping the result gives the text in its normal spelling.
+/// Law: encoding dump text and dumping the result gives the same text in its normal spelling.
 ///
-/// For every text and form and all tables that can be read, the messages that `encode` builds are
-/// dumped without a fault. The dump consists of the texts of the documents before the first
-/// document that is rejected, or before the first invalid line. Each of these texts has the normal
-/// spelling, the one that `dump` writes. Encoding them gives the same octets again.
+/// For any text, any form, and any tables that can be read, the messages that `encode` builds can
+/// be dumped without a fault. The dump consists of the documents before the first rejected document
+/// or invalid line. Each dumped document is in its normal spelling, which is the spelling that
+/// `dump` uses. Encoding the dump gives the same messages again, octet for octet.
 pub fn encoded_texts_are_dumped_in_one_spelling()
     ensures { (form : Form) (records : List Record) (table_b : List Row) (table_d : List Sequence)
         (text : List ℕ) → AreRows records table_b
         → IsDumpedInOneSpelling form table_b table_d text }
 {}
 
-/// What a run wrote to memory, and its counts.
+/// The output of an in-memory run, together with the counts for that run.
 #[derive(Drop)]
 pub struct RunInMemory {
     /// The output.
     pub output: ScriptOut,
     /// The fault lines.
     pub errors: ScriptOut,
-    /// The number of pieces that were written to each.
+    /// The number of pieces written to `output`, and the number written to `errors`.
     pub tally: Tally,
 }
 
-/// The maximum number of octets that a writer in memory takes at once.
+/// The maximum number of octets that an in-memory writer accepts in one write.
 const STEP: usize = 65_536;
 
 fn dump_octets(
@@ -113,20 +113,20 @@ fn dump_octets(
     })
 }
 
-/// The dump of a stream, the messages that were encoded from it, and the dump of these messages.
+/// The dump of a stream, the messages encoded from that dump, and the dump of the encoded messages.
 #[derive(Drop)]
 pub struct Round {
     /// The dump of the stream.
     pub text: RunInMemory,
     /// The messages that were encoded from the dump.
     pub messages: RunInMemory,
-    /// The dump of the messages.
+    /// The dump of the encoded messages.
     pub again: RunInMemory,
 }
 
-/// Dumps the messages of a stream, encodes the dump, and dumps the encoded messages.
+/// Dumps the messages in a stream, encodes the dump, and dumps the encoded messages.
 ///
-/// Each writer has room for `room` octets.
+/// Each in-memory writer has space for `room` octets.
 ///
 /// ```
 /// let table_b = TableB::read(rt.alloc(), b"fxy,name,unit,scale,reference,width\n")?;
@@ -138,7 +138,8 @@ pub struct Round {
 ///
 /// # Errors
 ///
-/// [`RunFault::Write`] if `room` is too small, and [`RunFault::Memory`] if memory runs out.
+/// [`RunFault::Write`] if `room` is too small for one of the outputs, and [`RunFault::Memory`] if
+/// memory runs out.
 pub fn dump_encode_dump(
     alloc: Global,
     stream: &[u8],
@@ -153,8 +154,9 @@ pub fn dump_encode_dump(
         (taken_of round.text.output))) }
     ensures dump_again { IfOk result (λ round. RunsInMemory round.again
         (dump_pieces table_b.now table_d.now (taken_of round.messages.output))) }
-    // If the rows of Table B were read from records, `encode` rejects nothing, both dumps are the
-    // same text, and the messages have the same readings.
+    // If the rows of Table B were read from records, `encode` rejects nothing, the two dumps are
+    // the same text, and reading an encoded message gives the same result as reading the original
+    // message.
     ensures round { (records : List Record) → AreRows records table_b.now
         → IfOk result (λ round. IsWholeRound table_b.now table_d.now stream.now
         (written_by round.text) (written_by round.messages) (written_by round.again)) }

@@ -1,6 +1,7 @@
-//! `bufr` as a library: the command line, the runs, and the last line, with any inputs and writers.
-//! [`run`] combines all of them; the program `bufr` calls it with its own [`Inputs`] and with
-//! [`Buffered`] writers.
+//! The program `bufr` as a library that works with any inputs and writers: the command line, the
+//! subcommands, and the last line, which reports why a run did not complete. The function [`run`]
+//! combines all parts of the library. The program `bufr` calls [`run`] with its own [`Inputs`] and
+//! with [`Buffered`] writers.
 #![tactic(auto)]
 
 mod buffered;

@@ -1,4 +1,4 @@
-//! `bufr ls`: lists the messages of a stream.
+//! The command `bufr ls`, which lists the messages in a stream.
 ghost use Rattle.std.specs.Prelude.{false, refl};
 ghost use Rattle.bufr_frame.specs.Prelude.{MakesReads};
 ghost use Rattle.bufr_cli.specs.Prelude.{LeavesDevices, event_pieces, ls_piece, input_of, writers_of};
@@ -11,7 +11,7 @@ use bufr_frame::{Message, RunFault};
 use bufr_text::write_ls;
 use std::alloc::Global;
 
-/// The writer of the messages for `bufr ls`, one line each.
+/// The message writer for `bufr ls`, which writes one line per message.
 #[derive(Drop)]
 struct LsRun;
 
@@ -44,11 +44,12 @@ impl MessageWriter for LsRun {
     }
 }
 
-/// Lists the messages of `r`, one per line.
+/// Lists the messages in `r`, one per line.
 ///
-/// Messages are listed in the order of the stream, each as soon as it is certain. The line of a
-/// message is written to `w`. For each stray, and for each message that cannot be divided into its
-/// sections, writes a fault line to `e` instead. At the end, flushes `w` and then `e`.
+/// Messages are listed in stream order, each as soon as enough input has been read to identify it.
+/// The line for a message is written to `w`. For each stray `BUFR`, and for each message that
+/// cannot be split into its sections, a fault line is written to `e` instead. At the end, `w` is
+/// flushed, and then `e`.
 ///
 /// ```
 /// let mut r = Device::new(b"BUFR".as_slice());
@@ -60,9 +61,10 @@ impl MessageWriter for LsRun {
 ///
 /// # Errors
 ///
-/// [`RunFault::Read`], [`RunFault::InputTooLong`] and [`RunFault::Memory`] under the same
-/// conditions as [`Finder::next`]; in each case, the lines of all certain events have been written.
-/// [`RunFault::Write`] if a writer fails or takes nothing; a prefix of the lines has been written.
+/// [`RunFault::Read`], [`RunFault::InputTooLong`] or [`RunFault::Memory`] if [`Finder::next`] would
+/// fail with that fault. In each case, the lines for all earlier events have been written.
+/// [`RunFault::Write`] if a writer fails or accepts nothing. In that case, a prefix of the output
+/// has been written.
 // rule: input-without-bufr
 pub fn run_ls<R: Source, W: Sink, E: Sink>(
     alloc: Global,
@@ -70,8 +72,8 @@ pub fn run_ls<R: Source, W: Sink, E: Sink>(
     w: &mut W,
     e: &mut E,
 ) -> Result<Tally, RunFault>
-    // If the run completes and its whole input is known, exactly the pieces of that input are
-    // written, and the tally counts them.
+    // If the run completes and its whole input is known, the run writes exactly the pieces for that
+    // input, and the tally counts them.
     ensures leaves { LeavesDevices (event_pieces ls_piece)
         (input_of R.Source r.old) (input_of R.Source r.new)
         (writers_of W.Sink w.old E.Sink e.old) (writers_of W.Sink w.new E.Sink e.new) result }

@@ -1,4 +1,4 @@
-//! The end of a run: its counts, its last line and its exit status.
+//! The end of a run: the counts, the last line of the error output, and the exit status.
 ghost use Rattle.std.specs.Prelude.{◌≡◌, ◌<◌, ◌-◌, ◌^◌, ◌∷◌, [], codes, decimal, ◌+◌};
 ghost use Rattle.std.specs.Io.KnownBytes.{Appends};
 ghost use Rattle.bufr_text.specs.Prelude.{Pushes, GrowsByPrefix};
@@ -10,24 +10,24 @@ use bufr_frame::RunFault;
 use bufr_tables::TableFault;
 use bufr_text::LineWriter;
 
-/// The size, in octets, of the block in which a line is assembled. A longer line takes several
+/// The size, in octets, of the block in which a line is assembled. A longer line needs several
 /// writes.
 const LINE: usize = 320;
 
-/// The outcome of a call of the program.
+/// The outcome of running the program.
 #[derive(Clone, Copy, Debug)]
 pub enum Outcome<'a> {
     /// The run completed.
     Ran(Tally),
-    /// The command line is invalid; this text says why.
+    /// The command line is invalid. The variant contains the text that explains why.
     Usage(&'a str),
-    /// The file with this name cannot be opened.
+    /// The file with the given name cannot be opened.
     CannotOpen(&'a str),
     /// Table B cannot be read.
     TableB(TableFault),
     /// Table D cannot be read.
     TableD(TableFault),
-    /// This fault stopped the run.
+    /// The given fault stopped the run.
     Run(RunFault),
 }
 
@@ -93,8 +93,8 @@ fn push_table_fault<E: Sink>(line: &mut LineWriter<'_, '_, E>, table: &[u8], fau
     }
 }
 
-/// Pushes the last line: the usage text, or the reason why the run did not complete. Pushes nothing
-/// if the run completed.
+/// Pushes the last line of the error output: the usage text, or the reason why the run did not
+/// complete. Pushes nothing if the run completed.
 // rule: status-of-usage, status-of-open
 fn push_last<E: Sink>(line: &mut LineWriter<'_, '_, E>, outcome: &Outcome<'_>)
     ensures { Pushes line.old (last_line outcome.now) line.new }
@@ -113,15 +113,16 @@ fn push_last<E: Sink>(line: &mut LineWriter<'_, '_, E>, outcome: &Outcome<'_>)
     }
 }
 
-/// Writes the last line to `e`, and returns the exit status.
+/// Writes the last line of the error output to `e`, and returns the exit status.
 ///
-/// The last line is the usage text, or reports why the run did not complete. Nothing is written if
-/// the run completed. The status is 0 if nothing was rejected, 1 if something was, and 2 if the run
-/// did not complete. A failed write does not change the status. This function allocates no memory.
+/// The last line is the usage text or the reason why the run did not complete. If the run
+/// completed, nothing is written. The exit status is 0 if nothing was rejected, 1 if something was
+/// rejected, and 2 if the run did not complete. A failed write does not change the exit status.
+/// This function does not allocate.
 pub fn finish<E: Sink>(outcome: &Outcome<'_>, e: &mut E) -> u8
     ensures status { result ≡ status_of outcome.now }
-    // A prefix of the line is written, and the whole line if no call to the writer fails or takes
-    // nothing.
+    // A prefix of the line is written. The whole line is written if no call to the writer fails or
+    // accepts nothing.
     ensures prefix { GrowsByPrefix (E.taken e.old) (E.taken e.new) (last_line outcome.now) }
     ensures whole { E.failures e.old < 2 ^ 64 - 1 → E.empty_writes e.old < 2 ^ 64 - 1
         → HasNotFailed (writer_of E.Sink e.old) (writer_of E.Sink e.new)
@@ -136,22 +137,24 @@ pub fn finish<E: Sink>(outcome: &Outcome<'_>, e: &mut E) -> u8
     status(outcome)
 }
 
-/// The verdict on a message, a document or a stray.
+/// The verdict on a message, a document or a stray `BUFR`.
 #[derive(Clone, Copy, Debug, PartialEq, Eq)]
 pub enum Verdict {
-    /// Its text or message was written to the output.
+    /// The message or document was accepted, and the result was written to the output.
     Accepted,
-    /// Its fault line was written to the error output.
+    /// The message, document or stray was rejected, and its fault line was written to the error
+    /// output.
     Refused,
 }
 
-/// The number of messages or documents that a run accepted, and the number of strays, messages or
-/// documents that it rejected.
+/// The counts of a run: how many messages or documents were accepted, and how many strays, messages
+/// and documents were rejected.
 #[derive(Clone, Copy, Debug, PartialEq, Eq)]
 pub struct Tally {
-    /// The number of messages or documents that were written to the output.
+    /// The number of accepted messages or documents.
     pub accepted: u64,
-    /// The number of fault lines that were written to the error output, including those of strays.
+    /// The number of fault lines that were written to the error output, including the fault lines
+    /// for strays.
     pub refused: u64,
 }
 

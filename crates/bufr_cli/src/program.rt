@@ -1,4 +1,5 @@
-//! The program below `main`: what it does with a command line, given its inputs and writers.
+//! The program without its `main` function: [`run`] executes a command line with the given inputs
+//! and writers.
 ghost use Rattle.std.specs.Prelude.{◌≡◌, ◌⊎◌, ◌≤◌, ◌+◌, ◌*◌, ℕ, true, List, Option, None, [], ◌∷◌, Ok, IfOk, IfErr, IfSome, OnOk, length, map};
 ghost use Rattle.bufr_bits.specs.Prelude.{counted};
 ghost use Rattle.bufr_frame.specs.Prelude.{read_failures_after, MakesReads};
@@ -32,27 +33,28 @@ pub enum OpenFault {
     Memory,
 }
 
-/// The inputs of the program. They count their reads, so that contracts can state which read
+/// The inputs of the program. Each input counts its reads, so that contracts can state which read
 /// failed.
 pub trait Inputs {
-    /// Standard input.
+    /// The type of the reader for standard input.
     type Standard: Source + Drop;
 
-    /// A file.
+    /// The type of the reader for a file.
     type File: Source + Drop;
 
     /// The octets of standard input, if they are known.
     ghost standard_octets: { Self → Option (List ℕ) };
 
-    /// The octets of the file with a name, if it is known that it can be opened and what it
-    /// contains.
+    /// The octets of the file with the given name, if they are known. In that case, the file can be
+    /// opened.
     ghost file_octets: { Self → List ℕ → Option (List ℕ) };
 
-    /// The inputs that were opened so far, in order, if they are known. Failed calls are included.
+    /// The inputs that have been opened so far, in order, if they are known. Failed attempts to
+    /// open an input are included.
     ghost opened: { Self → Option (List InputName) } = { λ _. None };
 
-    /// Opens standard input. It is opened after all files, so no clause states what is known about
-    /// files after that.
+    /// Opens standard input. The program opens standard input after all files, so no clause states
+    /// what is known about files afterwards.
     ///
     /// # Errors
     ///
@@ -62,12 +64,12 @@ pub trait Inputs {
             (λ input. Self.Standard.left input ≡ standard_octets self.old) }
         ensures opens { Opens (opened self.old) (opened self.new) (standard_name ∷ []) };
 
-    /// Opens the file with this name.
+    /// Opens the file with the given name.
     ///
     /// # Errors
     ///
-    /// [`OpenFault::CannotOpen`] if it cannot be opened, and [`OpenFault::Memory`] if memory runs
-    /// out.
+    /// [`OpenFault::CannotOpen`] if the file cannot be opened, and [`OpenFault::Memory`] if memory
+    /// runs out.
     fn open(&mut self, name: &str) -> Result<Self::File, OpenFault>
         ensures octets { IfOk result
             (λ file. Self.File.left file ≡ file_octets self.old name.now) }
@@ -78,12 +80,12 @@ pub trait Inputs {
         ensures standard { standard_octets self.new ≡ standard_octets self.old };
 }
 
-/// Reads all octets of `r`, up to its end.
+/// Reads all octets from `r`.
 ///
 /// # Errors
 ///
-/// [`RunFault::Read`] if a read fails, [`RunFault::InputTooLong`] if 2^32 reads do not reach the
-/// end, and [`RunFault::Memory`] if memory runs out.
+/// [`RunFault::Read`] if a read fails, [`RunFault::InputTooLong`] if the end of input is not
+/// reached within 2^32 reads, and [`RunFault::Memory`] if memory runs out.
 pub fn read_all<R: Source>(alloc: Global, r: &mut R) -> Result<Vec<u8>, RunFault>
     ensures read { (bs : List ℕ) × ReadsAll (R.left r.old) (R.left r.new) result bs }
     ensures failed { R.failures r.new ≡ read_failures_after (R.failures r.old) result }
@@ -99,11 +101,13 @@ pub fn read_all<R: Source>(alloc: Global, r: &mut R) -> Result<Vec<u8>, RunFault
     Ok(octets)
 }
 
-/// Runs a command line, whose first word is the program's name, and returns the exit status.
+/// Executes a command line and returns the exit status. The first word of the command line is the
+/// name of the program.
 ///
-/// The status is that of `status_of` (specs/Ending), or 0 if help or the version was written to
-/// `w`. `dump` and `encode` open Table B first, then Table D if Table B is valid, and then the
-/// input if both tables are valid. `ls` opens only the input. Each is opened at most once.
+/// The exit status is 0 if help or the version was written to `w`. Otherwise, `status_of`
+/// (specs/Ending) defines the exit status. `dump` and `encode` open Table B first, then Table D if
+/// Table B is valid, and then the input if both tables are valid. `ls` opens only the input. Each
+/// table and each input is opened at most once.
 pub fn run<'a, S: AsStr, I: Inputs, W: Sink, E: Sink>(
     alloc: Global,
     words: &'a [S],
@@ -111,9 +115,10 @@ pub fn run<'a, S: AsStr, I: Inputs, W: Sink, E: Sink>(
     w: &mut W,
     e: &mut E,
 ) -> u8
-    // `RunsProgram` (specs/Program) relates, in this order: the words of the command line, what is
-    // known of the inputs, what was opened before and after the call, the writers before and after
-    // it, and the exit status. `known`, `input_of` and `writers_of` only collect ghost items.
+    // `RunsProgram` (specs/Program) relates the following, in this order: the words of the command
+    // line, what is known about the inputs, the inputs that had been opened before and after the
+    // call, the writers before and after the call, and the exit status. `known`, `input_of` and
+    // `writers_of` only group ghost items.
     ensures { RunsProgram (map S.text words.entry.now)
         (known (I.standard_octets inputs.old) (I.file_octets inputs.old)
         (input_of I.Standard.Source) (input_of I.File.Source))
@@ -144,14 +149,14 @@ fn write_and_flush<W: Sink>(text: &[u8], w: &mut W) -> Result<(), RunFault>
     flush(w)
 }
 
-/// The allocator of a command and the name of its input file.
+/// The allocator that a command uses, and the name of the command's input file.
 #[derive(Clone, Copy, Drop)]
 struct Call<'a> {
     alloc: Global,
     file: Option<&'a str>,
 }
 
-/// Opens the inputs of a job, the tables first, and runs it.
+/// Opens the inputs of a job, starting with the tables, and runs the job.
 // rule: tables-before-input
 fn run_job<'a, I: Inputs, W: Sink, E: Sink>(
     alloc: Global,
@@ -228,14 +233,14 @@ fn read_file<'a, I: Inputs>(
     }
 }
 
-/// Tables B and D of a command.
+/// The two tables, Table B and Table D, that a command uses.
 #[derive(Drop)]
 struct Tables {
     table_b: TableB,
     table_d: TableD,
 }
 
-/// Reads Table B, and then Table D, from the files with these names.
+/// Reads Table B, and then Table D, from the files with the given names.
 fn read_tables<'a, I: Inputs>(
     alloc: Global,
     names: TableNames<'a>,
@@ -280,14 +285,14 @@ fn outcome_of<'a>(ran: Result<Tally, RunFault>) -> Outcome<'a>
     }
 }
 
-/// A command with the tables that it needs.
+/// A command, together with the tables that it needs.
 #[derive(Drop)]
 enum Command<'t> {
-    /// Lists the messages of an input.
+    /// Lists the messages in an input.
     Ls,
-    /// Dumps the messages of an input, using these tables.
+    /// Dumps the messages in an input, using the given tables.
     Dump(&'t TableB, &'t TableD),
-    /// Encodes the documents of an input in this form, using these tables.
+    /// Encodes the documents in an input as messages in the given form, using the given tables.
     Encode(Form, &'t TableB, &'t TableD),
 }
 
@@ -319,7 +324,7 @@ fn run_input<'a, I: Inputs, W: Sink, E: Sink>(
     }
 }
 
-/// Runs a command on an input, and flushes the remaining output.
+/// Runs a command on an input, and then flushes any remaining output.
 fn run_source<R: Source, W: Sink, E: Sink>(
     alloc: Global,
     command: Command<'_>,
@@ -356,7 +361,7 @@ fn run_command<R: Source, W: Sink, E: Sink>(
 }
 
 /// Flushes the output if the run stopped because memory ran out or the input was too long. If a
-/// read failed, everything was already flushed before that read.
+/// read failed, the output was flushed before that read.
 fn flush_rest<W: Sink>(ran: Result<Tally, RunFault>, w: &mut W) -> Result<Tally, RunFault>
     ensures same { result ≡ ran }
     ensures rest { FlushesRest (writer_of W.Sink w.old) (writer_of W.Sink w.new) ran }

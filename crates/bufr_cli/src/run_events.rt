@@ -1,4 +1,4 @@
-//! Runs over the events of a stream, for any writer of messages.
+//! The loop over the events in a stream, for any message writer.
 ghost use Rattle.std.specs.Prelude.{◌≡◌, ◌≤◌, ℕ, Bool, length};
 ghost use Rattle.bufr_frame.specs.Prelude.{StreamEvent, FrameAt, StrayAt, cause_report};
 ghost use Rattle.bufr_frame.specs.declared.fault.Cause.{Cause};
@@ -11,25 +11,26 @@ use bufr_bits::{Sink, Source};
 use bufr_frame::{Event, Finder, RunFault};
 use std::alloc::Global;
 
-/// A writer of the messages of a stream. The run itself writes the fault lines of strays.
+/// A type that writes the output for the messages in a stream. The run itself writes the fault
+/// lines for strays.
 pub trait MessageWriter {
-    /// The piece of an event.
+    /// The piece of output that is written for an event.
     ghost piece: { Self → StreamEvent → Piece };
 
-    /// Whether writing allocates memory.
+    /// Whether writing a message may allocate memory.
     ghost takes_memory: { Self → Bool };
 
-    /// The piece of a stray is its fault line.
+    /// The piece for a stray `BUFR` is its fault line.
     ghost strays: { (s : Self) (offset : ℕ) (cause : Cause)
         → piece s (StrayAt offset cause) ≡ OnErrors (fault_line offset (cause_report cause)) };
 
-    /// Writes the piece of the message in `octets`, which is at `offset` in the stream. The verdict
-    /// says to which writer the piece was written.
+    /// Writes the piece for the message in `octets`, which begins at `offset` in the stream. The
+    /// returned verdict indicates which writer received the piece.
     ///
     /// # Errors
     ///
-    /// [`RunFault::Write`] if a writer fails or takes nothing, and [`RunFault::Memory`] if memory
-    /// runs out; in both cases, a prefix of the piece has been written.
+    /// [`RunFault::Write`] if a writer fails or accepts nothing, and [`RunFault::Memory`] if memory
+    /// runs out. In both cases, a prefix of the piece has been written.
     fn write_message<W: Sink, E: Sink>(
         &mut self,
         offset: u64,
@@ -50,7 +51,7 @@ pub trait MessageWriter {
         ensures errors_flushes { E.flushes e.new ≡ E.flushes e.old };
 }
 
-/// The finder of the events of a stream, and the writer of its messages.
+/// The state of a run over events: the event finder and the message writer.
 #[derive(Drop)]
 struct EventRun<T> {
     finder: Finder,
@@ -90,7 +91,8 @@ impl<T: MessageWriter> PieceWriter for EventRun<T> {
     }
 }
 
-/// Writes the piece of each event of `r` as soon as the event is certain.
+/// Writes the piece for each event in `r` as soon as enough input has been read to determine that
+/// event.
 pub(crate) fn run_events<T: MessageWriter + Drop, R: Source, W: Sink, E: Sink>(
     alloc: Global,
     writer: T,

@@ -1,4 +1,4 @@
-//! The loop of a run, which writes the pieces of an input one at a time.
+//! The main loop of a run, which writes the output piece by piece.
 ghost use Rattle.std.specs.Prelude.{◌≡◌, ◌≢◌, ◌≤◌, ℕ, Bool, true, false, Ok, Err, OnOk, IfErr};
 ghost use Rattle.std.specs.Io.KnownBytes.{Keeps};
 ghost use Rattle.bufr_bits.specs.Prelude.{counted};
@@ -9,40 +9,40 @@ use crate::outcome::{Tally, Verdict};
 use bufr_bits::{Sink, Source};
 use bufr_frame::RunFault;
 
-/// The result of a step of a run.
+/// The result of one step of a run.
 #[derive(Clone, Copy)]
 pub enum RunStep {
     /// A piece was written.
     Piece(Verdict),
     /// A read is needed before the next step.
     Read,
-    /// There are no more pieces.
+    /// No more pieces follow.
     End,
 }
 
-/// A writer of the pieces of an input.
+/// A type that writes the output for an input, one piece at a time.
 pub trait PieceWriter {
-    /// The pieces of an input.
+    /// The pieces of output for an input.
     ghost pieces: { Self → RunPieces };
 
-    /// Whether writing allocates memory.
+    /// Whether writing a piece may allocate memory.
     ghost takes_memory: { Self → Bool };
 
     /// The number of reads made so far.
     ghost reads: { Self → ℕ };
 
-    /// Whether a run has made this progress.
+    /// Whether the run has made the given progress.
     ghost reaches: { Self → Progress → Type 0 };
 
-    /// Whether a read is needed.
+    /// Whether a read is needed before the next piece can be written.
     ghost needs_read: { Self → Type 0 };
 
-    /// Writes the next piece if it is certain from what has been read.
+    /// Writes the next piece if enough input has been read to determine it.
     ///
     /// # Errors
     ///
-    /// [`RunFault::Write`] if a writer fails or takes nothing, and [`RunFault::Memory`] if memory
-    /// runs out; in both cases, a prefix of the piece has been written.
+    /// [`RunFault::Write`] if a writer fails or accepts nothing, and [`RunFault::Memory`] if memory
+    /// runs out. In both cases, a prefix of the piece has been written.
     fn write_next<W: Sink, E: Sink>(&mut self, w: &mut W, e: &mut E) -> Result<RunStep, RunFault>
         requires begun { (so : Progress) × reaches self.old so }
         ensures next { (so : Progress) → reaches self.old so
@@ -58,13 +58,13 @@ pub trait PieceWriter {
         ensures output_flushes { W.flushes w.new ≡ W.flushes w.old }
         ensures errors_flushes { E.flushes e.new ≡ E.flushes e.old };
 
-    /// Reads once from `r`, which must be the same input at each call. Call this only when a read
-    /// is needed.
+    /// Reads once from `r`, which must be the same input in every call. This function must be
+    /// called only if a read is needed.
     ///
     /// # Errors
     ///
-    /// [`RunFault::Read`] if the read fails, [`RunFault::InputTooLong`] if 2^32 reads were already
-    /// made, and [`RunFault::Memory`] if memory runs out. In each case, no octets were read.
+    /// [`RunFault::Read`] if the read fails, [`RunFault::InputTooLong`] if 2^32 reads have already
+    /// been made, and [`RunFault::Memory`] if memory runs out. In each case, no octets were read.
     fn read_more<R: Source>(&mut self, r: &mut R) -> Result<(), RunFault>
         requires { needs_read self.old }
         ensures reads_on { (so : Progress) → so.left ≡ R.left r.old → reaches self.old so
@@ -102,7 +102,7 @@ fn hand_on<W: Sink, E: Sink>(w: &mut W, e: &mut E) -> Result<(), RunFault>
     flush(e)
 }
 
-/// The writers to which a run has written since it began or since it last flushed them.
+/// Records which writers the run has written to since their last flush, or since the run began.
 #[derive(Clone, Copy)]
 pub(crate) struct Unflushed {
     output: bool,
@@ -130,7 +130,8 @@ fn flush_if<W: Sink>(written: bool, w: &mut W) -> Result<(), RunFault>
     Ok(())
 }
 
-/// Flushes what was written since the last flush, if the next read of `r` may block.
+/// If the next read from `r` may block, flushes each writer that has been written to since its last
+/// flush.
 fn hand_on_before_read<R: Source, W: Sink, E: Sink>(
     r: &R,
     unflushed: &mut Unflushed,
@@ -151,8 +152,9 @@ fn hand_on_before_read<R: Source, W: Sink, E: Sink>(
     Ok(())
 }
 
-/// Writes the pieces of `r`, each as soon as it is certain. Before a read that may block, flushes
-/// each writer that was written to since its last flush. At the end, flushes both writers.
+/// Writes each piece for `r` as soon as enough input has been read to determine it. Before a read
+/// that may block, flushes each writer that has been written to since its last flush. At the end,
+/// flushes both writers.
 // rule: output-in-order, fault-line-not-written, input-not-read, reader-gone
 pub(crate) fn run_pieces<P: PieceWriter, R: Source, W: Sink, E: Sink>(
     next: &mut P,

@@ -1,4 +1,4 @@
--- The bits that are written of drafts read as the contents of the drafts.
+-- Bits that are written from drafts read back as the contents of the drafts.
 use Rattle.std.proofs.lemmas.List.{drop_all}
 use Rattle.std.proofs.Common.{◌≡◌, ℕ, zero, suc, ◌+◌, ◌*◌, ◌≤◌, Bool, true, false, List, [], ◌∷◌, ◌++◌, length, drop, Option, Some, None, Result, Ok, Err, refl, sym, ◌∙◌, ap, subst, arith, append_assoc, slice_get, if◌then◌else◌}
 use Rattle.bufr_fill.proofs.FieldLemmas.{same_ok}
@@ -19,7 +19,7 @@ use Rattle.bufr_walk.proofs.CourseLemmas.{IsSane}
 use Rattle.bufr_walk.proofs.PassLemmas.{legal_sane}
 use Rattle.std.specs.Result.{result_map_both}
 
--- ---- one item after another
+-- ---- Successive items.
 
 pub record IsBack {C D : Type 0} (form : DataCoding C) (of_item : Item C → D → Type 0) (course : Course) (ds : List D) (out : List Bool) : Type 0 where
   pub items : List (Item C)
@@ -27,7 +27,7 @@ pub record IsBack {C D : Type 0} (form : DataCoding C) (of_item : Item C → D �
   pub read : (more : List Bool) → ReadsItems form course items (out ++ more) more
   pub end : course (answers_in form.gives items) ≡ at_end
 
--- what must hold of one item
+-- The item that was written reads back as the content of its draft, whatever follows it.
 pub record IsOneBack {C D : Type 0} (form : DataCoding C) (of_item : Item C → D → Type 0) (spec : FieldSpec) (d : D) (w : WrittenItem C) : Type 0 where
   pub said : of_item (record { spec = spec; content = w.content }) d
   pub within : IsWithin (form.gives spec w.content)
@@ -77,7 +77,7 @@ module _ {C D E : Type 0} (form : DataCoding C) (filler : Filler D C E) (of_item
   back course [] out good texts e = back_end course out (course []) refl e
   back course (d ∷ ds) out good texts e = back_next course d ds out good texts.0 (λ next rest g p. back next ds rest g texts.1 p) (course []) refl e
 
--- ---- data that are not compressed
+-- ---- Plain data.
 
 plain_one : (end_line : ℕ) (spec : FieldSpec) (d : Draft) (w : WrittenItem Content) → IsSpec spec → HasOctets d.form
     → (map_err (at_line d.line) (content_of spec d) >>= λ c. Ok (written_item c (bits_for spec.width c))) ≡ Ok w → IsOneBack plain IsSaid spec d w
@@ -112,9 +112,9 @@ module _ (course : Course) (sane : (m : ℕ) → IsSane m course) (good : IsGood
   plain_back (s ∷ ss) out text e = plain_join s ss out text.0 (λ rest q. plain_back ss rest text.1 q) (fill (plain_filler s.end_line) course s.items) (plain_data course ss) refl refl
       e
 
--- ---- compressed data
+-- ---- Compressed data.
 
--- the content of a cell
+-- The content is that of the draft in this cell.
 abbrev IsCellSaid : FieldSpec → Content → Option Draft → Type 0
 IsCellSaid spec c None = ⊥
 IsCellSaid spec c (Some d) = content_of spec d ≡ Ok c
@@ -123,7 +123,7 @@ abbrev OctetsIn : Option Draft → Type 0
 OctetsIn None = Unit {0}
 OctetsIn (Some d) = HasOctets d.form
 
--- the cells have the contents, from that of one subset on
+-- The cells have these contents, from subset j on.
 abbrev SaidFrom : ℕ → FieldSpec → List Content → List RowCell → Type 0
 SaidFrom j spec cs [] = Unit {0}
 SaidFrom j spec cs (cell ∷ cells) = IsCellSaid spec (content_at j cs) cell.draft × SaidFrom (suc j) spec cs cells
@@ -163,7 +163,7 @@ cells_said spec [] cs text e = subst (AreCellsSaid spec []) (same_ok [] cs e) (r
 cells_said spec (cell ∷ cells) cs text e = cells_join spec cell cells cs text.0 (λ rest q. cells_said spec cells rest text.1 q) (content_here spec cell.draft cell.end_line) (contents_here spec cells)
     refl refl e
 
--- an item of all subsets
+-- The item has the contents of the row, up to which there are not too many values.
 abbrev IsSaidAcross : ℕ → Item (List Content) → ItemRow → Type 0
 IsSaidAcross n i a = SaidFrom 0 i.spec i.content a.cells × ((a.index + 1) * n ≤ max_values)
 
@@ -203,7 +203,7 @@ packed_one n some spec a w good row e = by_many (would_be_many (length a.cells) 
     by_many true p q = cc
     by_many false p q = by_contents (subst (λ k. (a.index + 1) * k ≤ max_values) row.0 (few_of a.index (length a.cells) p)) (contents_here spec a.cells) refl q
 
--- ---- rows and subsets
+-- ---- Rows and subsets.
 
 draft_octets : (ds : List Draft) (p : ℕ) → AllByRecursion (λ (d : Draft). HasOctets d.form) ds → OctetsIn (slice_get ds p)
 draft_octets [] zero h = tt
@@ -219,7 +219,7 @@ rows_octets : (n count from : ℕ) (ss : List Subset) → length ss ≡ n → Al
 rows_octets n zero from ss e h = tt
 rows_octets n (suc count) from ss e h = ((length-cells from ss ∙ e, cells_octets from ss h), rows_octets n count (from + 1) ss e h)
 
--- a cell's draft is the next of its subset
+-- The draft in a cell is the next one of its subset.
 draft_next : (spec : FieldSpec) (c : Content) (ds : List Draft) (p : ℕ) → IsCellSaid spec c (slice_get ds p) → (d : Draft) × (drop p ds ≡ d ∷ drop (p + 1) ds) × (content_of spec d ≡ Ok c)
 draft_next spec c [] zero h = absurd h
 draft_next spec c [] (suc p) h = absurd h

@@ -1,4 +1,4 @@
--- Stored entries, and the indices of subsets among them.
+-- Stored entries, and where the subsets among them begin and end.
 use Rattle.std.proofs.lemmas.Grind.{common_steps}
 use Rattle.std.proofs.Common.{◌≡◌, ℕ, zero, suc, ◌+◌, ◌-◌, ◌≤◌, ◌<◌, Bool, List, [], ◌∷◌, ◌++◌, true, false, length, drop, get_or, min, Option, Some, None, refl, sym, ◌∙◌, ap, arith, add-one, map, length-append, ◌/◌, Result, Ok, Err, subst, slice_get, option_map, ◌==◌, slice_range, IfSome}
 use Rattle.bufr_tables.proofs.TableBLemmas.{range-append}
@@ -13,7 +13,7 @@ use Rattle.bufr_walk.specs.Prelude.{FieldSpec, Content, answer_of, bits_for}
 use Rattle.bufr_fill.specs.declared.fault.DraftFault.TheVariants as draft_fault
 use Rattle.bufr_fill.specs.declared.draft.ValueKind.TheVariants as kind
 
--- the index where a subset's entries begin, by the indices of the ends
+-- the index at which the entries of a subset begin, given the indices of the ends
 abbrev pub begin_of : (from : ℕ) → List ℕ → (subset : ℕ) → ℕ
 begin_of from ends zero = from
 begin_of from [] (suc subset) = from
@@ -24,7 +24,7 @@ abbrev pub entry_line : DraftEntry → ℕ
 entry_line (Holds d) = d.line
 entry_line (Ends line) = line
 
--- the first subset among entries
+-- The entries begin with a subset that ends at index `e`.
 pub record Cut (from : ℕ) (xs : List DraftEntry) (e : ℕ) (rest : List ℕ) : Type 0 where
   pub items : List Draft
   pub line : ℕ
@@ -71,7 +71,7 @@ cut from (Holds d ∷ more) e rest h =
     at items line g zero = let m : min (suc (length items)) 0 ≡ 0 = omega arith in ap (slice_get (Holds d ∷ more)) m
     at items line g (suc j) = let m : min (suc (length items)) (suc j) ≡ suc (min (length items) j) = omega arith in ap (slice_get (Holds d ∷ more)) m ∙ g j
 
--- each end is the index of an entry
+-- Each end is the index of an entry.
 pub ends_before : (from : ℕ) (xs : List DraftEntry) (s e : ℕ) → slice_get (ends_of from xs) s ≡ Some e → e < from + length xs
 ends_before from [] s e h = absurd cc
 ends_before from (Holds d ∷ more) s e h = omega (arith, ends_before (from + 1) more s e h)
@@ -84,7 +84,7 @@ slice_get-drop zero (x ∷ xs) k = let e : k ≡ 0 + k = omega arith in ap (slic
 slice_get-drop (suc n) [] k = refl
 slice_get-drop (suc n) (x ∷ xs) k = let e : suc n + k ≡ suc (n + k) = omega arith in slice_get-drop n xs k ∙ ap (slice_get (x ∷ xs)) (sym e)
 
--- the index where a subset begins
+-- A subset begins after the end of the previous one.
 begin_after : (from : ℕ) (ends : List ℕ) (s : ℕ) (d : ℕ) → s < length ends → begin_of from ends (suc s) ≡ suc (get_or ends s d)
 begin_after from [] s d h = absurd (omega (arith, h))
 begin_after from (e ∷ ends) zero d h = refl
@@ -102,7 +102,7 @@ length-subsets from [] = refl
 length-subsets from (Ends line ∷ more) = ap suc (length-subsets (from + 1) more)
 length-subsets from (Holds d ∷ more) = length-prepended d (subsets_of more) ∙ length-subsets (from + 1) more
 
--- the entry of a subset at an index
+-- At this index of the subset, the entries have its item or its end.
 pub record IsSubsetEnd (index s from : ℕ) (xs : List DraftEntry) (ends : List ℕ) (e : ℕ) (c : RowCell) : Type 0 where
   pub begins : from ≤ begin_of from ends s
   pub ends_at : from ≤ e
@@ -143,27 +143,27 @@ module _ (index : ℕ) (e : ℕ) (c : RowCell) where
       let k = cut from xs x rest p in
       further from xs s x rest k (subset_end_at s (suc x) (drop (suc (length k.items)) xs) rest (sym k.rest_is) q (sym (ap (λ ss. slice_get (cells_at index ss) (suc s)) k.subsets) ∙ r))
 
--- the entry that the code reads
+-- The entry that the code reads is the item of the subset at this index, or its end.
 pub entry_there : (index s : ℕ) (xs : List DraftEntry) (e : ℕ) (c : RowCell) → slice_get (ends_of 0 xs) s ≡ Some e → slice_get (cells_at index (subsets_of xs)) s ≡ Some c
     → slice_get xs (min e (begin_of 0 (ends_of 0 xs) s + index)) ≡ Some (entry_or_end c.draft c.end_line)
 entry_there index s xs e c h g =
     let m : min e (begin_of 0 (ends_of 0 xs) s + index) - 0 ≡ min e (begin_of 0 (ends_of 0 xs) s + index) = omega arith in
     sym (ap (slice_get xs) m) ∙ (subset_end_at index e c s 0 xs (ends_of 0 xs) refl h g).there
 
--- the ends are indices of entries
+-- the same for an end that the code reads
 pub end_small : (from : ℕ) (xs : List DraftEntry) (s : ℕ) (z : ℕ) → s < length (ends_of from xs) → get_or (ends_of from xs) s z < from + length xs
 end_small from [] s z h = absurd (omega (arith, h))
 end_small from (Holds d ∷ more) s z h = omega (arith, end_small (from + 1) more s z h)
 end_small from (Ends line ∷ more) zero z h = omega arith
 end_small from (Ends line ∷ more) (suc s) z h = omega (arith, end_small (from + 1) more s z (omega (arith, h)))
 
--- where the code finds none, there is none
+-- If the code finds nothing at an index, the list is not longer than the index.
 pub none_there : {X : Type 0} (xs : List X) (s : ℕ) → None ≡ slice_get xs s → length xs ≤ s
 none_there [] s h = omega arith
 none_there (y ∷ xs) zero h = absurd (none-some y h)
 none_there (y ∷ xs) (suc s) h = omega (arith, none_there xs s h)
 
--- with no end there is no subset
+-- If there are no ends, there are no subsets.
 pub none_end : (xs : List DraftEntry) → ends_of 0 xs ≡ [] → subsets_of xs ≡ []
 none_end xs e = by (subsets_of xs) (length-subsets 0 xs ∙ ap length e)
   where
@@ -181,7 +181,7 @@ count_cells index xs ends e = length-cells index (subsets_of xs) ∙ length-subs
 pub end_within : (xs : List DraftEntry) (ends : List ℕ) (s : ℕ) → ends ≡ ends_of 0 xs → s < length ends → get_or ends s 0 < length xs
 end_within xs ends s e h = omega (arith, ap (λ l. get_or l s 0) e, end_small 0 xs s 0 (omega (arith, h, ap length e)))
 
--- the entry that the code finds
+-- The entry that the code finds is the one in the cell of the subset.
 pub found_entry : (index s : ℕ) (xs : List DraftEntry) (ends : List ℕ) (z : ℕ) (begin : ℕ) (e : DraftEntry) → ends ≡ ends_of 0 xs → s < length ends → begin ≡ begin_of 0 ends s
     → slice_get xs (min (get_or ends s z) (begin + index)) ≡ Some e
     → (c : RowCell) → slice_get (cells_at index (subsets_of xs)) s ≡ Some c → e ≡ entry_or_end c.draft c.end_line
@@ -205,7 +205,7 @@ true-false e = cc
 false-true : false ≡ true → ⊥
 false-true e = cc
 
--- one more entry was examined
+-- One more entry was examined, and its index was stored if it is an end.
 next_of : (xs : List DraftEntry) (index : ℕ) → index < length xs → drop index xs ≡ get_or xs index (Ends 0) ∷ drop (index + 1) xs
 next_of xs index h = drop-cons xs index (Ends 0) h ∙ ap (λ j. get_or xs index (Ends 0) ∷ drop j xs) (sym (add-one index))
 
@@ -220,9 +220,9 @@ ends_after xs ends new index b within is so same before = grind (arith, common_s
 pub ends_done : (xs : List DraftEntry) (ends all : List ℕ) (index : ℕ) → length xs ≤ index → ends ++ ends_of index (drop index xs) ≡ all → ends ≡ all
 ends_done xs ends all index past before = sym (append-nil ends) ∙ ap (λ ys. ends ++ ends_of index ys) (sym (drop_all index xs past)) ∙ before
 
--- ---- The entries of a block and its stored entries.
+-- ---- Entries that are stored with their octets in a block.
 
--- octets after the block leave the entries unchanged
+-- Octets that are appended to the block do not change the entries.
 range-after : (xs ys : List ℕ) (j : ℕ) → j ≡ length xs + length ys → slice_range (xs ++ ys) (length xs) j ≡ ys
 range-after xs ys j e = rw (drop-append_seam xs ys) (take_all (j - length xs) ys (omega arith))
 
@@ -247,13 +247,13 @@ entries-append : (octets more : List ℕ) (cells : List StoredEntry) → AreInsi
 entries-append octets more [] all = refl
 entries-append octets more (one ∷ cells) (here, all) = rw (entry-append octets more one here, entries-append octets more cells all) refl
 
--- one more entry, with its octets after the block
+-- One more entry was stored, and its octets were appended to the block.
 pub entries-push : (octets more new : List ℕ) (cells : List StoredEntry) (one : StoredEntry) (e : DraftEntry) → AreInside (length octets) cells → new ≡ octets ++ more → one.start ≡ length octets
     → one.end ≡ length new → entry_with one more ≡ e
     → entries_stored new (cells ++ one ∷ []) ≡ entries_stored octets cells ++ e ∷ []
 entries-push octets more new cells one e all is from at said = grind (arith, common_steps, length-append, slice_range, range-after, map-append, map, entries-append)
 
--- octets that are inside a block are inside a greater one
+-- Octets that are inside a block are inside a larger one, too.
 inside-greater : (n n' : ℕ) (k : Option ValueKind) (start end : ℕ) → n ≤ n' → IfSome k (λ k. AreOctetsInside k n start end) → IfSome k (λ k. AreOctetsInside k n' start end)
 inside-greater n n' None start end more h = tt
 inside-greater n n' (Some (kind.Decimal places negative)) start end more h = tt
@@ -266,7 +266,8 @@ inside-push : (n n' : ℕ) (cells : List StoredEntry) (one : StoredEntry) → n 
 inside-push n n' [] one more all last = (last, tt)
 inside-push n n' (cell ∷ cells) one more (here, all) last = (inside-greater n n' cell.kind cell.start cell.end more here, inside-push n n' cells one more all last)
 
--- one more stored entry: the octets of all are inside the block, which has no others
+-- After one more entry is stored, the octets of all entries are still inside the block, which has
+-- no others.
 pub stored-push : (n n' : ℕ) (cells kept : List StoredEntry) (one : StoredEntry) → AreInside n cells × (n ≡ octets_stored cells) → kept ≡ cells ++ one ∷ [] → one.start ≡ n → one.end ≡ n' → n ≤ n'
     → IsEntryInside n' one
     → AreInside n' kept × (n' ≡ octets_stored kept)
@@ -274,17 +275,17 @@ stored-push n n' cells kept one (all, stored) is from to more last =
     let S : List StoredEntry → Type 0 = λ l. AreInside n' l × (n' ≡ octets_stored l) in
     subst S (sym is) (inside-push n n' cells one more all last, omega (arith, stored, from, to, more, sum_by-append (λ e. e.end - e.start) cells (one ∷ [])))
 
--- the line of an entry is the one that is stored
+-- The line of an entry is the stored one.
 pub line-is : (k : StoredEntry) (octets : List ℕ) → entry_line (entry_with k octets) ≡ k.line
 line-is k octets = grind (arith, common_steps)
 
--- and so is that of the entries which it begins
+-- It is also the line of entries that begin with this entry.
 pub line-with : (k : StoredEntry) (octets : List ℕ) (more : List DraftEntry) → line_at (entry_with k octets ∷ more) ≡ k.line
 line-with k octets more = grind (arith, common_steps, line-is)
 
--- ---- One item that the code wrote, in data that are not compressed.
+-- ---- One item that the code writes, in plain data.
 
--- the entries that are left, at an index
+-- The entries from an index on are the entry at the index and those after it.
 pub next_there : (entries : List DraftEntry) (index : ℕ) (e : DraftEntry) → slice_get entries index ≡ Some e → drop index entries ≡ e ∷ drop (index + 1) entries
 next_there entries index e here =
     drop-cons entries index e (slice_get_within entries index e here) ∙ ap (λ x. x ∷ drop (suc index) entries) (get_or_from_slice_get entries index e e here)
@@ -311,7 +312,7 @@ filled_here entries index (Holds item) spec d t old new s view here said gives b
     by (Ok x) h = cc
     by (Err why) h = absurd cc
 
--- what a writer has left, by the entry that the code found
+-- If the code finds an entry, it is the first of the writer's remaining entries.
 pub left_there : (entries : List DraftEntry) (index : ℕ) (old : List Bool) (s : PlainOutModel) (e : DraftEntry) → plain_out_model (drop index entries) old ≡ s → Some e ≡ slice_get entries index
     → s.left ≡ e ∷ drop (index + 1) entries
 left_there entries index old s e view here = grind (arith, common_steps, next_there)
@@ -319,7 +320,7 @@ left_there entries index old s e view here = grind (arith, common_steps, next_th
 pub left_none : (entries : List DraftEntry) (index : ℕ) (old : List Bool) (s : PlainOutModel) → plain_out_model (drop index entries) old ≡ s → None ≡ slice_get entries index → s.left ≡ []
 left_none entries index old s view here = sym (ap (λ (p : PlainOutModel). p.left) view) ∙ drop_all index entries (none_there entries index here)
 
--- the fault at the next entry
+-- The fault of the next entry is the one that is defined.
 pub item_fault : (spec : FieldSpec) (more : List DraftEntry) (fault : DraftFault) (e : DraftEntry) → Err fault ≡ entry_here spec e
     → IfDraftFault fault (IsFaultOf spec (e ∷ more))
 item_fault spec more draft_fault.Memory e is = tt
@@ -331,13 +332,13 @@ item_fault spec more (draft_fault.Item line fault) (Holds d) is = by (content_of
     by (Ok c) e h = absurd cc
     by (Err why) e h = (why, e, cc)
 
--- the end of a subset is next
+-- The end of the subset is next.
 pub end_next : (entries : List DraftEntry) (index : ℕ) (old : List Bool) (s : PlainOutModel) (e : DraftEntry) → plain_out_model (drop index entries) old ≡ s → Some e ≡ slice_get entries index
     → is_end e ≡ true → after_end s.left ≡ Ok (drop (index + 1) entries)
 end_next entries index old s (Ends line) view here is = ap after_end (left_there entries index old s (Ends line) view here)
 end_next entries index old s (Holds d) view here is = absurd cc
 
--- one more item is next, or nothing
+-- An item is next, or there are no more entries.
 pub item_next : (entries : List DraftEntry) (index : ℕ) (old : List Bool) (s : PlainOutModel) (e : DraftEntry) → plain_out_model (drop index entries) old ≡ s → Some e ≡ slice_get entries index
     → is_end e ≡ false → after_end s.left ≡ Err (at_line (line_at s.left) item_too_many)
 item_next entries index old s (Ends line) view here is = absurd cc

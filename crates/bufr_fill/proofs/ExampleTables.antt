@@ -1,4 +1,4 @@
--- The table of the worked examples, the drafts of some texts, and their bits.
+-- The table, the templates and the drafts of the worked examples, and their bits.
 use Rattle.std.proofs.Common.{ℕ, zero, suc, ◌+◌, ◌*◌, Bool, List, [], ◌∷◌, Result, Ok, ℤ, pos, negsuc, take}
 use Rattle.bufr_bits.specs.Prelude.{bits_of}
 use Rattle.bufr_tables.specs.declared.table_b.Kind.TheVariants as kind
@@ -6,7 +6,7 @@ use Rattle.bufr_tables.specs.Prelude.{Row, Tree, bare, element, operator, delaye
 use Rattle.bufr_walk.specs.Prelude.{next_item}
 use Rattle.bufr_fill.specs.Prelude.{Kind, Draft, draft, number_token, Subset, DraftFault, plain_data, packed_data}
 
--- the descriptor of F, X and Y
+-- the descriptor with this F, X and Y
 unfoldable pub fxy : (f x y : ℕ) → ℕ
 fxy f x y = f * 16384 + (x * 256 + y)
 
@@ -14,7 +14,8 @@ listed : (f x y : ℕ) → Kind → (scale reference : ℤ) → (width : ℕ) �
 unfolding fxy
 listed f x y k s r w = record { fxy = fxy f x y; name = []; unit = []; kind = k; scale = s; reference = r; width = w }
 
--- block, name, latitude, temperature, a figure, and class 31: factors and a figure
+-- a block number, a name, a latitude, a temperature, an element of a code table, and class 31: two
+-- factors and an element of a code table
 unfoldable pub table : List Row
 unfolding listed
 table =
@@ -28,8 +29,8 @@ table =
     ∷ listed 0 31 21 kind.Coded (pos 0) (pos 0) 6
     ∷ []
 
--- templates: one element, a group of blocks, a text of four octets, and a temperature whose
--- reference is redefined in 10 bits
+-- templates: a single element, a group of block numbers, a text of four octets, a temperature whose
+-- reference is redefined in 10 bits, and an element with a width of zero
 unfoldable pub temperature : Tree
 unfolding fxy
 temperature = element (fxy 0 12 101) bare
@@ -66,7 +67,7 @@ unfoldable pub width_of_none : Tree
 unfolding fxy
 width_of_none = operator (fxy 2 1 121) (element (fxy 0 1 1) bare)
 
--- an item with a number
+-- an item whose value is a number
 abbrev pub numbered : ℕ → ℕ → List ℕ → Draft
 numbered line d digits = draft line d (number_token digits)
 
@@ -78,7 +79,7 @@ unfoldable pub packed_to_bits : Tree → List Subset → Result (List Bool) Draf
 unfolding table next_item
 packed_to_bits tree subsets = packed_data (next_item table tree) subsets
 
--- the first bits of octets
+-- the first `count` bits of these octets
 unfoldable pub ok_bits : List ℕ → ℕ → Result (List Bool) DraftFault
 unfolding bits_of
 ok_bits octets count = Ok (take count (bits_of octets))
@@ -87,7 +88,7 @@ unfoldable pub zeros : ℕ → List ℕ → List ℕ
 zeros zero more = more
 zeros (suc n) more = 0 ∷ zeros n more
 
--- so many letters, and a last octet
+-- the letter A n times, followed by the octet `last`
 unfoldable pub letters : ℕ → ℕ → List ℕ
 letters zero last = last ∷ []
 letters (suc n) last = 65 ∷ letters n last

@@ -1,4 +1,4 @@
--- An item as the content of its field, and the bits of a content.
+-- How an item becomes the content of its field, and the bits of this content.
 use Rattle.std.proofs.lemmas.Grind.{common_steps}
 use Rattle.std.proofs.Common.{Result, Ok, ◌≡◌, ℕ, zero, suc, ◌+◌, ◌-◌, ◌*◌, ◌/◌, ◌%◌, ◌^◌, ◌<◌, ◌≤◌, ◌&&◌, eqb, Bool, true, false, List, [], ◌∷◌, ◌++◌, length, take, drop, replicate, get_or, refl, sym, ◌∙◌, ap, subst, arith, ℤ, pos, negsuc, neg_ℤ, nat_abs, mod-eq_of_lt, Ok, Err, pow_mono, ◌<ℤ◌, ◌≤ℤ◌, not, ◌==◌, if◌then◌else◌, nat_lt, unsigned_abs, Some}
 use Rattle.std.specs.List.{list_all}
@@ -28,7 +28,7 @@ coding_is _ kind.Character spec h = refl
 coding_is _ kind.Coded spec h = refl
 coding_is _ kind.Numeric spec h = refl
 
--- a number that fits its bits is written in them
+-- A number that fits a width is read back from its bits.
 pub number_again : (v w : ℕ) → v < 2 ^ w → number_of (bits_in v w) ≡ v
 number_again v w h = number_of-bits_in v w ∙ mod-eq_of_lt h
 
@@ -45,7 +45,7 @@ top_below false w v h = h
 not_ones : (v w : ℕ) → v < 2 ^ w - 1 → eqb v (2 ^ w - 1) ≡ false
 not_ones v w h = grind (arith, nat_tests)
 
--- a number below the limit is not missing
+-- A number below the limit does not read as missing.
 not_missing : (m : Bool) (w v : ℕ) (b : Bool) → v < raw_limit m w → (m ≡ true → b ≡ eqb v (2 ^ w - 1)) → (b && m) ≡ false
 not_missing true w v b h e = ap (λ x. x && true) (e refl ∙ not_ones v w h)
 not_missing false w v true h e = refl
@@ -55,7 +55,7 @@ pub ones_set : (w : ℕ) → are_all_ones (replicate w true) ≡ true
 ones_set zero = refl
 ones_set (suc w) = ones_set w
 
--- a number of bits is below the limit, where it is not missing
+-- If bits do not read as missing, their number is below the limit.
 below_top : (m : Bool) (xs : List Bool) (w : ℕ) → length xs ≡ w → (are_all_ones xs && m) ≡ false → number_of xs < raw_limit m w
 below_top false xs w e h = subst (λ n. number_of xs < 2 ^ n) e (number_of-below xs)
 below_top true xs w e h =
@@ -67,7 +67,7 @@ below_top true xs w e h =
     apart_below v p true h e f = cc
     apart_below v p false h e f = grind (arith, nat_tests)
 
--- octets and their bits
+-- Octets are read back from their bits.
 pub octets_again : (octets : List ℕ) → AreOctets octets → octets_in (length octets) (bits_of octets) ≡ octets
 unfolding bits_of
 octets_again [] h = refl
@@ -104,7 +104,7 @@ bit_test false = refl
 pub first_bit : (b : Bool) (v k : ℕ) → v < 2 ^ k → eqb ((bit b * 2 ^ k + v) / 2 ^ k % 2) 1 ≡ b
 first_bit b v k h = ap (λ q. eqb (q % 2) 1) (shr_high (bit b) k v h) ∙ bit_test b
 
--- bits are those of the number that they write
+-- The bits of the number that is read from bits are these bits.
 pub bits_again : (xs : List Bool) → bits_in (number_of xs) (length xs) ≡ xs
 unfolding bits_in
 bits_again [] = refl
@@ -119,7 +119,7 @@ octet_again xs e =
     let below : number_of xs < 256 = subst (λ k. number_of xs < 2 ^ k) e (number_of-below xs) in
     ap bits_of_octet (sym (mod-eq_of_lt below)) ∙ sym (bits_in-octet (number_of xs)) ∙ ap (bits_in (number_of xs)) (sym e) ∙ bits_again xs
 
--- bits are those of the octets that they write
+-- The bits of the octets that are read from bits are these bits.
 pub octet_bits_again : (n : ℕ) (bits : List Bool) → length bits ≡ 8 * n → bits_of (octets_in n bits) ≡ bits
 unfolding bits_of
 octet_bits_again zero bits h = sym (nil_from_length bits (omega arith))
@@ -134,7 +134,7 @@ module _ (w : ℕ) where
   number_back m raw h = not_missing m w raw (are_all_ones (bits_in raw w)) h
       (λ e. sym (ones_test (bits_in raw w) w (length-bits_in raw w)) ∙ ap (λ n. eqb n (2 ^ w - 1)) (number_again raw w (top_below m w raw h)))
 
-  -- a missing value
+  -- A missing value is read back as missing.
   missing_back : (m : Bool) → m ≡ true → (are_all_ones (replicate w true) && m) ≡ true
   missing_back m e = ap (λ b. b && m) (ones_set w) ∙ e
 
@@ -147,7 +147,7 @@ module _ (w : ℕ) where
   chosen_yes : (b : Bool) (c : Content) → b ≡ true → (if b then missing else c) ≡ missing
   chosen_yes b c e = ap (λ x. if x then missing else c) e
 
-  -- what is written by kind reads the same
+  -- A content that fits is read back from its bits, whatever its kind is.
   pub kind_back : (k : Kind) (m : Bool) (c : Content) → HasWidth k w → FitsKind k m w c → content_by (coded k w m) (bits_for w c) ≡ c
   kind_back kind.Character m missing hw h = chosen_yes (are_all_ones (replicate w true)) _ (ones_set w)
   kind_back kind.Character m (text octets) hw h =
@@ -181,13 +181,13 @@ module _ (w : ℕ) where
   number_fits true m bits l e = and_second (are_all_ones bits) m e
   number_fits false m bits l e = below_top m bits w l e
 
-  -- the content of bits is one that the field can have
+  -- The content of any bits of this width fits the field.
   pub kind_fits : (k : Kind) (m : Bool) (bits : List Bool) → length bits ≡ w → HasWidth k w → FitsKind k m w (content_by (coded k w m) bits)
   kind_fits kind.Character m bits l hw = text_fits (are_all_ones bits) bits l hw.2 refl
   kind_fits kind.Coded m bits l hw = number_fits (are_all_ones bits && m) m bits l refl
   kind_fits kind.Numeric m bits l hw = number_fits (are_all_ones bits && m) m bits l refl
 
--- a number with a sign, there and back
+-- A redefined reference is read back from its sign and its magnitude.
 pub signed_back : (v : ℤ) (w : ℕ) → nat_abs v < 2 ^ (w - 1) → signed_by (sign_bit v ∷ bits_in (nat_abs v) (w - 1)) ≡ v
 signed_back (pos n) w h = ap pos (number_again n (w - 1) h)
 signed_back (negsuc n) w h = ap (λ k. neg_ℤ (pos k)) (number_again (suc n) (w - 1) h)
@@ -210,7 +210,7 @@ ones_is w =
     let t : eqb (number_of (replicate w true)) (2 ^ w - 1) ≡ true = ones_test (replicate w true) w (length-replicate w true) ∙ ones_set w in
     grind (arith, nat_tests)
 
--- all ones, as a number
+-- The greatest w-bit number, as the code computes it, consists of ones only.
 pub ones_bits : (w : ℕ) → w ≤ 63 → bits_in (1 * 2 ^ w % 18446744073709551616 - 1) w ≡ replicate w true
 ones_bits w h =
     let p : 2 ^ w ≤ 2 ^ 63 = pow_mono h in
@@ -232,7 +232,7 @@ spaced_prefix octets count h g = by octets count (255 - length octets) (omega (a
 pub spaced_whole : (octets written : List ℕ) → written ≡ octets → written ++ drop (length octets) (replicate 255 32) ≡ octets ++ replicate (255 - length octets) 32
 spaced_whole octets written e = let space : ℕ = 32 in ap (λ xs. xs ++ drop (length octets) (replicate 255 space)) e ∙ ap (λ xs. octets ++ xs) (drop-replicate {X = ℕ} (length octets) 255 space)
 
--- a sign before a magnitude
+-- The bits of a sign and a magnitude are the sign bit and the bits of the magnitude.
 signed_in : (b : Bool) (k size : ℕ) → size < 2 ^ k → bits_in (bit b * 2 ^ k + size) (suc k) ≡ b ∷ bits_in size k
 unfolding bits_in
 signed_in b k size h = ap (λ x. x ∷ bits_in (bit b * 2 ^ k + size) k) (first_bit b size k h) ∙ ap (λ bs. b ∷ bs) (bits_in-above (bit b) size k)
@@ -253,7 +253,7 @@ pub positive_bits : (v : ℤ) (w size : ℕ) → pos 0 ≤ℤ v → 1 ≤ w → 
 positive_bits (pos n) w size pos_v some e h = ap (λ x. bits_in x w) (let q : size ≡ 0 * 2 ^ (w - 1) + n = omega (arith, e) in q) ∙ at_width false w n some h
 positive_bits (negsuc n) w size pos_v some e h = absurd (omega (arith, ints, pos_v))
 
--- a text followed by spaces is all 255 where it is full and its octets are
+-- A padded text consists of octets of 255 only if it is full and its own octets are all 255.
 pub all_of_spaced : (octets : List ℕ) (count : ℕ) (full : Bool) → length octets ≤ count → full ≡ list_all (λ octet. octet == 255) octets
     → ((length octets == count) && full) ≡ list_all (λ octet. octet == 255) (octets ++ replicate (count - length octets) 32)
 all_of_spaced octets count full h e = by (count - length octets) (length octets == count) refl refl
@@ -268,7 +268,7 @@ all_of_spaced octets count full h e = by (count - length octets) (length octets 
     by (suc n) true p q = absurd (omega (arith, p, eqb-true (length octets) count q))
     by (suc n) false p q = sym (ap (λ k. list_all (λ octet. octet == 255) (octets ++ replicate k 32)) p ∙ none octets n)
 
--- octets of ones
+-- Octets of 255 consist of ones only.
 all_ones : (n : ℕ) → bits_of (replicate n 255) ≡ replicate (8 * n) true
 unfolding bits_of
 all_ones zero = refl
@@ -281,20 +281,20 @@ full_bits count h = let full : ℕ = 255 in ap bits_of (take-replicate {X = ℕ}
 pub eighths_ones : (w : ℕ) → w % 8 ≡ 0 → replicate (8 * (w / 8)) true ≡ replicate w true
 eighths_ones w h = let e : 8 * (w / 8) ≡ w = omega arith in ap (λ n. replicate n true) e
 
--- ---- An item as the content of its field, as the code converts it.
+-- ---- How the code converts an item to the content of its field.
 
--- an item of a field has the field's mark
+-- If an item is that of a field, it has the mark that the field requires.
 pub marks : (spec : FieldSpec) (d : Draft) → is_of spec d ≡ true → is_reference spec.role ≡ is_marked d.form
 marks spec d h = grind (arith, common_steps, and_second, not)
 
--- the content of an item's entry is that of its value, where it is of the field
+-- An item has the content of its value, or a fault if it is not that of the field.
 pub entry_is : (spec : FieldSpec) (e : StoredEntry) (octets : List ℕ) (k : ValueKind) (b : Bool) → e.kind ≡ Some k → is_of spec (draft e.line e.fxy (value_by k e.start octets)) ≡ b
     → entry_here spec (entry_with e octets) ≡ map_err (at_line e.line) (if b then content_by_form (value_by k e.start octets) spec else Err (wrong_for spec))
 entry_is spec e octets k b is of =
     ap (λ k. entry_here spec (entry_by k e.line e.fxy e.start octets)) is
     ∙ ap (λ b. map_err (at_line e.line) (if b then content_by_form (value_by k e.start octets) spec else Err (wrong_for spec))) of
 
--- what each role returns to the walk
+-- the answer of a field, by its role
 pub answer_element : (spec : FieldSpec) (c : Content) → spec.role ≡ role.Element → taken.Plain ≡ answer_of spec c
 answer_element spec c e = sym (ap (λ r. answer_by_role r c) e)
 

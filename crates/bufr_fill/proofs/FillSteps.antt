@@ -1,4 +1,4 @@
--- A pass that writes, step by step.
+-- The steps of a pass that writes.
 use Rattle.std.proofs.Common.{Result, Ok, Err, Option, Some, None, Bool, List, [], ◌∷◌, ◌++◌, ◌≡◌, refl, sym, ◌∙◌, ap, suc, length}
 use Rattle.bufr_walk.specs.Prelude.{FieldSpec, Course, CountedCourse, uncounted, Next, take_next, at_end, Pass, pass}
 use Rattle.bufr_walk.specs.Pass.{pass_next, pass_field}
@@ -6,16 +6,16 @@ use Rattle.bufr_fill.specs.Prelude.{Taken, WrittenItem, Filler, filling, fill_pa
 use Rattle.std.specs.Option.{option_map_or}
 
 module _ {D C E : Type 0} (filler : Filler D C E) where
-  -- one item that was written, and the rest
+  -- the bits of one item, followed by those of the others
   abbrev pub filled : FieldSpec → Result (WrittenItem C) E → (Taken → Result (List Bool) E) → Result (List Bool) E
   filled spec (Err why) rest = Err why
   filled spec (Ok w) rest = with_bits_before filler w.bits (rest (filler.gives spec w.content))
 
-  -- the pass of drafts, by what comes next
+  -- the pass over drafts, given what comes next
   abbrev pub pass_at : Course → List D → Next → Pass (List D) (WrittenItem C) E
   pass_at course ds n = pass_next (filling filler) n ds (λ f. pass (filling filler) (length ds) (λ answers. course (f.returned ∷ answers)) f.state)
 
-  -- the same at a field, by what is made of the first draft
+  -- the pass if a field comes next, given the result for the first draft
   abbrev pub pass_with : Course → D → List D → FieldSpec → Result (WrittenItem C) E → Pass (List D) (WrittenItem C) E
   pass_with course d ds spec r =
       pass_field (filling filler) spec (d ∷ ds) (r >>= λ w. Ok (record { content = w; returned = filler.gives spec w.content; state = ds }))
@@ -30,24 +30,24 @@ module _ {D C E : Type 0} (filler : Filler D C E) where
     bits_with (Err why) = refl
     bits_with (Ok w) = let p = fill_pass filler (λ answers. course (filler.gives spec w.content ∷ answers)) ds in before w.bits (bits_written p.items) p.stop
 
-    -- a pass at a field
+    -- the pass if a field comes next
     pass_more : (r : Result (WrittenItem C) E) → course [] ≡ take_next spec → filler.fills spec d ≡ r → fill_pass filler course (d ∷ ds) ≡ pass_with course d ds spec r
     pass_more r next e = ap (pass_at course (d ∷ ds)) next ∙ ap (pass_with course d ds spec) e
 
-    -- drafts are written as the first of them, and then the rest
+    -- The bits of all drafts are those of the first one, followed by those of the others.
     pub fill_more : (r : Result (WrittenItem C) E) → course [] ≡ take_next spec → filler.fills spec d ≡ r
         → fill filler course (d ∷ ds) ≡ filled spec r (λ t. fill filler (λ answers. course (t ∷ answers)) ds)
     fill_more r next e = ap bits_of_pass (pass_more r next e) ∙ bits_with r
 
-  -- what drafts are written to, by what comes next
+  -- the bits of drafts, given what comes next
   abbrev pub fill_at : Course → List D → Next → Result (List Bool) E
   fill_at course ds n = bits_of_pass (pass_at course ds n)
 
-  -- at the end of the template
+  -- At the end of the template, no bits are written.
   pub fill_end : (course : Course) → course [] ≡ at_end → fill filler course [] ≡ Ok []
   fill_end course h = ap (fill_at course []) h
 
--- ---- subset after subset
+-- ---- Successive subsets.
 
 bits_both : (a b : List Bool) (stop : Option DraftFault) → option_map_or (λ why. Err why) stop (Ok (a ++ b)) ≡ (option_map_or (λ why. Err why) stop (Ok b) >>= λ y. Ok (a ++ y))
 bits_both a b None = refl
@@ -59,7 +59,7 @@ written_both w rest None e = bits_both w.bits rest.bits rest.stop ∙ sym (ap (�
 written_both w rest (Some why) e = ap (λ (o : Option DraftFault). option_map_or (λ why. Err why) o (Ok w.bits)) e ∙ sym (ap (λ o. option_map_or (λ why. Err why) o (Ok w.bits)
     >>= λ x. bits_of_writing rest >>= λ y. Ok (x ++ y)) e)
 
--- the bits of plain data are those that are written
+-- The bits of plain data are those that are written.
 pub plain_written : (course : CountedCourse) (ss : List Subset) → plain_data (uncounted course) ss ≡ bits_of_writing (plain_writing course ss)
 plain_written course [] = refl
 plain_written course (s ∷ ss) =

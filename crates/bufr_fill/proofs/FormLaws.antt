@@ -1,4 +1,4 @@
--- Items that were read in one form are written in the other so that they are read again.
+-- Items that were read as plain data are written as compressed data and read back, and vice versa.
 use Rattle.std.proofs.lemmas.Slice.Zip.{AllZip-long}
 use Rattle.std.proofs.Common.{◌≡◌, ℕ, ◌+◌, ◌*◌, ◌≤◌, Bool, false, List, [], ◌∷◌, length, Ok, Err, refl, sym, ◌∙◌, ap, subst, arith, zero, suc, ◌<◌, true, ◌++◌, Result, append_assoc, ◌⊎◌, inl, inr, max, drop, if◌then◌else◌, slice_get, flat_map}
 use Rattle.std.specs.List.{list_all, AllByRecursion, AllZip}
@@ -17,7 +17,7 @@ use Rattle.std.specs.Result.{result_map_both}
 use Rattle.bufr_fill.specs.declared.fault.ItemFault.TheVariants as wrong
 use Rattle.bufr_walk.specs.declared.spec.Role.TheVariants as role
 
--- the contents of a row are packed
+-- Unless there are too many values, the contents of a row are packed.
 pub across : (spec : FieldSpec) (cs : List Content) (a : ItemRow) → contents_here spec a.cells ≡ Ok cs → (a.index + 1) * length a.cells ≤ max_values
     → pack_across spec a ≡ result_map_both (written_item cs) (packing_fault cs a.cells) (packing spec cs)
 across spec cs a contents few =
@@ -34,7 +34,8 @@ bits_or_none (Err why) = []
 abbrev pub row_bits : Item (List Content) → List Bool
 row_bits i = bits_or_none (packing i.spec i.content)
 
--- the field law of compressed data
+-- An item of compressed data that was read is written so that it reads back the same, in no more
+-- bits.
 pub packed_rewritten : (n : ℕ) (end_line : ℕ) (many : Bool) → 1 ≤ n → (i : Item (List Content)) (a : ItemRow) (bits mid : List Bool) → IsSpec i.spec → IsSaidRow i a
     → packed_field n i.spec bits ≡ Ok (found i.content mid) → IsRewritten (packed n) (packed_filler end_line many) i a (row_bits i) bits mid
 packed_rewritten n end_line many some i a bits mid good row e = let r = by i.content e in record {
@@ -52,17 +53,18 @@ packed_rewritten n end_line many some i a bits mid good row e = let r = by i.con
         let p = packed_again n i.spec good c cs bits mid q in
         rw p.2.is (refl, p.2.again, omega (arith, p.1, p.2.short))
 
--- Items that fit their fields are written subset after subset so that they are read again. Those of
--- compressed data are such items.
+-- Items that fit their fields are written as plain data that read back the same. This is also true
+-- of the items of compressed data.
 
--- ---- one subset
+-- ---- A single subset.
 
--- each item is what comes next after those before it, and fits
+-- Each item comes next after those before it, and fits its field. The template ends after the last
+-- one.
 abbrev pub Follows : Course → List (Item Content) → Type 0
 Follows course [] = course [] ≡ at_end
 Follows course (i ∷ items) = (course [] ≡ take_next i.spec) × IsSpec i.spec × Fits i.spec i.content × Follows (after plain course i) items
 
--- the drafts with the contents of items are written, and read again
+-- Drafts with the contents of these items are written as plain data and read back.
 pub record ArePlain (end_line : ℕ) (course : Course) (items : List (Item Content)) (ds : List Draft) : Type 0 where
   pub fills : fill (plain_filler end_line) course ds ≡ Ok (flat_map item_bits items)
   pub again : (more : List Bool) → ReadsItems plain course items (flat_map item_bits items ++ more) more
@@ -87,7 +89,7 @@ plain_subset end_line course (i ∷ items) (d ∷ ds) h said =
     }
 plain_subset end_line course items ds h said = absurd said
 
--- ---- all subsets
+-- ---- All subsets.
 
 abbrev pub AllFollow : Course → List (List (Item Content)) → Type 0
 AllFollow course subsets = AllByRecursion (λ (items : List (Item Content)). Follows course items) subsets
@@ -113,7 +115,7 @@ plain_subsets course sane (items ∷ subsets) (s ∷ ss) h said =
     }
 plain_subsets course sane subsets ss h said = absurd said
 
--- ---- The drafts that a dump writes for items have the contents of these items.
+-- ---- The drafts in the dump of items have the contents of these items.
 
 items_said : (course : Course) (items : List (Item Content)) (ds : List Draft) → Follows course items → AreDrafts IsDumped items ds → AreDrafts IsSaid items ds
 items_said course [] [] f h = tt
@@ -128,9 +130,9 @@ subsets_said course [] [] f h = tt
 subsets_said course (items ∷ subsets) (s ∷ ss) f h = (items_said course items s.items f.0 h.0, subsets_said course subsets ss f.1 h.1)
 subsets_said course subsets ss f h = absurd h
 
--- ---- the items of compressed data
+-- ---- The items of compressed data.
 
--- contents that are packed return the same to the walk
+-- If an item can be packed, it has the same answer in all subsets.
 same_at : (c : Content) (cs : List Content) (j : ℕ) → list_all (same c) cs ≡ true → j < length cs → content_at j cs ≡ c
 same_at c [] j e h = absurd (omega (arith, h))
 same_at c (d ∷ cs) zero e h = sym (content_same c d (and_first (same c d) (list_all (same c) cs) e))
@@ -158,7 +160,7 @@ fit_at spec [] j f h = absurd (omega (arith, h))
 fit_at spec (c ∷ cs) zero f h = f.0
 fit_at spec (c ∷ cs) (suc j) f h = fit_at spec cs j f.1 (omega (arith, h))
 
--- what holds of the content of one subset of an item that was read
+-- The content of one subset fits the field, and its answer is that of the item.
 record IsOneOf (spec : FieldSpec) (cs : List Content) (j : ℕ) : Type 0 where
   fits : Fits spec (content_at j cs)
   gives : answer_of spec (content_at j cs) ≡ answer_first spec cs
@@ -170,7 +172,7 @@ one_of n spec (c ∷ cs) j bits mid good h e =
     let within : j < length (c ∷ cs) = omega (arith, h, packed_count n spec good (c ∷ cs) bits mid e) in
     record { fits = fit_at spec (c ∷ cs) j p.2.fits within; gives = packed_alike spec c cs p.2.out j p.2.is within }
 
--- the items of one subset follow one another
+-- The items of one subset satisfy `Follows`.
 follows_packed : (n j : ℕ) (course : Course) (items : List (Item (List Content))) (bits suffix : List Bool) → j < n → AllFields items → ReadsItems (packed n) course items bits suffix
     → course (answers_in answer_first items) ≡ at_end → Follows course (items_of_subset j items)
 follows_packed n j course [] bits suffix h fields r end = end
@@ -189,14 +191,14 @@ pub length-subsets_from : (n j : ℕ) (items : List (Item (List Content))) → l
 length-subsets_from zero j items = refl
 length-subsets_from (suc n) j items = ap suc (length-subsets_from n (suc j) items)
 
--- as many drafts as subsets
+-- There are n subsets of drafts.
 pub subset_count : (R : List (Item Content) → Subset → Type 0) (n : ℕ) (items : List (Item (List Content))) (ss : List Subset) → AllZip R (subsets_from n 0 items) ss → length ss ≡ n
 subset_count R n items ss h = AllZip-long R (subsets_from n 0 items) ss h ∙ length-subsets_from n 0 items
 
--- ---- Items that were read subset after subset are written together so that they are read again.
--- Otherwise their factors differ, or no increments can write their contents.
+-- ---- Items that were read as plain data are written as compressed data and read back, unless
+-- their factors differ or no increments can represent their contents.
 
--- ---- what is left of each subset
+-- ---- The remaining items of each subset.
 
 abbrev first_content : List (Item Content) → Content
 first_content [] = missing
@@ -214,7 +216,7 @@ abbrev tails : List (List (Item Content)) → List (List (Item Content))
 tails [] = []
 tails (r ∷ rs) = tail r ∷ tails rs
 
--- how many items are left
+-- the number of remaining items in all subsets
 abbrev total : List (List (Item Content)) → ℕ
 total [] = 0
 total (r ∷ rs) = length r + total rs
@@ -223,11 +225,11 @@ abbrev longest_left : List (List (Item Content)) → ℕ
 longest_left [] = 0
 longest_left (r ∷ rs) = max (length r) (longest_left rs)
 
--- the drafts from an index on have the contents of what is left
+-- The drafts from index p on have the contents of the remaining items.
 abbrev SaidAt : ℕ → List (List (Item Content)) → List Subset → Type 0
 SaidAt p rs ss = AllZip (λ (r : List (Item Content)) (s : Subset). AreDrafts IsSaid r (drop p s.items)) rs ss
 
--- the next item of a subset is of this field, and fits it
+-- The next item of the subset has this field, and fits it.
 abbrev IsHeaded : FieldSpec → List (Item Content) → Type 0
 IsHeaded spec [] = ⊥
 IsHeaded spec (i ∷ items) = (i.spec ≡ spec) × Fits spec i.content
@@ -269,7 +271,7 @@ longest_tails spec [] rs h = absurd h.0
 longest_tails spec (i ∷ items) [] h = omega arith
 longest_tails spec (i ∷ items) (q ∷ rs) h = omega (arith, longest_tails spec q rs h.1)
 
--- ---- the cells at an index
+-- ---- The cells at an index.
 
 content_there : (p : ℕ) (ds : List Draft) (end_line : ℕ) (i : Item Content) (items : List (Item Content)) → AreDrafts IsSaid (i ∷ items) (drop p ds)
     → content_here i.spec (slice_get ds p) end_line ≡ Ok i.content
@@ -304,12 +306,12 @@ length-said p [] [] d = refl
 length-said p (r ∷ rs) (s ∷ ss) d = ap suc (length-said p rs ss d.1)
 length-said p rs ss d = absurd d
 
--- the item of all subsets is packed, or its contents cannot be
+-- The next items of all subsets can be written together if their contents can be packed.
 across_gives : (spec : FieldSpec) (p : ℕ) (rs : List (List (Item Content))) (ss : List Subset) → AreHeaded spec rs → SaidAt p rs ss → (p + 1) * length rs ≤ max_values
     → pack_across spec (item_row p ss) ≡ result_map_both (written_item (firsts rs)) (packing_fault (firsts rs) (cells_at p ss)) (packing spec (firsts rs))
 across_gives spec p rs ss h d few = across spec (firsts rs) (item_row p ss) (contents_there spec p rs ss h d) (subst (λ n. (p + 1) * n ≤ max_values) (sym (length-said p rs ss d)) few)
 
--- ---- the course continues the same for all
+-- ---- The course continues in the same way for all subsets.
 
 abbrev AllAnswer : FieldSpec → Taken → List Content → Type 0
 AllAnswer spec t cs = AllByRecursion (λ (c : Content). answer_of spec c ≡ t) cs
@@ -326,7 +328,7 @@ follow_next course spec t ((i ∷ items) ∷ rs) h a f =
     let same : answer_of i.spec i.content ≡ t = ap (λ s. answer_of s i.content) h.0.0 ∙ a.0 in
     (subst (λ (t : Taken). Follows (λ answer_of. course (t ∷ answer_of)) items) same f.0.3, follow_next course spec t rs h.1 a.1 f.1)
 
--- ---- the items of all subsets are those of each
+-- ---- The items of compressed data consist of those of each subset.
 
 abbrev AreParts : ℕ → List (Item (List Content)) → List (List (Item Content)) → Type 0
 AreParts j items [] = Unit {0}
@@ -356,7 +358,7 @@ more_parts j spec cs items ((i ∷ r) ∷ rs) e h a =
     let same : items_of_subset j (record { spec = spec; content = cs } ∷ items) ≡ i ∷ r = λ k. record { spec = sym h.0.0 k; content = at.0 k } ∷ a.0 k in
     (same, more_parts (suc j) spec cs items rs at.1 h.1 a.1)
 
--- ---- row after row
+-- ---- Successive rows.
 
 record IsTogether (n : ℕ) (course : Course) (rests : List (List (Item Content))) (drafts : List ItemRow) (end_line : ℕ) (many : Bool) : Type 0 where
   items : List (Item (List Content))
@@ -388,7 +390,7 @@ module _ (end_line : ℕ) (many : Bool) where
   not_packed course drafts cs cells unequal_factor e = record { line = unlike_line cs cells; why = wrong.UnequalFactor; is = e; unlike = tt }
   not_packed course drafts cs cells w e = record { line = first_line cells; why = wrong.Increment; is = e; unlike = tt }
 
-  -- the first row, and those after it
+  -- the first row, followed by the others
   onto : (n : ℕ) (course : Course) (spec : FieldSpec) (c : Content) (cs : List Content) (rs : List (List (Item Content))) (a : ItemRow) (more : List ItemRow) → IsSpec spec
       → course [] ≡ take_next spec → AreHeaded spec rs → firsts rs ≡ c ∷ cs → length rs ≡ n
       → (r : Result (List Bool) FieldFault) → packing spec (c ∷ cs) ≡ r → pack_across spec a ≡ result_map_both (written_item (c ∷ cs)) (packing_fault (c ∷ cs) a.cells) r
@@ -461,9 +463,9 @@ module _ (end_line : ℕ) (many : Bool) where
       (from_index (λ answer_so. course (answer_of spec i.content ∷ answer_so)) items (tails rs) ss (p + 1) f' d' (
       let e : (p + 1) * suc (length (tails rs)) ≡ (p + 1) * n = ap (λ k. (p + 1) * suc k) same in omega (arith, few, one, tot, e)))))
 
--- ---- from a reading
+-- ---- Data that were read.
 
--- items follow one another, and take no more bits than were read, and no fewer than they are
+-- The items satisfy `Follows`, and take no more bits than were read, but at least one bit each.
 record AreFollowed (course : Course) (items : List (Item Content)) (bits suffix : List Bool) : Type 0 where
   follow : Follows course items
   short : length (flat_map item_bits items) + length suffix ≤ length bits
@@ -511,7 +513,7 @@ said_from (items ∷ subsets) (s ∷ ss) h =
     ((h.0, rest.0), omega (arith, rest.1, AllZip-long IsSaid items s.items h.0))
 said_from subsets ss h = absurd h
 
--- data that were read subset after subset are written together, where their contents can be
+-- Plain data that were read are written as compressed data, if these can represent their contents.
 pub together : (course : Course) → ((m : ℕ) → IsSane m course) → (n : ℕ) (subsets : List (List (Item Content))) (drafts : List Subset) (bits suffix : List Bool) → length bits ≤ max_values
     → AreDumped subsets drafts → AreAllFollowed course n subsets bits suffix → IsTogetherOrNot course subsets drafts
 together course sane n [] [] bits suffix few dumped all = inl ([], refl, record { out = []; is = refl; again = none_read_together course })

@@ -1,4 +1,4 @@
--- The fields of a reading are specifications, and the content of an item fits its field.
+-- The items that are read have valid fields, and the content of each item fits its field.
 use Rattle.std.proofs.Common.{◌≡◌, ℕ, ◌-◌, ◌^◌, ◌≤◌, Bool, List, [], ◌∷◌, Ok, arith, pow_mono, ◌/◌, true, false, not, ◌++◌, length, replicate, Result, Err, refl, sym, subst, ℤ, pos, negsuc, nat_abs, ◌-ℤ◌, ◌==◌, nat_lt, if◌then◌else◌}
 use Rattle.bufr_fill.proofs.PackedBack.{AreOctets-append, AreOctets-spaces}
 use Rattle.bufr_fill.proofs.FieldLemmas.{same_ok}
@@ -32,7 +32,7 @@ answer_within role.Reference spec c good hr h = absurd h
 answer_within r spec c good hr h = tt
 
 module _ {C : Type 0} (form : DataCoding C) (gives : (spec : FieldSpec) (c : C) (bits mid : List Bool) → IsSpec spec → form.field spec bits ≡ Ok (found c mid) → IsWithin (form.gives spec c)) where
-  -- the items that are read are of fields
+  -- Items that are read have valid fields.
   pub fields_of_reads : (course : Course) (items : List (Item C)) (bits suffix : List Bool) → IsGoodCourse course → ReadsItems form course items bits suffix → AllFields items
   fields_of_reads course [] bits suffix good h = tt
   fields_of_reads course (i ∷ items) bits suffix good h =
@@ -120,6 +120,6 @@ module _ (spec : FieldSpec) (c : Content) where
   by_draft d h true p e = role_form spec.role d.form h (and_second (d.fxy == spec.fxy) (if is_reference spec.role then is_marked d.form else not (is_marked d.form)) p) e
   by_draft d h false p e = cc
 
--- the content of a draft at a field fits it
+-- If a draft has a content in a field, the content fits the field.
 pub draft_fits : (spec : FieldSpec) (d : Draft) (c : Content) → HasOctets d.form → content_of spec d ≡ Ok c → Fits spec c
 draft_fits spec d c h e = by_draft spec c d h (is_of spec d) refl e

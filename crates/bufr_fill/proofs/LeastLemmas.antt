@@ -1,4 +1,4 @@
--- The least base and the least k of numbers and of texts.
+-- The least base and the least k of numbers, and the least k of texts.
 use Rattle.std.proofs.lemmas.Grind.{common_steps}
 use Rattle.std.proofs.Common.{Result, ◌≡◌, ℕ, zero, suc, ◌+◌, ◌<◌, ◌≤◌, ◌≢◌, ◌&&◌, min, Bool, true, false, List, [], ◌∷◌, Option, Some, None, refl, sym, ◌∙◌, ap, arith, ◌-◌, ◌^◌, max, ◌++◌, length, Ok, pow_mono, append_assoc, subst, ◌/◌, not, take, replicate, Err, ◌==◌, if◌then◌else◌, nat_lt, unwrap_or, nat_le}
 use Rattle.std.proofs.lemmas.Bool.{false≢true, eqb-true, le-leb, le-ltb, leb-false, leb-true, lt-leb, lt-ltb, ltb-false, ltb-true, eq-eqb}
@@ -17,7 +17,7 @@ use Rattle.bufr_tables.specs.Prelude.{is_character}
 use Rattle.std.specs.Option.{option_map_or}
 use Rattle.bufr_fill.specs.declared.field_value.FieldContent.TheVariants as field_content
 
--- the first number that passes is at most any that does
+-- The first number that passes is not greater than any other that passes.
 first_step : (b : Bool) (from k x : ℕ) → from ≤ k → (b ≡ false → x ≤ k) → (if b then from else x) ≤ k
 first_step true from k x h g = h
 first_step false from k x h g = g refl
@@ -27,7 +27,7 @@ first_least p zero from k h e = h
 first_least p (suc fuel) from k h e = first_step (p from) from k (first_from p fuel (from + 1)) h (λ q.
     first_least p fuel (from + 1) k (let apart : from ≢ k = (λ g. false≢true (sym q ∙ ap p g ∙ e)) in omega arith) e)
 
--- where one passes the first one does, and it is not below the start
+-- If a number passes, the first one that passes is found, and is not below the start.
 passes_step : (p : ℕ → Bool) (b : Bool) (from x : ℕ) → p from ≡ b → (b ≡ false → p x ≡ true) → p (if b then from else x) ≡ true
 passes_step p true from x e g = e
 passes_step p false from x e g = g refl
@@ -45,7 +45,7 @@ pub first_from_start : (p : ℕ → Bool) (fuel from : ℕ) → from ≤ first_f
 first_from_start p zero from = omega arith
 first_from_start p (suc fuel) from = from_step (p from) from (first_from p fuel (from + 1)) (omega (arith, first_from_start p fuel (from + 1)))
 
--- contents that are the same are equal
+-- Contents that are the same are equal.
 pub octets_same : (a b : List ℕ) → bytes_eq a b ≡ true → a ≡ b
 octets_same a b h = (bytes_eq-Decides a b).0 h
 
@@ -65,12 +65,12 @@ content_self (text a) = octets_self a
 content_self missing = refl
 content_self (reference a) = (Decides-int_eq a a).1 refl
 
--- contents that are all one content are the same
+-- Copies of a content are all the same.
 pub are_same_copies : (c : Content) (n : ℕ) → list_all (same c) (replicate n c) ≡ true
 are_same_copies c zero = refl
 are_same_copies c (suc n) = ap (λ b. b && list_all (same c) (replicate n c)) (content_self c) ∙ are_same_copies c n
 
--- no number is below this one
+-- If the content is a number, it is at least m.
 abbrev pub IsOver : ℕ → Content → Type 0
 IsOver m (number n) = m ≤ n
 IsOver m _ = Unit {0}
@@ -86,7 +86,7 @@ over_less a b [] h g = tt
 over_less a b (number n ∷ cs) h g = (omega (arith, g.0), over_less a b cs h g.1)
 over_less a b (c ∷ cs) h g = (tt, over_less a b cs h g.1)
 
--- without a number, none is over or under any
+-- If there are no numbers, none is below or above a bound.
 pub none_over : (cs : List Content) (b : ℕ) → lowest cs ≡ None → AreOver b cs
 none_over [] b e = tt
 none_over (number n ∷ cs) b e = absurd cc
@@ -101,14 +101,14 @@ lowest_over (number n ∷ cs) m e = by_rest n m cs (lowest cs) refl e (λ l q. l
     by_rest n m cs (Some l) q e h = let s : min n l ≡ m = cc in (omega arith, over_less m l cs (omega arith) (h l q))
 lowest_over (c ∷ cs) m e = (tt, lowest_over cs m e)
 
--- the least number fits as each does
+-- The least number fits the width, because each number does.
 pub lowest_fits : (may : Bool) (w : ℕ) (cs : List Content) (m : ℕ) → AreNumbers may w cs → lowest cs ≡ Some m → m < raw_limit may w
 lowest_fits may w [] m h e = absurd cc
 lowest_fits may w (number n ∷ cs) m h e = grind (arith, common_steps)
 lowest_fits may w (missing ∷ cs) m h e = lowest_fits may w cs m h.1 e
 lowest_fits may w (c ∷ cs) m h e = absurd h.0
 
--- a number that none is under is not over the least
+-- If all numbers are at least b, so is the least one.
 pub under_lowest : (cs : List Content) (b m : ℕ) → AreOver b cs → lowest cs ≡ Some m → b ≤ m
 under_lowest [] b m h e = absurd cc
 under_lowest (number n ∷ cs) b m h e = by_rest (lowest cs) refl e (λ l q. under_lowest cs b l h.1 q)
@@ -118,14 +118,14 @@ under_lowest (number n ∷ cs) b m h e = by_rest (lowest cs) refl e (λ l q. und
     by_rest (Some l) q s g = let t : min n l ≡ m = cc in omega (arith, h.0, g l q)
 under_lowest (c ∷ cs) b m h e = under_lowest cs b m h.1 e
 
--- numbers of which none is there are all missing
+-- If the contents of a numeric field include no number, all of them are missing.
 pub all_missing : (may : Bool) (w : ℕ) (cs : List Content) → AreNumbers may w cs → lowest cs ≡ None → list_all (same missing) cs ≡ true
 all_missing may w [] h e = refl
 all_missing may w (number n ∷ cs) h e = absurd cc
 all_missing may w (missing ∷ cs) h e = all_missing may w cs h.1 e
 all_missing may w (c ∷ cs) h e = absurd h.0
 
--- ---- Numbers are packed by the least base and the least k.
+-- ---- Numbers are packed with the least base and the least k.
 
 true_false : (b : Bool) → b ≡ true → b ≡ false → ⊥
 true_false true e f = cc
@@ -147,7 +147,7 @@ module _ (spec : FieldSpec) (numeric : is_character spec.kind ≡ false) (elemen
   numbers_fit count (field_content.Missing ∷ ds) all = (all.0.1, numbers_fit count ds all.1)
   numbers_fit count (field_content.Reference v ∷ ds) all = absurd (true_false (is_reference spec.role) all.0.0 element)
 
-  -- no increment is wider than the field
+  -- No increment is wider than the field.
   pub spread_under : (base : ℕ) (ds : List FieldContent) → 1 ≤ spec.width → AreContentsOf spec ds → spread base ds < raw_limit spec.may_be_missing spec.width
   spread_under base [] some all = omega (arith, top_some spec.may_be_missing spec.width some)
   spread_under base (field_content.Number n ∷ ds) some all = omega (arith, all.0.2, spread_under base ds some all.1)
@@ -155,7 +155,7 @@ module _ (spec : FieldSpec) (numeric : is_character spec.kind ≡ false) (elemen
   spread_under base (field_content.Missing ∷ ds) some all = omega (arith, spread_under base ds some all.1)
   spread_under base (field_content.Reference v ∷ ds) some all = absurd (true_false (is_reference spec.role) all.0.0 element)
 
-  -- the least number is one of the field
+  -- The least number fits the width of the field.
   pub base_under : (count : ℕ) (ds : List FieldContent) → 1 ≤ spec.width → AreContentsOf spec ds → unwrap_or (lowest (padded_contents count ds)) 0 < 2 ^ spec.width
   base_under count ds some all = by (lowest (padded_contents count ds)) refl
     where
@@ -163,7 +163,7 @@ module _ (spec : FieldSpec) (numeric : is_character spec.kind ≡ false) (elemen
       by None e = omega (arith, top_some false spec.width some)
       by (Some n) e = omega (arith, lowest_fits spec.may_be_missing spec.width (padded_contents count ds) n (numbers_fit count ds all) e, top_below spec.may_be_missing spec.width)
 
--- the least k is one of those that pass, and at most a width that does
+-- The least k is one that passes, and is at most any width that does.
 pub least_most : (m : Bool) (s w : ℕ) → 1 ≤ w → w ≤ 63 → s < raw_limit m w → least_from m s 1 ≤ w
 unfolding least_from
 least_most m s w some most h = first_least (λ k. nat_lt s (raw_limit m k)) (64 - 1) 1 w some (lt-ltb s (raw_limit m w) h)
@@ -178,7 +178,7 @@ all_short m base k [] h = tt
 all_short m base k (field_content.Number n ∷ ds) h = (omega (arith, h, top_below m k), all_short m base k ds (omega (arith, h)))
 all_short m base k (d ∷ ds) h = (tt, all_short m base k ds (omega (arith, h)))
 
--- all increments have the bits where the greatest has
+-- All increments fit into k bits if the greatest one does.
 max_test : (a b t : ℕ) → nat_lt (max a b) t ≡ (nat_lt a t && nat_lt b t)
 max_test a b t = grind (arith, common_steps, nat_lt, lt-ltb, ltb-true, le-ltb, ltb-false)
 
@@ -202,7 +202,7 @@ unfolding least_from
 least_is w m base count ds =
     first_same (λ k. list_all (has_increment (numbers w m) base k) (padded_contents count ds)) (λ k. nat_lt (spread base ds) (raw_limit m k)) (64 - 1) 1 (λ k h. all_have w m base k count ds h)
 
--- the least k of numbers has at most 63 bits, and writes each increment
+-- For numbers, the least k is at most 63, and each increment fits into k bits.
 pub k_narrow : (spec : FieldSpec) → is_character spec.kind ≡ false → is_reference spec.role ≡ false → (base : ℕ) (ds : List FieldContent) (k : ℕ) → 1 ≤ spec.width → spec.width ≤ 63
     → AreContentsOf spec ds
     → k ≡ least_from spec.may_be_missing (spread base ds) 1 → k ≤ 63
@@ -220,7 +220,7 @@ k_short spec numeric element base ds k some narrow all e =
     subst (λ n. AreShort base n ds) (sym e) (all_short spec.may_be_missing base (least_from spec.may_be_missing (spread base ds) 1) ds
     (least_fits spec.may_be_missing (spread base ds) spec.width some narrow (spread_under spec numeric element base ds some all)))
 
--- contents that differ, over a base, with a k
+-- contents that differ, packed with this base and this k
 abbrev pub over_at : FieldSpec → List Content → Coding → (base k : ℕ) → Result (List Bool) FieldFault
 over_at spec cs c base k = if nat_le k 63 then Ok (packed_bits (bits_in base spec.width) k (flat_map (increment_for c base k) cs)) else Err increment
 
@@ -235,7 +235,7 @@ pub over_written : (spec : FieldSpec) (cs : List Content) (c : Coding) (base k :
 over_written spec cs c base k e b l small =
     over_is spec cs c base k e b l ∙ ap (λ t. if t then Ok (packed_bits (bits_in base spec.width) k (flat_map (increment_for c base k) cs)) else Err increment) (le-leb k 63 small)
 
--- the bits of numbers
+-- the bits of packed numbers
 pub numbers_packed : (spec : FieldSpec) (count : ℕ) (ds : List FieldContent) (base k : ℕ) → is_character spec.kind ≡ false → is_reference spec.role ≡ false
     → base ≡ unwrap_or (lowest (padded_contents count ds)) 0 → k ≡ least_from spec.may_be_missing (spread base ds) 1 → k ≤ 63
     → packed_over spec (padded_contents count ds)
@@ -244,19 +244,19 @@ numbers_packed spec count ds base k numeric element b l small =
     over_written spec (padded_contents count ds) (numbers spec.width spec.may_be_missing) base k (number_coding spec numeric element) (sym b)
     (least_is spec.width spec.may_be_missing base count ds ∙ sym l) small
 
--- what was written, one part after another
+-- the base, k and the increments, in the order in which they were appended
 pub parts_put : (old one two three base k rest : List Bool) → one ≡ old ++ base → two ≡ one ++ k → three ≡ two ++ rest → three ≡ old ++ (base ++ (k ++ rest))
 parts_put old one two three base k rest a b c = grind (arith, common_steps, append_assoc)
 
 pub parts_length : (old new more : List Bool) (n : ℕ) → new ≡ old ++ more → length new ≤ length old + n → length more ≤ n
 parts_length old new more n e h = omega (arith, ap length e, length-append old more, h)
 
--- ---- Texts are packed by the least k.
+-- ---- Texts are packed with the least k.
 
 le_same : (a b x y : ℕ) → (a ≤ b → x ≤ y) → (x ≤ y → a ≤ b) → nat_le a b ≡ nat_le x y
 le_same a b x y f g = grind (arith, common_steps, nat_le, le-leb, leb-true)
 
--- k octets and spaces are the text again where only spaces follow them
+-- whether a text consists of its first k octets, followed by spaces only
 abbrev again : ℕ → List ℕ → Bool
 again k os = bytes_eq (take k os ++ replicate (length os - k) 32) os
 
@@ -302,7 +302,7 @@ again_is k [] = grind (arith, common_steps, nat_le, le-leb)
 again_is zero (o ∷ os) = again_none o os (trimmed os == 0) (o == 32) refl refl (again_is zero os)
 again_is (suc k) (o ∷ os) = again_more ((trimmed os == 0) && (o == 32)) o k os refl (again_is k os)
 
--- octets of 255 alone read as missing
+-- whether a text consists of octets of 255 only, and therefore reads as missing
 abbrev full : List ℕ → Bool
 full os = list_all (λ octet. octet == 255) os
 
@@ -337,7 +337,7 @@ need_least os = grind (arith, common_steps)
 gives_is : (count : ℕ) (os : List ℕ) (k : ℕ) → full os ≡ false → has_increment (texts count) 0 k (text os) ≡ nat_le (need os) k
 gives_is count os k f = grind (arith, common_steps, nat_le, not, again_is, not_full, leb-true, lt-leb, leb-false, need_least)
 
--- spaces after a text do not count
+-- Spaces after a text do not count.
 trimmed_none : (n : ℕ) → trimmed (replicate n 32) ≡ 0
 trimmed_none zero = refl
 trimmed_none (suc n) = ap (λ t. if (t == 0) && (32 == 32) then 0 else suc t) (trimmed_none n)
@@ -362,7 +362,7 @@ take_prefix (suc n) (o ∷ os) r h = ap (λ xs. o ∷ xs) (take_prefix n os r (o
 need_spaced : (count : ℕ) (os : List ℕ) → need (spaced count os) ≡ need os
 need_spaced count os = grind (arith, common_steps, trimmed_spaced, take_prefix, trimmed_within)
 
--- the field has the octets that determine a text
+-- The octets that determine a text fit into the field.
 need_room : (count : ℕ) (os : List ℕ) → (length os ≤ count) × (list_all (λ octet. octet == 255) (spaced count os) ≡ false) → need os ≤ count
 need_room count os h = by (full (take (trimmed os) os)) refl
   where
@@ -392,7 +392,7 @@ most_room spec [] some all = some
 most_room spec (field_content.Text t ∷ ds) some all = omega (arith, need_room (spec.width / 8) t.now all.0.2, most_room spec ds some all.1)
 most_room spec (d ∷ ds) some all = omega (arith, some, most_room spec ds some all.1)
 
--- the text that needs most octets determines those of all texts
+-- The greatest number of octets that a text needs is enough for all texts.
 max_le : (a b k : ℕ) → nat_le (max a b) k ≡ (nat_le a k && nat_le b k)
 max_le a b k = grind (arith, common_steps, nat_le, le-leb, leb-true, lt-leb, leb-false)
 
@@ -427,7 +427,7 @@ texts_least spec ds some all =
     least_of (λ k. list_all (has_increment (texts (spec.width / 8)) 0 k) (padded_contents (spec.width / 8) ds)) (λ k. nat_le (most_need ds) k) 63 (most_need ds)
     (λ k h. texts_pass spec ds k h all) (first_at (most_need ds) 63 1 some)
 
--- no text is a number
+-- Texts have no least number.
 texts_lowest : (spec : FieldSpec) (count : ℕ) (ds : List FieldContent) → is_character spec.kind ≡ true → AreContentsOf spec ds → lowest (padded_contents count ds) ≡ None
 texts_lowest spec count [] e all = refl
 texts_lowest spec count (field_content.Number n ∷ ds) e all = let no : true ≡ false = sym e ∙ all.0.0 in absurd cc
@@ -453,9 +453,9 @@ texts_apart spec ds k char element some all is many =
     over_is spec (padded_contents (spec.width / 8) ds) (texts (spec.width / 8)) 0 64 (text_coding spec char element) (ap (λ o. unwrap_or o 0) (texts_lowest spec (spec.width / 8) ds char all))
     (texts_least spec ds some all ∙ greatest)
 
--- ---- The least and the greatest number of an item, gathered content after content.
+-- ---- The least and the greatest number of an item, updated content by content.
 
--- the least number, with one more content
+-- the least number after one more content
 pub least_with : (ds : List FieldContent) (d : FieldContent) → least_number (ds ++ d ∷ []) ≡ min (number_or 18446744073709551615 d) (least_number ds)
 least_with [] d = refl
 least_with (x ∷ ds) d = omega (arith, least_with ds d)
@@ -464,7 +464,7 @@ least_is_u64 : (ds : List FieldContent) → least_number ds ≤ 1844674407370955
 least_is_u64 [] = omega arith
 least_is_u64 (d ∷ ds) = omega (arith, least_is_u64 ds)
 
--- the least number, if there is one, by the least and the greatest
+-- The least number, if there is one, is `least`, and it is at most `most`.
 abbrev IsLowest : Option ℕ → (least most : ℕ) → Type 0
 IsLowest None least most = (least ≡ 18446744073709551615) × (most ≡ 0)
 IsLowest (Some n) least most = (least ≡ n) × (n ≤ most)
@@ -482,7 +482,7 @@ lowest_is count [] h = (refl, refl)
 lowest_is count (field_content.Number m ∷ ds) h = lowest_more m (lowest (padded_contents count ds)) (least_number ds) (spread 0 ds) h (lowest_is count ds (omega (arith, h)))
 lowest_is count (d ∷ ds) h = lowest_same (lowest (padded_contents count ds)) (least_number ds) (spread 0 ds) (least_is_u64 ds) (lowest_is count ds (omega (arith, h)))
 
--- the base of an item, by the least and the greatest
+-- the base of an item, given the least and the greatest number
 pub base_some : (count : ℕ) (ds : List FieldContent) → spread 0 ds ≤ 18446744073709551615 → least_number ds ≤ spread 0 ds → least_number ds ≡ unwrap_or (lowest (padded_contents count ds)) 0
 base_some count ds h g = by (lowest (padded_contents count ds)) (lowest_is count ds h)
   where
@@ -497,7 +497,7 @@ base_none count ds h g = by (lowest (padded_contents count ds)) (lowest_is count
     by None q = refl
     by (Some n) q = absurd (omega (arith, q.0, q.1, g))
 
--- the greatest number, with one more content
+-- the greatest number after one more content
 pub most_with : (ds : List FieldContent) (d : FieldContent) → spread 0 (ds ++ d ∷ []) ≡ max (over_of 0 d) (spread 0 ds)
 most_with [] d = refl
 most_with (x ∷ ds) d = omega (arith, most_with ds d)
@@ -506,7 +506,7 @@ pub number_is : (d : FieldContent) → number_or 0 d ≡ over_of 0 d
 number_is (field_content.Number n) = omega arith
 number_is d = refl
 
--- the greatest increment is that of the greatest number
+-- The greatest increment is that of the greatest number.
 pub spread_over : (base : ℕ) (ds : List FieldContent) → spread base ds ≡ spread 0 ds - base
 spread_over base [] = omega arith
 spread_over base (field_content.Number n ∷ ds) = omega (arith, spread_over base ds)
@@ -515,7 +515,7 @@ spread_over base (d ∷ ds) = omega (arith, spread_over base ds)
 smaller_least : (a n : ℕ) (o : Option ℕ) → a ≡ n → option_map_or (min a) o a ≡ a → option_map_or (min n) o n ≡ a
 smaller_least a n o e h = ap (λ m. option_map_or (min m) o m) (sym e) ∙ h
 
--- contents that are all one number
+-- contents that are all the same number
 all_one : (count a : ℕ) (ds : List FieldContent) → list_all (same (number a)) (padded_contents count ds) ≡ true → (option_map_or (min a) (lowest (padded_contents count ds)) a ≡ a)
     × (max a (spread 0 ds) ≡ a)
 all_one count a [] h = (refl, omega arith)
@@ -528,7 +528,7 @@ all_one count a (field_content.Number n ∷ ds) h =
     )
 all_one count a (d ∷ ds) h = absurd cc
 
--- contents that are all the same, and no number
+-- contents that are all the same, but not a number
 all_none : (count : ℕ) (c : Content) (ds : List FieldContent) → ((n : ℕ) → same c (number n) ≡ false) → list_all (same c) (padded_contents count ds) ≡ true
     → (lowest (padded_contents count ds) ≡ None) × (spread 0 ds ≡ 0)
 all_none count c [] differs h = (refl, refl)
@@ -544,7 +544,7 @@ all_none count c (field_content.Reference v ∷ ds) differs h = let rest = all_n
 no_range : (count : ℕ) (ds : List FieldContent) → (lowest (padded_contents count ds) ≡ None) × (spread 0 ds ≡ 0) → unwrap_or (lowest (padded_contents count ds)) 0 ≡ spread 0 ds
 no_range count ds h = ap (λ o. unwrap_or o 0) h.0 ∙ sym h.1
 
--- the least and the greatest number of contents that are all the same are one
+-- If contents are all the same, their least and their greatest number are equal.
 pub range_of_same : (count : ℕ) (c : Content) (ds : List FieldContent) → list_all (same c) (padded_contents count ds) ≡ true → unwrap_or (lowest (padded_contents count ds)) 0 ≡ spread 0 ds
 range_of_same count (number a) [] h = refl
 range_of_same count (number a) (field_content.Number n ∷ ds) h = grind (arith, common_steps, eqb-true, and_first, all_one, and_second, smaller_least)
@@ -553,6 +553,6 @@ range_of_same count (text t) ds h = no_range count ds (all_none count (text t) d
 range_of_same count missing ds h = no_range count ds (all_none count missing ds (λ n. refl) h)
 range_of_same count (reference v) ds h = no_range count ds (all_none count (reference v) ds (λ n. refl) h)
 
--- contents with two numbers are not all the same
+-- If the least and the greatest number differ, the contents are not all the same.
 pub not_alike : (count : ℕ) (c : Content) (ds : List FieldContent) → (unwrap_or (lowest (padded_contents count ds)) 0 ≡ spread 0 ds → ⊥) → false ≡ list_all (same c) (padded_contents count ds)
 not_alike count c ds h = grind (arith, common_steps, range_of_same)

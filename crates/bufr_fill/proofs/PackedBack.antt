@@ -1,4 +1,4 @@
--- The bits of a packed item read as its contents.
+-- The bits of a packed item read back as its contents.
 use Rattle.std.proofs.Common.{◌≡◌, ℕ, zero, suc, ◌+◌, ◌-◌, ◌*◌, ◌^◌, ◌<◌, ◌≤◌, ◌≢◌, ◌&&◌, ◌||◌, Bool, true, false, not, List, [], ◌∷◌, ◌++◌, length, take, drop, map, replicate, Option, Some, None, option_map, refl, sym, ◌∙◌, ap, arith, append_assoc, subst, pow_mono, ◌==◌, nat_lt, if◌then◌else◌}
 use Rattle.std.proofs.lemmas.Bool.{le-ltb, lt-ltb, ltb-false, ltb-true, ne_eqb}
 use Rattle.std.specs.List.{list_all, flat_map, AllByRecursion}
@@ -14,7 +14,7 @@ use Rattle.bufr_fill.specs.Prelude.{raw_limit, has_increment, increment_for, Are
 use Rattle.bufr_fill.proofs.FieldLemmas.{number_again, number_back, ones_set, octets_again, full_test, length-octets_in, octets_in-are, octet_bits_again, top_below}
 use Rattle.bufr_fill.proofs.LeastLemmas.{AreNumbers, IsOver, AreOver, octets_same, octets_self}
 
--- pieces of one length, one for each of a list
+-- The bits of each item in the list have length k.
 abbrev pub AreLong : {X : Type 0} → (X → List Bool) → ℕ → List X → Type 0
 AreLong {X} f k xs = AllByRecursion (λ (x : X). length (f x) ≡ k) xs
 
@@ -23,7 +23,7 @@ module _ {X : Type 0} (f : X → List Bool) (k : ℕ) where
   pieces_length [] long = omega arith
   pieces_length (x ∷ xs) long = omega (arith, length-append (f x) (flat_map f xs), long.0, pieces_length xs long.1)
 
-  -- they are found one by one
+  -- These bits are read back, item by item.
   pub pieces_found : (xs : List X) (more : List Bool) → AreLong f k xs → increments (length xs) k (flat_map f xs ++ more) ≡ map f xs
   pieces_found [] more long = refl
   pieces_found (x ∷ xs) more long =
@@ -33,7 +33,7 @@ module _ {X : Type 0} (f : X → List Bool) (k : ℕ) where
       ∙ ap (λ bs. f x ∷ increments (length xs) k bs) (drop_at (f x) (flat_map f xs ++ more) k long.0)
       ∙ ap (λ bss. f x ∷ bss) (pieces_found xs more long.1)
 
--- a number from its increment
+-- how a number is read from its increment
 not_both : (m : Bool) (a b : ℕ) → (m ≡ true → a ≢ b) → (m && (a == b)) ≡ false
 not_both true a b h = ne_eqb a b (h refl)
 not_both false a b h = refl
@@ -42,7 +42,7 @@ top_ones : (m : Bool) (k v : ℕ) → v < raw_limit m k → m ≡ true → v < o
 top_ones true k v h e = h
 top_ones false k v h e = absurd cc
 
--- one more content that is there
+-- If a content and all contents after it are present, all are present.
 there_more : (o : Option Content) (os : List (Option Content)) (c : Content) (cs : List Content) → o ≡ Some c → all_there os ≡ Some cs → all_there (o ∷ os) ≡ Some (c ∷ cs)
 there_more o os c cs e f = ap (λ x. all_there (x ∷ os)) e ∙ ap (option_map (λ others. c ∷ others)) f
 
@@ -83,7 +83,7 @@ module _ (m : Bool) (w base k : ℕ) (fits : base < raw_limit m w) where
   one_increased missing h o p = missing_increased h
   one_increased (reference v) h o p = absurd h
 
-  -- numbers over a base are read again from their increments
+  -- Numbers at or above a base are read back from their increments.
   pub numbers_back : (cs : List Content) → AreNumbers m w cs → AreOver base cs → list_all (has_increment (numbers w m) base k) cs ≡ true
       → all_there (map (increased (numbers w m) k (bits_in base w)) (map (increment_for (numbers w m) base k) cs)) ≡ Some cs
   numbers_back [] h o p = refl
@@ -102,7 +102,7 @@ module _ (m : Bool) (w base k : ℕ) where
   increments_long [] = tt
   increments_long (c ∷ cs) = (increment_length c, increments_long cs)
 
--- texts
+-- Each content is a text of this length, or missing.
 abbrev pub AreTexts : ℕ → List Content → Type 0
 AreTexts count cs = AllByRecursion (λ (c : Content). FitsText count c) cs
 
@@ -144,7 +144,7 @@ module _ (count k : ℕ) (short : k ≤ count) where
       ∙ ap (λ n. text (prefix ++ replicate (n - k) 32)) (sym h.0)
       ∙ ap text whole
 
-  -- texts are read again from their octets
+  -- Texts are read back from their octets.
   pub texts_back : (base : List Bool) (cs : List Content) → AreTexts count cs → list_all (has_increment (texts count) 0 k) cs ≡ true
       → all_there (map (increased (texts count) k base) (map (increment_for (texts count) 0 k) cs)) ≡ Some cs
   texts_back base [] h p = refl
@@ -154,9 +154,9 @@ module _ (count k : ℕ) (short : k ≤ count) where
       ∙ ap Some (one_text c h.0 (and_first (has_increment (texts count) 0 k c) (list_all (has_increment (texts count) 0 k) cs) p)))
       (texts_back base cs h.1 (and_second (has_increment (texts count) 0 k c) (list_all (has_increment (texts count) 0 k) cs) p))
 
--- ---- The contents that were read, by their k.
+-- ---- Contents that were read, given their k.
 
--- lists of bits of one length
+-- Each list of bits has length k.
 abbrev pub AllLong : ℕ → List (List Bool) → Type 0
 AllLong k is = AllByRecursion (λ (i : List Bool). length i ≡ k) is
 
@@ -167,7 +167,7 @@ increments_all (suc n) k bits h =
     let rest = increments_all n k (drop k bits) (omega (arith, length-drop k bits)) in
     ((length-take-le k bits enough, rest.0), ap suc rest.1)
 
--- each number's increment over a base is short
+-- If the content is a number, its increment over a base fits into k bits.
 abbrev pub IsShort : Bool → (base k : ℕ) → Content → Type 0
 IsShort m base k (number n) = n - base < raw_limit m k
 IsShort m base k _ = Unit {0}
@@ -175,7 +175,8 @@ IsShort m base k _ = Unit {0}
 abbrev pub AreShort : Bool → (base k : ℕ) → List Content → Type 0
 AreShort m base k cs = AllByRecursion (λ (c : Content). IsShort m base k c) cs
 
--- what holds of a number that was read from an increment
+-- A content that was read from an increment fits the field. If it is a number, it is at least the
+-- base, and its increment fits into k bits.
 pub record IsIncreased (m : Bool) (w base k : ℕ) (c : Content) : Type 0 where
   pub fits : FitsNumber m w c
   pub increment_over : IsOver base c
@@ -208,7 +209,9 @@ missing_read w base k = record { fits = refl; increment_over = tt; short = tt }
 differ : (a b : ℕ) → (a == b) ≡ false → a ≢ b
 differ a b h = grind (arith, nat_tests)
 
--- by its tests: the base is all ones, the increment is, their sum exceeds the width, and is all ones
+-- A content that was read from an increment, given the tests: whether the number may be missing,
+-- whether the base and the increment are all ones, whether their sum exceeds the width, and whether
+-- it is all ones.
 read_by_tests : (m full last past whole : Bool) (w base k i : ℕ) (c : Content) → i < 2 ^ k → (i == ones k) ≡ last → nat_lt (ones w) (base + i) ≡ past → (base + i == ones w) ≡ whole
     → (if m && (full || last) then Some missing else if past then None else Some (if m && whole then missing else number (base + i))) ≡ Some c → IsIncreased m w base k c
 read_by_tests true true last past whole w base k i c small p q r e = subst (IsIncreased true w base k) (some_same missing c e) (missing_read w base k)
@@ -226,7 +229,7 @@ read_one m w k base i c long e =
     read_by_tests m (are_all_ones base) (are_all_ones i) (nat_lt (ones w) (number_of base + number_of i)) (number_of base + number_of i == ones w) w (number_of base) k (number_of i) c
     (subst (λ n. number_of i < 2 ^ n) long (number_of-below i)) (sym (ones_same k i long)) refl refl e
 
--- the same of all numbers
+-- the same for all contents
 pub record AreIncreased (m : Bool) (w base k : ℕ) (cs : List Content) : Type 0 where
   pub fits : AreNumbers m w cs
   pub increment_over : AreOver base cs
@@ -241,7 +244,7 @@ numbers_read m w k base (i ∷ is) cs long e =
     let b = numbers_read m w k base is t.1 long.1 t.3 in
     subst (AreIncreased m w (number_of base) k) t.4 (record { fits = (a.fits, b.fits); increment_over = (a.increment_over, b.increment_over); short = (a.short, b.short) })
 
--- over a greater base increments are no longer
+-- An increment over a greater base is not longer.
 has_over : (m : Bool) (w base low k : ℕ) (c : Content) → base ≤ low → IsShort m base k c → has_increment (numbers w m) low k c ≡ true
 has_over m w base low k (number n) h s = lt-ltb (n - low) (raw_limit m k) (omega (arith, s))
 has_over m w base low k c h s = refl
@@ -250,7 +253,7 @@ pub all_over : (m : Bool) (w base low k : ℕ) (cs : List Content) → base ≤ 
 all_over m w base low k [] h s = refl
 all_over m w base low k (c ∷ cs) h s = ap (λ b. b && list_all (has_increment (numbers w m) low k) cs) (has_over m w base low k c h s.0) ∙ all_over m w base low k cs h s.1
 
--- texts
+-- how a text is read from its octets
 pub AreOctets-append : (xs ys : List ℕ) → AreOctets xs → AreOctets ys → AreOctets (xs ++ ys)
 AreOctets-append [] ys h g = g
 AreOctets-append (x ∷ xs) ys h g = (h.0, AreOctets-append xs ys h.1 g)
@@ -262,7 +265,7 @@ AreOctets-spaces (suc n) = (omega arith, AreOctets-spaces n)
 and_false : (a b : Bool) → a ≡ false → (a && b) ≡ false
 and_false a b e = ap (λ x. x && b) e
 
--- a text that was read from k octets fits, and k octets are the text again
+-- A text that was read from k octets fits the field, and its first k octets determine it.
 pub record IsFromOctets (count k : ℕ) (c : Content) : Type 0 where
   pub fits : FitsText count c
   pub again : has_increment (texts count) 0 k c ≡ true
@@ -292,7 +295,7 @@ text_read count k i false short long e =
           ∙ ap not some;
     }
 
--- what holds of texts that were read
+-- the same for all texts
 pub record AreFromOctets (count k : ℕ) (cs : List Content) : Type 0 where
   pub fits : AreTexts count cs
   pub again : list_all (has_increment (texts count) 0 k) cs ≡ true

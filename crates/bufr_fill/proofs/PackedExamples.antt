@@ -1,4 +1,4 @@
--- Worked examples of items packed for all subsets.
+-- Worked examples of writing compressed data.
 use Rattle.std.proofs.Common.{◌≡◌, Bool, [], ◌∷◌, ◌++◌, replicate, Ok, Err, pos, refl, codes, take}
 use Rattle.bufr_bits.specs.Prelude.{bits_of, bits_in, decimal_value_of}
 use Rattle.bufr_tables.specs.declared.table_b.Kind.TheVariants as kind
@@ -25,24 +25,24 @@ equal_written : packed_to_bits temperature (subset (numbered 24 3173 (codes "288
 unfolding packed_to_bits ok_bits temperature decimal_value_of bits_in
 equal_written = refl
 
--- with k = 1 the second would read as missing
+-- With k = 1, the second number would read as missing.
 -- rule: packs-numbers
 differing_written : packed_to_bits temperature (subset (numbered 24 3173 (codes "288.15") ∷ []) 25 ∷ subset (numbered 26 3173 (codes "288.16") ∷ []) 27 ∷ []) ≡ ok_bits (112 ∷ 143 ∷ 8 ∷ 64 ∷ []) 26
 unfolding packed_to_bits ok_bits temperature decimal_value_of bits_in
 differing_written = refl
 
--- the base is the least number, wherever it occurs
+-- The base is the least number, wherever it occurs.
 -- rule: packs-numbers
 least_is_second : packed_to_bits temperature (subset (numbered 24 3173 (codes "288.16") ∷ []) 25 ∷ subset (numbered 26 3173 (codes "288.15") ∷ []) 27 ∷ []) ≡ ok_bits (112 ∷ 143 ∷ 9 ∷ 0 ∷ []) 26
 unfolding packed_to_bits ok_bits temperature decimal_value_of bits_in
 least_is_second = refl
 
--- a missing first value is no base
+-- If the first value is missing, it is not the base.
 missing_first : packed_to_bits block (subset (draft 24 257 missing_form ∷ []) 25 ∷ subset (numbered 26 257 (codes "10") ∷ []) 27 ∷ []) ≡ ok_bits (20 ∷ 12 ∷ []) 15
 unfolding packed_to_bits ok_bits block decimal_value_of bits_in
 missing_first = refl
 
--- where nothing is missing an increment may be all ones
+-- If a number is never missing, an increment may be all ones.
 -- rule: packs-class-31
 figures_written : packed_to_bits coded_spec (subset (numbered 24 7957 (codes "5") ∷ []) 25 ∷ subset (numbered 26 7957 (codes "6") ∷ []) 27 ∷ []) ≡ ok_bits (20 ∷ 20 ∷ []) 14
 unfolding packed_to_bits ok_bits coded_spec decimal_value_of bits_in
@@ -58,13 +58,13 @@ names_equal : packed_to_bits four_letters (subset (draft 24 34052 (text_form (co
 unfolding packed_to_bits ok_bits four_letters bits_in bits_of
 names_equal = refl
 
--- with k = 1 the first would read as missing
+-- With k = 1, the first text would read as missing.
 -- rule: packs-texts-not-missing
 text_that_begins_with_ones : packed_to_bits four_letters (subset (draft 24 34052 (text_form (255 ∷ [])) ∷ []) 25 ∷ subset (draft 26 34052 (text_form (codes "B")) ∷ []) 27 ∷ []) ≡ ok_bits (zeros 4 (11 ∷ 252 ∷ 129 ∷ 8 ∷ 128 ∷ [])) 70
 unfolding packed_to_bits ok_bits zeros four_letters bits_in bits_of
 text_that_begins_with_ones = refl
 
--- texts of 64 octets that differ in octet 63, and in octet 64
+-- Texts of 64 octets may differ in octet 63, but not in octet 64.
 texts_of_63 : packed_to_bits (operator 34112 bare) (subset (draft 24 34112 (text_form (letters 62 65)) ∷ []) 25 ∷ subset (draft 26 34112 (text_form (letters 62 66)) ∷ []) 27 ∷ [])
     ≡ Ok (replicate 512 Bool.false ++ (bits_in 63 6 ++ bits_of (letters 62 65 ++ letters 62 66)))
 unfolding packed_to_bits letters bits_in bits_of
@@ -76,7 +76,7 @@ texts_too_long_apart : packed_to_bits (operator 34112 bare) (subset (draft 24 34
 unfolding packed_to_bits letters bits_in
 texts_too_long_apart = refl
 
--- the first subset whose factor is not that of the first
+-- The fault is at the first subset whose factor is not that of subset 1.
 -- rule: fault-58
 factors_unequal : packed_to_bits delayed_blocks
     (subset (numbered 24 7937 (codes "0") ∷ []) 25 ∷ subset (numbered 26 7937 (codes "0") ∷ []) 27 ∷ subset (numbered 28 7937 (codes "1") ∷ numbered 29 257 (codes "1") ∷ []) 30 ∷ []) ≡ Err (at_line 28 wrong.UnequalFactor)
@@ -102,7 +102,7 @@ references_differ : packed_to_bits redefined
 unfolding packed_to_bits redefined decimal_value_of bits_in
 references_differ = refl
 
--- subset by subset, and only then whether they can be packed
+-- The items of all subsets are checked before their contents are packed.
 -- rule: fault-order-of-subsets
 second_at_fault : packed_to_bits delayed_blocks (subset (numbered 24 7937 (codes "0") ∷ []) 25 ∷ subset (numbered 26 7937 (codes "1") ∷ []) 27 ∷ subset (numbered 28 7937 (codes "1.5") ∷ []) 29 ∷ []) ≡ Err (at_line 28 wrong.Number)
 unfolding packed_to_bits delayed_blocks decimal_value_of bits_in
@@ -126,7 +126,7 @@ item_too_many_in_the_second : packed_to_bits temperature
 unfolding packed_to_bits temperature decimal_value_of bits_in
 item_too_many_in_the_second = refl
 
--- the walk's refusal is on the first subset's next line
+-- A refusal of the walk is on the line of the first subset's next item, or of its end.
 width_refused : packed_to_bits width_of_none (subset [] 25 ∷ subset (numbered 26 257 (codes "0") ∷ []) 27 ∷ []) ≡ Err (at_line 25 (walk_refused (refusal.Width 257)))
 unfolding packed_to_bits width_of_none
 width_refused = refl
@@ -138,7 +138,8 @@ no_subsets = refl
 as_quantity : FieldSpec
 as_quantity = record { fxy = 3173; role = role.Element; kind = kind.Numeric; width = 16; scale = pos 2; reference = pos 0; may_be_missing = Bool.true; listed = Bool.true }
 
--- 134,217,728 values are allowed, one more is not; that comes before another descriptor
+-- 134,217,728 values are allowed, but one more is not, and this is reported before a wrong
+-- descriptor.
 last_value : pack_across as_quantity (item_row 67108863 (subset [] 25 ∷ subset [] 26 ∷ [])) ≡ Err (at_line 25 (wrong.WrongDescriptor (expected.Item 3173)))
 unfolding as_quantity
 last_value = refl
@@ -150,8 +151,8 @@ values_too_many :
 unfolding as_quantity
 values_too_many = (refl, refl)
 
--- two temperatures are packed with a k of 2; bits with a k of 3, or over a lesser base, read the
--- same
+-- Two temperatures are packed with k = 2. Bits with k = 3, or with a lower base, read as the same
+-- temperatures.
 least_k_packed : packing as_quantity (number 28815 ∷ number 28816 ∷ []) ≡ Ok (take 26 (bits_of (112 ∷ 143 ∷ 8 ∷ 64 ∷ [])))
 unfolding as_quantity bits_in bits_of
 least_k_packed = refl
@@ -164,7 +165,7 @@ least_k_reported :
 unfolding as_quantity bits_of
 least_k_reported = (refl, refl, refl, refl)
 
--- with a k of 1 the second is missing
+-- With k = 1, the second temperature is missing.
 lesser_k_read : packed_field 2 as_quantity (take 24 (bits_of (112 ∷ 143 ∷ 5 ∷ []))) ≡ Ok (found (number 28815 ∷ missing ∷ []) [])
 unfolding as_quantity bits_of
 lesser_k_read = refl

@@ -1,4 +1,4 @@
--- An item of compressed data that was read is packed and read again, in no more bits.
+-- An item of compressed data that was read is packed and read back, in no more bits.
 use Rattle.std.proofs.lemmas.Grind.{common_steps}
 use Rattle.std.proofs.Common.{◌≡◌, ℕ, ◌+◌, ◌*◌, ◌/◌, ◌^◌, ◌<◌, ◌≤◌, ◌&&◌, Bool, true, false, List, [], ◌∷◌, ◌++◌, length, take, drop, map, replicate, Option, Some, None, Result, Ok, Err, refl, sym, ◌∙◌, ap, subst, arith, append_assoc, pow_mono, zero, suc, ◌-◌, not, ◌==◌, nat_lt, nat_le, if◌then◌else◌, unwrap_or, ◌||◌}
 use Rattle.std.proofs.lemmas.Bool.{le-ltb, leb-true, lt-ltb, ltb-false, eqb-true}
@@ -21,7 +21,7 @@ use Rattle.bufr_fill.proofs.PlainLaws.{content_back, content_length, content_fit
 use Rattle.bufr_tables.specs.declared.table_b.Kind.TheVariants as kind
 use Rattle.bufr_walk.specs.declared.spec.Role.TheVariants as role
 
--- ---- the parts of bits that were read
+-- ---- The parts of bits that were read.
 
 pub record IsUnpacked (n : ℕ) (spec : FieldSpec) (bits : List Bool) (cs : List Content) (mid : List Bool) (k : ℕ) : Type 0 where
   pub small : k ≤ 63
@@ -57,7 +57,7 @@ module _ (n : ℕ) (spec : FieldSpec) where
         used = omega (arith, long, enough, length-drop (spec.width + 6) bits, length-drop used suffix, ap length t.3);
       }
 
-  -- ---- bits that are packed are read by their parts
+  -- ---- How packed bits are read, part by part.
   abbrev by_parts : (bits : List Bool) (k : ℕ) (base suffix : List Bool) → Result (FieldRead (List Content)) FieldFault
   by_parts bits k base suffix = item_by spec.role (nat_lt (length bits) (spec.width + 6) || nat_lt (length suffix) (n * step_of (coding_of spec) k))
       (contents_across (coding_of spec) k n base suffix) (drop (n * step_of (coding_of spec) k) suffix)
@@ -85,10 +85,10 @@ module _ (n : ℕ) (spec : FieldSpec) where
       ∙ ap (λ o. item_by spec.role false o (drop used (pieces ++ more))) across
       ∙ ap (λ r. r >>= λ y. Ok (found y (drop used (pieces ++ more)))) equal ∙ ap (λ s. Ok (found cs s)) (drop_at pieces more used lp)
 
--- ---- contents that differ
+-- ---- Contents that differ.
 
--- what holds of contents that were read with k above 0: they fit, and so many bits or octets of
--- each are enough
+-- The contents were read with k above 0. They fit the field, and k bits or octets of each are
+-- enough.
 abbrev pub IsVaried : Kind → Bool → (w k : ℕ) → List Content → Type 0
 IsVaried kind.Character m w k cs = AreTexts (w / 8) cs × (list_all (has_increment (texts (w / 8)) 0 k) cs ≡ true) × (k ≤ w / 8)
 IsVaried kd m w k cs = AreNumbers m w cs × ((low : ℕ) → lowest cs ≡ Some low → list_all (has_increment (numbers w m) low k) cs ≡ true)
@@ -106,14 +106,15 @@ varied_by_kind kind.Character m w k base is c cs long e =
 varied_by_kind kind.Coded m w k base is c cs long e = numbers_varied m w k base is (c ∷ cs) long e
 varied_by_kind kind.Numeric m w k base is c cs long e = numbers_varied m w k base is (c ∷ cs) long e
 
--- ---- contents that differ are written
+-- ---- Contents that differ are written.
 
 none_has : (w : ℕ) (m : Bool) (low k : ℕ) (cs : List Content) → lowest cs ≡ None → list_all (has_increment (numbers w m) low k) cs ≡ true
 none_has w m low k [] e = refl
 none_has w m low k (number n ∷ cs) e = absurd cc
 none_has w m low k (c ∷ cs) e = none_has w m low k cs e
 
--- what holds of contents that differ, by their coding
+-- Contents that differ are packed as a base, a k of at most `most`, and increments, and are read
+-- back from them.
 pub record IsWritten (d : Coding) (spec : FieldSpec) (cs : List Content) (most : ℕ) : Type 0 where
   pub base : List Bool
   pub k : ℕ
@@ -126,7 +127,7 @@ pub record IsWritten (d : Coding) (spec : FieldSpec) (cs : List Content) (most :
   pub size : length pieces ≡ length cs * step_of d k
   pub across : (more : List Bool) → all_there (map (increased d k base) (increments (length cs) (step_of d k) (pieces ++ more))) ≡ Some cs
 
--- no text is a number
+-- Texts have no least number.
 texts_none : (count : ℕ) (cs : List Content) → AreTexts count cs → lowest cs ≡ None
 texts_none count [] h = refl
 texts_none count (text os ∷ cs) h = texts_none count cs h.1
@@ -135,7 +136,7 @@ texts_none count (number n ∷ cs) h = absurd h.0
 texts_none count (c ∷ cs) h = absurd h.0
 
 module _ (spec : FieldSpec) (cs : List Content) (most : ℕ) (some : 1 ≤ most) (small : most ≤ 63) where
-  -- the least k passes
+  -- the least k that passes
   module _ (passes : ℕ → Content → Bool) (pass : list_all (passes most) cs ≡ true) where
     least_some : 1 ≤ least_k passes cs
     least_some = first_from_start (λ k. list_all (passes k) cs) 63 1
@@ -146,7 +147,7 @@ module _ (spec : FieldSpec) (cs : List Content) (most : ℕ) (some : 1 ≤ most)
     least_passes : list_all (passes (least_k passes cs)) cs ≡ true
     least_passes = first_passes (λ k. list_all (passes k) cs) 63 1 most some (omega arith) pass
 
-  -- numbers over a base that none is under
+  -- numbers that are at least the base
   number_item : (base : ℕ) → coding_of spec ≡ numbers spec.width spec.may_be_missing → base < raw_limit spec.may_be_missing spec.width → AreNumbers spec.may_be_missing spec.width cs → AreOver base cs
       → (pass : list_all (has_increment (numbers spec.width spec.may_be_missing) base most) cs ≡ true) → unwrap_or (lowest cs) 0 ≡ base
       → IsWritten (numbers spec.width spec.may_be_missing) spec cs most
@@ -204,9 +205,9 @@ module _ (spec : FieldSpec) (cs : List Content) (most : ℕ) (some : 1 ≤ most)
   item_written kind.Coded h e v = number_item_of (lowest cs) refl h.0 e v
   item_written kind.Numeric h e v = number_item_of (lowest cs) refl h.0 e v
 
--- ---- the whole item
+-- ---- The whole item.
 
--- contents are packed so that they are read again, in at most so many bits
+-- Contents are packed into at most `most` bits, and read back from them.
 pub record PacksWithin (n : ℕ) (spec : FieldSpec) (cs : List Content) (most : ℕ) : Type 0 where
   pub out : List Bool
   pub is : packing spec cs ≡ Ok out
@@ -231,7 +232,7 @@ same_copies c [] h = refl
 same_copies c (d ∷ cs) h =
     ap (λ x. x ∷ cs) (sym (content_same c d (and_first (same c d) (list_all (same c) cs) h))) ∙ ap (λ xs. c ∷ xs) (same_copies c cs (and_second (same c d) (list_all (same c) cs) h))
 
--- the parts of a list of copies
+-- In a list of copies of x, the first content is x, and all are the same.
 copies_are : (n : ℕ) (x c : Content) (cs : List Content) → replicate n x ≡ c ∷ cs → (x ≡ c) × (list_all (same c) cs ≡ true)
 copies_are zero x c cs h = absurd cc
 copies_are (suc n) x c cs h = let f = heads x c (replicate n x) cs h in (f.0, ap (λ xs. list_all (same c) xs) (sym f.1 ∙ ap (replicate n) f.0) ∙ are_same_copies c n)
@@ -248,7 +249,7 @@ increments_count : (n k : ℕ) (bits : List Bool) → length (increments n k bit
 increments_count zero k bits = refl
 increments_count (suc n) k bits = ap suc (increments_count n k (drop k bits))
 
--- as many contents as increments
+-- There are as many contents as increments.
 count_there : (f : List Bool → Option Content) (is : List (List Bool)) (cs : List Content) → all_there (map f is) ≡ Some cs → length cs ≡ length is
 count_there f [] cs e = ap length (sym (some_same [] cs e))
 count_there f (i ∷ is) cs e = let t = next_there (f i) (map f is) cs e in ap length (sym t.4) ∙ ap suc (count_there f is t.1 t.3)
@@ -260,7 +261,7 @@ count_across d k n base suffix cs e = by (k == 0) e
     by true e = ap length (sym (some_same (replicate n (content_by d base)) cs e)) ∙ length-replicate n (content_by d base)
     by false e = count_there (increased d k base) (increments n (step_of d k) suffix) cs e ∙ increments_count n (step_of d k) suffix
 
--- a reference has no k but 0
+-- The k of a redefined reference is 0.
 no_k : (k n : ℕ) (base suffix : List Bool) (cs : List Content) → 1 ≤ n → contents_across references k n base suffix ≡ Some cs → k ≡ 0
 no_k k zero base suffix cs some e = absurd (omega (arith, some))
 no_k k (suc n) base suffix cs some e = by (k == 0) refl
@@ -272,7 +273,7 @@ no_k k (suc n) base suffix cs some e = by (k == 0) refl
     by true p = eqb-true k 0 p
     by false p = absurd (none (sym (varied references k (suc n) base suffix p) ∙ e))
 
--- an element or an inserted text
+-- The field is an element or an inserted text.
 record IsOpen (spec : FieldSpec) : Type 0 where
   coding : coding_of spec ≡ coded spec.kind spec.width spec.may_be_missing
   equal : (cs : List Content) → if_equal spec.role cs ≡ Ok cs
@@ -319,7 +320,7 @@ module _ (n : ℕ) (spec : FieldSpec) (good : IsSpec spec) where
         fits = (fits, subst (AllFit spec) (sym (same_copies c cs same_all)) (copies_fit spec c (length cs) fits));
       }
 
-  -- contents that differ, of an element
+  -- contents of an element that differ
   differing : IsOpen spec → (c : Content) (cs : List Content) (k most : ℕ) → 1 ≤ k → k ≤ 63 → IsVaried spec.kind spec.may_be_missing spec.width k (c ∷ cs) → list_all (same c) cs ≡ false
       → length (c ∷ cs) ≡ n → spec.width + 6 + n * step_of (coding_of spec) k ≤ most → PacksWithin n spec (c ∷ cs) most
   differing o c cs k most some small varies unlike count room =
@@ -348,7 +349,7 @@ module _ (n : ℕ) (spec : FieldSpec) (good : IsSpec spec) where
   first_fits_kind kind.Character k c cs v = v.0.0
   first_fits_kind kd k c cs v = v.0.0
 
-  -- either all the same, or not
+  -- contents of an element, whether or not they differ
   of_element : IsOpen spec → (c : Content) (cs : List Content) (k most : ℕ) (b : Bool) → list_all (same c) cs ≡ b → 1 ≤ k → k ≤ 63 → IsVaried spec.kind spec.may_be_missing spec.width k (c ∷ cs)
       → length (c ∷ cs) ≡ n → spec.width + 6 + n * step_of (coding_of spec) k ≤ most → PacksWithin n spec (c ∷ cs) most
   of_element o c cs k most true e some small varies count room = uniform c cs most (o.fit c (first_fits_kind spec.kind k c cs varies)) e count (omega (arith, room))
@@ -369,7 +370,7 @@ module _ (n : ℕ) (spec : FieldSpec) (good : IsSpec spec) where
     of_open : IsOpen spec → PacksWithin n spec (c ∷ cs) (spec.width + 6 + n * step_of (coding_of spec) k)
     of_open o = of_element o c cs k (spec.width + 6 + n * step_of (coding_of spec) k) (list_all (same c) cs) refl some small (varies_so o.coding) count_is (omega arith)
 
-    -- what was read with k above 0, for each role
+    -- contents that were read with k above 0, by the role of the field
     by_role : (r : Role) → spec.role ≡ r → if_equal spec.role (c ∷ cs) ≡ Ok (c ∷ cs) → PacksWithin n spec (c ∷ cs) (spec.width + 6 + n * step_of (coding_of spec) k)
     by_role role.Element er q = of_open (open_element spec er)
     by_role role.Inserted er q = of_open (open_inserted spec er)
@@ -385,7 +386,7 @@ module _ (n : ℕ) (spec : FieldSpec) (good : IsSpec spec) where
         same_of true e = refl
         same_of false e = absurd cc
 
-  -- what was read with any k
+  -- contents that were read with any k
   by_k : (b : Bool) (k : ℕ) → (k == 0) ≡ b → (c : Content) (cs : List Content) (base suffix : List Bool) → length base ≡ spec.width → k ≤ 63
       → n * step_of (coding_of spec) k ≤ length suffix → contents_across (coding_of spec) k n base suffix ≡ Some (c ∷ cs) → if_equal spec.role (c ∷ cs) ≡ Ok (c ∷ cs)
       → PacksWithin n spec (c ∷ cs) (spec.width + 6 + n * step_of (coding_of spec) k)
@@ -395,7 +396,7 @@ module _ (n : ℕ) (spec : FieldSpec) (good : IsSpec spec) where
       uniform c cs _ (subst (Fits spec) f.0 (content_fits spec good base lb)) f.1 (count_across (coding_of spec) k n base suffix (c ∷ cs) e) (omega arith)
   by_k false k p c cs base suffix lb small enough e q = by_role c cs k base suffix (zero_or_some k false p refl) small enough e spec.role refl q
 
-  -- an item that was read is packed so that it is read again, in no more bits
+  -- An item that was read is packed and read back, in no more bits.
   pub packed_again : (c : Content) (cs : List Content) (bits mid : List Bool) → packed_field n spec bits ≡ Ok (found (c ∷ cs) mid)
       → (most : ℕ) × (most + length mid ≤ length bits) × PacksWithin n spec (c ∷ cs) most
   packed_again c cs bits mid e =
@@ -406,24 +407,24 @@ module _ (n : ℕ) (spec : FieldSpec) (good : IsSpec spec) where
         by_k (k == 0) k refl c cs (take spec.width bits) (drop (spec.width + 6) bits) u.base u.small u.enough u.across u.equal,
       )
 
-  -- an item has a content for each subset
+  -- An item has one content for each subset.
   pub packed_count : (cs : List Content) (bits mid : List Bool) → packed_field n spec bits ≡ Ok (found cs mid) → length cs ≡ n
   packed_count cs bits mid e =
       let k = number_of (take 6 (drop spec.width bits)) in
       count_across (coding_of spec) k n (take spec.width bits) (drop (spec.width + 6) bits) cs (unpacked n spec bits cs mid e).across
 
--- An item is packed with the least k of all that its contents are read from. Bits of one item with
--- the same contents differ in length by their k alone. So an item is packed in no more bits than
--- any that were read.
+-- An item is packed with the least k from which its contents can be read. If two items have the
+-- same contents, their lengths differ only because of their k. Therefore, no item with these
+-- contents is shorter than the packed one.
 
 module _ (n : ℕ) (spec : FieldSpec) (some : 1 ≤ n) where
-  -- where an increment is no longer, its k is no greater; a reference has no k but 0
+  -- If the increments are not longer, k is not greater. The k of a redefined reference is 0.
   lesser_k : (d : Coding) (k j : ℕ) (base suffix : List Bool) (cs : List Content) → contents_across d k n base suffix ≡ Some cs → n * step_of d k ≤ n * step_of d j → k ≤ j
   lesser_k (numbers w m) k j base suffix cs e h = le_of_mul-le-mul_left h some
   lesser_k (texts count) k j base suffix cs e h = let g : 8 * k ≤ 8 * j = le_of_mul-le-mul_left h some in omega (arith, g)
   lesser_k references k j base suffix cs e h = let none = no_k k n base suffix cs some e in omega (arith, none)
 
-  -- of two items with the same contents the one that is no longer has no greater k
+  -- If two items have the same contents, the one that is not longer does not have a greater k.
   shorter : IsSpec spec → (out bits : List Bool) (cs : List Content) (suffix : List Bool) → packed_field n spec out ≡ Ok (found cs []) → packed_field n spec bits ≡ Ok (found cs suffix)
       → length out + length suffix ≤ length bits → k_of spec out ≤ k_of spec bits
   shorter good out bits cs suffix e f h =
@@ -432,7 +433,7 @@ module _ (n : ℕ) (spec : FieldSpec) (some : 1 ≤ n) where
       lesser_k (coding_of spec) (k_of spec out) (k_of spec bits) _ _ cs a.across (omega (arith, h, a.used, b.used))
 
   module _ (good : IsSpec spec) where
-    -- the same bits are packed, whatever the contents were read from
+    -- The bits that are packed depend only on the contents, not on the bits that were read.
     no_longer : (c : Content) (cs : List Content) (out bits suffix : List Bool) → packing spec (c ∷ cs) ≡ Ok out → packed_field n spec bits ≡ Ok (found (c ∷ cs) suffix)
         → length out + length suffix ≤ length bits
     no_longer c cs out bits suffix is e =
@@ -456,9 +457,9 @@ pub least_k_packed : (n : ℕ) (spec : FieldSpec) (contents : List Content) (bit
     → HasLeastK n spec contents
 least_k_packed n spec contents bits suffix some good e = by_contents n spec some good contents bits suffix e
 
--- ---- Contents that fit a field and can be packed are read again from their bits.
+-- ---- Contents that fit a field are read back from their bits, if they can be packed.
 
--- ---- the k that is found passes
+-- ---- The k that is found passes.
 
 found_step : (p : ℕ → Bool) (b : Bool) (from x most : ℕ) → p from ≡ b → (if b then from else x) < most → (b ≡ false → x < most → p x ≡ true) → p (if b then from else x) ≡ true
 found_step p true from x most e h g = e
@@ -468,9 +469,9 @@ found_from : (p : ℕ → Bool) (fuel from : ℕ) → first_from p fuel from < f
 found_from p zero from h = absurd (omega (arith, h))
 found_from p (suc fuel) from h = found_step p (p from) from (first_from p fuel (from + 1)) (from + suc fuel) refl h (λ q l. found_from p fuel (from + 1) (omega (arith, l)))
 
--- ---- numbers
+-- ---- Numbers.
 
--- the whole width is enough
+-- The width of the field is enough for an increment.
 number_has : (m : Bool) (w low : ℕ) (c : Content) → FitsNumber m w c → has_increment (numbers w m) low w c ≡ true
 number_has m w low (number n) h = lt-ltb (n - low) (raw_limit m w) (omega (arith, h))
 number_has m w low missing h = refl
@@ -480,9 +481,9 @@ numbers_have : (m : Bool) (w low : ℕ) (cs : List Content) → AreNumbers m w c
 numbers_have m w low [] h = refl
 numbers_have m w low (c ∷ cs) h = ap (λ b. b && list_all (has_increment (numbers w m) low w) cs) (number_has m w low c h.0) ∙ numbers_have m w low cs h.1
 
--- ---- texts
+-- ---- Texts.
 
--- all octets are enough
+-- All octets of a text are enough.
 whole_again : (count : ℕ) (os : List ℕ) → length os ≡ count → list_all (λ octet. octet == 255) os ≡ false → has_increment (texts count) 0 count (text os) ≡ true
 whole_again count os l none = grind (arith, common_steps, take_all, not, append-nil, octets_self)
 
@@ -495,12 +496,12 @@ texts_have : (count : ℕ) (cs : List Content) → AreTexts count cs → list_al
 texts_have count [] h = refl
 texts_have count (c ∷ cs) h = ap (λ b. b && list_all (has_increment (texts count) 0 count) cs) (text_has count c h.0) ∙ texts_have count cs h.1
 
--- ---- contents that differ
+-- ---- Contents that differ.
 
 abbrev AllKind : Kind → Bool → ℕ → List Content → Type 0
 AllKind k m w cs = AllByRecursion (λ (c : Content). FitsKind k m w c) cs
 
--- a k that they can be written with
+-- The contents can be written with some k.
 abbrev Varies : Kind → Bool → ℕ → List Content → Type 0
 Varies kd m w cs = (k : ℕ) × (1 ≤ k) × (k ≤ 63) × IsVaried kd m w k cs
 
@@ -533,7 +534,7 @@ kind_varies kind.Coded spec cs out hw coding h e =
 kind_varies kind.Numeric spec cs out hw coding h e =
     (spec.width, hw.0, hw.1, (h, λ low q. numbers_have spec.may_be_missing spec.width low cs h))
 
--- ---- the item
+-- ---- The item.
 
 module _ (n : ℕ) (spec : FieldSpec) (good : IsSpec spec) where
   kinds_of : (r : Role) → spec.role ≡ r → ((x : Content) → FitsRole r spec x → FitsKind spec.kind spec.may_be_missing spec.width x) → (cs : List Content) → AllFit spec cs
@@ -561,7 +562,7 @@ module _ (n : ℕ) (spec : FieldSpec) (good : IsSpec spec) where
   by_same true c cs out fits count q e = (spec.width + 6, uniform n spec good c cs (spec.width + 6) fits.0 q count (omega arith))
   by_same false c cs out fits count q e = unlike_by_role spec.role refl c cs out fits count q e
 
-  -- contents that fit, where they can be packed, are read again
+  -- Contents that fit are read back, if they can be packed.
   pub fitting_again : (c : Content) (cs : List Content) (out more : List Bool) → AllFit spec (c ∷ cs) → length (c ∷ cs) ≡ n → packing spec (c ∷ cs) ≡ Ok out
       → packed_field n spec (out ++ more) ≡ Ok (found (c ∷ cs) more)
   fitting_again c cs out more fits count e =
@@ -569,7 +570,7 @@ module _ (n : ℕ) (spec : FieldSpec) (good : IsSpec spec) where
       let is : out ≡ p.1.out = same_ok out p.1.out (sym e ∙ p.1.is) in
       ap (λ bits. packed_field n spec (bits ++ more)) is ∙ p.1.again more
 
--- and with the least k
+-- They are packed with the least k.
 pub fitting_least_k : (n : ℕ) (spec : FieldSpec) (contents : List Content) (out : List Bool) → 1 ≤ n → IsSpec spec → AllFit spec contents → length contents ≡ n → packing spec contents ≡ Ok out
     → HasLeastK n spec contents
 fitting_least_k n spec [] out some good fits count e = absurd (omega (arith, some, count))

@@ -1,4 +1,4 @@
--- A walk over the items of all subsets writes, or refuses, as the definition does.
+-- A walk over the items of all subsets writes or refuses them as defined.
 use Rattle.std.proofs.lemmas.Grind.{common_steps}
 use Rattle.std.proofs.Common.{◌≡◌, ℕ, zero, suc, ◌+◌, ◌-◌, ◌<◌, Bool, true, false, List, [], ◌∷◌, ◌++◌, length, Option, Some, None, Result, Ok, Err, refl, sym, ◌∙◌, ap, subst, arith, ◌≤◌, max, slice_get, if◌then◌else◌}
 use Rattle.std.proofs.lemmas.List.{append-nil}
@@ -13,7 +13,7 @@ use Rattle.std.specs.Result.{result_map_both}
 written_bits : (a b : WrittenItem (List Content)) → ◌≡◌ {A = Result (WrittenItem (List Content)) DraftFault} (Ok a) (Ok b) → a.bits ≡ b.bits
 written_bits a b e = grind (arith, common_steps)
 
--- without a subset nothing is written
+-- If there are no subsets, nothing is written.
 none_written : (spec : FieldSpec) (index : ℕ) (cs : List Content) (item : List Bool) → pack_across spec (item_row index []) ≡ Ok (written_item cs item) → item ≡ []
 none_written spec index cs item e = grind (arith, common_steps, written_bits)
 
@@ -22,7 +22,7 @@ some_there [] k x e = absurd cc
 some_there (y ∷ xs) zero x e = omega arith
 some_there (y ∷ xs) (suc k) x e = omega (arith, some_there xs k x e)
 
--- an item that was written is in the first subset
+-- An item that was written has an item in the first subset.
 first_has_index : (spec : FieldSpec) (index : ℕ) (s : Subset) (ss : List Subset) (w : WrittenItem (List Content)) → pack_across spec (item_row index (s ∷ ss)) ≡ Ok w → index < length s.items
 first_has_index spec index s ss w e = grind (arith, common_steps, slice_get, some_there)
 
@@ -40,7 +40,7 @@ within s s' spec t h = by s.subsets refl
 pub row_first : (n index : ℕ) (ss : List Subset) → index < n → rows (n - index) index ss ≡ item_row index ss ∷ rows (n - (index + 1)) (index + 1) ss
 row_first n index ss h = let e : n - index ≡ suc (n - (index + 1)) = omega (arith, h) in ap (λ k. rows k index ss) e
 
--- a walk stays with its subsets, and within the longest of them
+-- The walk has the same subsets, and is not past the end of the longest one.
 pub record Stays (first s : PackedOutModel) : Type 0 where
   pub subsets : s.subsets ≡ first.subsets
   pub within : s.index ≤ max first.index (most_items s.subsets)
@@ -66,9 +66,9 @@ walk_of_rows end many course first walked last h =
           record { subsets = h.subsets ∙ k.subsets; within = omega (arith, near, h.index, ap most_items h.subsets) },
         )
 
--- ---- Where a walk over the items of all subsets stops, its fault is that of their data.
+-- ---- If a walk over the items of all subsets stops, its fault is that of the data.
 
--- ---- places
+-- ---- Indices.
 
 none_past : (items : List Draft) (index : ℕ) → length items ≤ index → slice_get items index ≡ None
 none_past [] index h = refl
@@ -83,7 +83,7 @@ past_none (x ∷ items) (suc index) e = omega (arith, past_none items index e)
 no_row : (index : ℕ) (ss : List Subset) → most_items ss ≤ index → rows (most_items ss - index) index ss ≡ []
 no_row index ss h = let e : most_items ss - index ≡ 0 = omega (arith, h) in ap (λ n. rows n index ss) e
 
--- all subsets end after the longest
+-- If all subsets end at an index, none is longer.
 ends_past : (index : ℕ) (ss : List Subset) → all_at_end (cells_at index ss) ≡ Ok tt → most_items ss ≤ index
 ends_past index [] e = omega arith
 ends_past index (s ∷ ss) e = by (slice_get s.items index) refl e (λ e. ends_past index ss e)
@@ -93,7 +93,8 @@ ends_past index (s ∷ ss) e = by (slice_get s.items index) refl e (λ e. ends_p
     by None is e g = omega (arith, past_none s.items index is, g e)
     by (Some d) is e g = absurd cc e
 
--- an item that is left over is there
+-- If an item is left over, the index is inside the longest subset, and the fault is on the line of
+-- this item.
 ends_before : (index : ℕ) (ss : List Subset) (f : DraftFault) → all_at_end (cells_at index ss) ≡ Err f → (index < most_items ss) × (f ≡ at_line (first_there (cells_at index ss)) item_too_many)
 ends_before index [] f e = absurd cc e
 ends_before index (s ∷ ss) f e = by (slice_get s.items index) refl e (λ e. ends_before index ss f e)
@@ -105,7 +106,7 @@ ends_before index (s ∷ ss) f e = by (slice_get s.items index) refl e (λ e. en
     by (Some d) is e g = let same : at_line d.line item_too_many ≡ f =
         cc in (omega (arith, some_there s.items index d is), sym same ∙ ap (λ o. at_line (option_map_or (λ (d : Draft). d.line) o (first_there (cells_at index ss))) item_too_many) (sym is))
 
--- ---- the walk
+-- ---- The walk.
 
 module _ (s : Subset) (more : List Subset) where
   abbrev pub filler : Filler ItemRow (List Content) DraftFault
@@ -123,7 +124,7 @@ module _ (s : Subset) (more : List Subset) where
   past spec index f false true o a b p = absurd cc a
   past spec index f m m' (Some d) a b p = absurd cc b
 
-  -- what comes next is the fault at the rows that are left from an index on
+  -- The fault that comes next is that of the rows from an index on.
   stops_at : (next : Next) (index : ℕ) (bits : List Bool) (f : DraftFault) → index ≤ most_items (s ∷ more) → IsFaultHere next (record { subsets = s ∷ more; index = index; bits = bits }) f
       → (left : ℕ) → most_items (s ∷ more) - index ≡ left → EndsPass (filling filler) next (rows left index (s ∷ more)) (Some f)
   stops_at (refused why) index bits f near h zero l =
@@ -139,19 +140,19 @@ module _ (s : Subset) (more : List Subset) where
   stops_at at_end index bits f near h (suc k) l = ap Some (ends_before index (s ∷ more) f h).1
   stops_at astray index bits f near h left l = absurd h
 
-  -- where a walk over the rows of subsets stops, its fault is that of the definition
+  -- If a walk over the rows of all subsets stops, its fault is the one that is defined.
   pub stops_across : (next : Next) (mid : PackedOutModel) (f : DraftFault) → Stays (new_packed_out (s ∷ more)) mid → IsFaultHere next mid f → EndsPass (filling filler) next (rows_left mid) (Some f)
   stops_across next mid f k h =
       subst (λ ss. IsFaultHere next (record { subsets = ss; index = mid.index; bits = mid.bits }) f → EndsPass (filling filler) next (rows (most_items ss - mid.index) mid.index ss) (Some f))
       (sym k.subsets)
       (λ h. stops_at next mid.index mid.bits f (omega (arith, k.within, ap most_items k.subsets)) h (most_items (s ∷ more) - mid.index) refl) h
 
-  -- where it ends, and nothing is left over, so does the definition
+  -- If the walk ends and no item is left over, the pass ends, too.
   pub ends_across : (mid : PackedOutModel) → all_at_end (cells_at mid.index mid.subsets) ≡ Ok tt → EndsPass (filling filler) at_end (rows_left mid) None
   ends_across mid h = sym (ap (none_over filler) (no_row mid.index mid.subsets (ends_past mid.index mid.subsets h)))
 
   module _ (course : Course) (walked : List TakenField) (mid : PackedOutModel) (h : Takes (oks PackedFills) course (new_packed_out (s ∷ more)) walked mid) where
-    -- the writing of the data by a walk, and where it is
+    -- where the walk is, and what it has written
     pub came : Stays (new_packed_out (s ∷ more)) mid × WritesDrafts filler course walked [] mid.bits (rows (most_items (s ∷ more)) 0 (s ∷ more)) (rows_left mid)
     came =
         let w = walk_of_rows s.end_line (would_be_many (length (s ∷ more)) (most_items (s ∷ more))) course (new_packed_out (s ∷ more)) walked mid h in

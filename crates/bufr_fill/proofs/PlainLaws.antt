@@ -1,4 +1,4 @@
--- A plain field that was read is written from the item that a dump writes, and read again.
+-- A plain field that was read is written from the item in its dump, and read back.
 use Rattle.std.proofs.lemmas.Grind.{common_steps}
 use Rattle.std.proofs.lemmas.Bool.{eqb-true, le-ltb, lt-ltb, eq-eqb}
 use Rattle.bufr_walk.specs.Prelude.{FieldSpec, IsSpec, IsField, HasWidth, HasRole, HasMissing, is_reference, Content, found, number, text, missing, reference, octets_in, content_by, coding_by, content_in, bits_for, data_end, FieldRead, plain_field, signed_by, sign_bit, max_values, Item, DataCoding, ReadsItems, answers_in, after, Course, take_next, at_end}
@@ -20,41 +20,42 @@ use Rattle.bufr_bits.specs.declared.decimal.NumberFault.{NumberFault}
 use Rattle.bufr_tables.specs.declared.table_b.Kind.TheVariants as kind
 use Rattle.bufr_walk.specs.declared.spec.Role.TheVariants as role
 
--- Lists in the lemmas on a round trip: each item's field, the number of its contents, and its row.
+-- Properties of lists in the lemmas about round trips: the field of each item, the number of its
+-- contents, and its row.
 
--- items of fields
+-- Each item has a valid field.
 abbrev pub AllFields : {C : Type 0} → List (Item C) → Type 0
 AllFields {C} items = AllByRecursion (λ (i : Item C). IsField i.spec) items
 
--- each item has so many contents
+-- Each item has n contents.
 abbrev pub HaveContents : ℕ → List (Item (List Content)) → Type 0
 HaveContents n items = AllByRecursion (λ (i : Item (List Content)). length i.content ≡ n) items
 
--- an item of all subsets has the contents of a row, at an index that is not past the most values
+-- An item of compressed data has the contents of a row, up to which there are not too many values.
 pub record IsSaidRow (i : Item (List Content)) (a : ItemRow) : Type 0 where
   pub contents : contents_here i.spec a.cells ≡ Ok i.content
   pub few : (a.index + 1) * length a.cells ≤ max_values
 
--- the bits of an item in data that are not compressed
+-- the bits of an item of plain data
 abbrev pub item_bits : Item Content → List Bool
 item_bits i = bits_for i.spec.width i.content
 
--- ---- Data that were read are written so that they read the same, in no more bits.
+-- ---- Data that were read are written so that they read back the same, in no more bits.
 
--- one item that was read is written so that it is read again, in no more bits
+-- An item that was read is written so that it reads back the same, in no more bits.
 pub record IsRewritten {C D E : Type 0} (form : DataCoding C) (filler : Filler D C E) (i : Item C) (d : D) (out bits mid : List Bool) : Type 0 where
   pub fills : filler.fills i.spec d ≡ Ok (written_item i.content out)
   pub again : (more : List Bool) → form.field i.spec (out ++ more) ≡ Ok (found i.content more)
   pub short : length out + length mid ≤ length bits
 
--- the same of all items
+-- the same for all items
 pub record AreRewritten {C D E : Type 0} (form : DataCoding C) (filler : Filler D C E) (course : Course) (items : List (Item C)) (ds : List D) (out bits suffix : List Bool) : Type 0 where
   pub fills : fill filler course ds ≡ Ok out
   pub again : (more : List Bool) → ReadsItems form course items (out ++ more) more
   pub short : length out + length suffix ≤ length bits
 
 module _ {C D E : Type 0} (form : DataCoding C) (filler : Filler D C E) (same_answer : (spec : FieldSpec) (c : C) → filler.gives spec c ≡ form.gives spec c) where
-  -- the bits of the first item, and those of the rest
+  -- The bits of all items are those of the first one, followed by those of the others.
   pub join : (course : Course) (i : Item C) (d : D) (ds : List D) (w out : List Bool) → course [] ≡ take_next i.spec → filler.fills i.spec d ≡ Ok (written_item i.content w)
       → fill filler (after form course i) ds ≡ Ok out → fill filler course (d ∷ ds) ≡ Ok (w ++ out)
   join course i d ds w out next fills rest =
@@ -87,7 +88,7 @@ module _ {C D E : Type 0} (form : DataCoding C) (filler : Filler D C E) (of_item
       }
   rewritten course items ds bits suffix fields drafts h end = absurd drafts
 
--- ---- The item that a dump writes for a content has that content.
+-- ---- The item that a dump writes for a content has this content.
 
 sum_within : (raw : ℕ) (z : ℤ) → raw < 2 ^ 63 → unsigned_abs z ≤ 2 ^ 125 → mag (pos raw +ℤ z) < 2 ^ 127
 sum_within raw (pos r) h g = omega arith
@@ -101,7 +102,7 @@ top_most true w raw h g = let p : 2 ^ w ≤ 2 ^ 63 = pow_mono h in omega arith
 top_most false w raw h g = let p : 2 ^ w ≤ 2 ^ 63 = pow_mono h in omega arith
 
 module _ (spec : FieldSpec) (good : IsSpec spec) where
-  -- a number
+  -- the content of a number
   raw_again : (raw : ℕ) → spec.width ≤ 63 → raw < raw_limit spec.may_be_missing spec.width
       → raw_of spec (decimal_value_of (decimal_text_of (pos raw +ℤ spec.reference) spec.scale) spec.scale) ≡ Ok (number raw)
   raw_again raw narrow h =
@@ -109,7 +110,7 @@ module _ (spec : FieldSpec) (good : IsSpec spec) where
       ∙ ap (raw_within spec.may_be_missing spec.width) (minus_back raw spec.reference)
       ∙ ap (λ b. if b then Ok (number raw) else Err wrong.OutOfRange) (lt-ltb raw (raw_limit spec.may_be_missing spec.width) h)
 
-  -- a text
+  -- the content of a text
   text_again : (count : ℕ) (octets : List ℕ) → FitsText count (text octets) → text_within count octets ≡ Ok (text octets)
   text_again count octets h =
       let none : count - length octets ≡ 0 = omega (arith, h.0) in
@@ -165,7 +166,7 @@ module _ (spec : FieldSpec) (good : IsSpec spec) where
   marked role.Reference c h = absurd h
   marked r c h = ap not (mark_kind spec.kind spec.may_be_missing spec.width c h)
 
-  -- on any line
+  -- The item has this content, whatever its line is.
   pub draft_again : (line : ℕ) (c : Content) → Fits spec c → content_of spec (record { line = line; fxy = spec.fxy; form = draft_value_of spec c }) ≡ Ok c
   draft_again line c h =
       ap (λ b. if b && (if is_reference spec.role then is_marked (draft_value_of spec c) else not (is_marked (draft_value_of spec c))) then content_by_form (draft_value_of spec c) spec else Err
@@ -183,7 +184,7 @@ module _ (spec : FieldSpec) (good : IsSpec spec) where
   role_back role.Reference c h = absurd h
   role_back r c h = ap (λ d. content_by d (bits_for spec.width c)) (coding_is r spec.kind spec refl) ∙ kind_back spec.width spec.kind spec.may_be_missing c good.width h
 
-  -- the bits of a content that fits have that content
+  -- If a content fits, its bits have this content.
   pub content_back : (c : Content) → Fits spec c → content_in spec (bits_for spec.width c) ≡ c
   content_back c h = role_back spec.role c h
 
@@ -200,11 +201,11 @@ module _ (spec : FieldSpec) (good : IsSpec spec) where
   role_fits r bits l = subst (λ d. FitsKind spec.kind spec.may_be_missing spec.width (content_by d bits)) (sym (coding_is r spec.kind spec refl))
       (kind_fits spec.width spec.kind spec.may_be_missing bits l good.width)
 
-  -- the content of bits fits
+  -- The content of any bits of this width fits the field.
   pub content_fits : (bits : List Bool) → length bits ≡ spec.width → Fits spec (content_in spec bits)
   content_fits bits l = role_fits spec.role bits l
 
-  -- a content that fits is read from its bits, whatever follows them
+  -- A content that fits is read back from its bits, whatever follows them.
   pub plain_again : (c : Content) → Fits spec c → (more : List Bool) → plain_field spec (bits_for spec.width c ++ more) ≡ Ok (found c more)
   plain_again c h more =
       let bits = bits_for spec.width c in
@@ -226,14 +227,15 @@ module _ (spec : FieldSpec) (good : IsSpec spec) where
         omega (arith, at, length-drop spec.width bits, ap (λ (x : FieldRead Content). length x.suffix) f),
       )
 
-  -- what was read fits, and its bits were there
+  -- A content that was read fits, and all of its bits were present.
   pub plain_read : (bits mid : List Bool) (c : Content) → plain_field spec bits ≡ Ok (found c mid) → Fits spec c × (spec.width + length mid ≤ length bits)
   plain_read bits mid c e = by_end (nat_lt (length bits) spec.width) bits mid c refl e
 
 pub same_draft : (spec : FieldSpec) (c : Content) (d : Draft) → (d.fxy ≡ spec.fxy) × (d.form ≡ draft_value_of spec c) → d ≡ record { line = d.line; fxy = spec.fxy; form = draft_value_of spec c }
 same_draft spec c d h = λ j. record { line = d.line; fxy = h.0 j; form = h.1 j }
 
--- ---- Where no reference is minus zero, a plain field is written with the bits that were read.
+-- ---- A plain field is written with the bits that were read, unless a redefined reference is minus
+-- zero.
 
 ones_are : (bits : List Bool) → are_all_ones bits ≡ true → replicate (length bits) true ≡ bits
 ones_are [] h = refl
@@ -277,7 +279,7 @@ role_same r spec good bits l h = ap (λ d. bits_for spec.width (content_by d bit
 pub same_bits : (spec : FieldSpec) → IsSpec spec → (bits : List Bool) → length bits ≡ spec.width → (IsMinusZero spec.role bits → ⊥) → bits_for spec.width (content_in spec bits) ≡ bits
 same_bits spec good bits l h = role_same spec.role spec good bits l h
 
--- ---- The one spelling of an item is the value of its content.
+-- ---- The normal form of an item.
 
 sum_back : (v r z : ℤ) → v -ℤ r ≡ z → v ≡ z +ℤ r
 sum_back v r z e = omega (arith, ints, e)
@@ -331,10 +333,10 @@ module _ (spec : FieldSpec) (c : Content) where
   by_draft d true e = form_normal d.form e
   by_draft d false e = cc
 
--- the normal form of a draft is the value that a dump writes for its content
+-- The normal form of a draft is the value that a dump writes for its content.
 pub normal_dumped : (spec : FieldSpec) (d : Draft) (c : Content) → content_of spec d ≡ Ok c → normal_form spec d.form ≡ draft_value_of spec c
 normal_dumped spec d c e = by_draft spec c d (is_of spec d) e
 
--- a draft with a content of a field has the field's descriptor
+-- A draft that has a content in a field has the descriptor of this field.
 pub said_fxy : (spec : FieldSpec) (d : Draft) (c : Content) → content_of spec d ≡ Ok c → d.fxy ≡ spec.fxy
 said_fxy spec d c e = grind (arith, common_steps, eqb-true, and_first, not)

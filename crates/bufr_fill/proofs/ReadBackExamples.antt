@@ -1,4 +1,4 @@
--- Worked examples of the contents of drafts, and of the one spelling of an item.
+-- Worked examples of the contents of drafts, and of the normal form of an item.
 use Rattle.std.proofs.Common.{◌≡◌, ℕ, ℤ, pos, true, [], ◌∷◌, Err, refl, arith, codes}
 use Rattle.std.specs.Fmt.{digits}
 use Rattle.bufr_bits.specs.Prelude.{decimal_text_of, unsigned_text, decimal_value_of}
@@ -8,8 +8,8 @@ use Rattle.bufr_walk.specs.Prelude.{FieldSpec, Content, number, text, missing, r
 use Rattle.bufr_fill.specs.Prelude.{Role, Kind, AllAlike, HasOctets, AllHaveOctets, IsSaid, AreSaid, draft, number_token, text_form, missing_form, reference_token, subset, content_of, normal_form}
 use Rattle.bufr_fill.specs.declared.fault.ItemFault.TheVariants as wrong
 
--- fields: a number in 7 bits, one of two places in 16, a text of four octets, and a reference in 10
--- bits
+-- fields: a 7-bit number, a 16-bit number with two decimal places, a text of four octets, and a
+-- 10-bit redefined reference
 abbrev asked_as : Role → Kind → (width : ℕ) → (scale : ℤ) → FieldSpec
 asked_as r k w s = record { fxy = 257; role = r; kind = k; width = w; scale = s; reference = pos 0; may_be_missing = true; listed = true }
 
@@ -28,7 +28,7 @@ redefining = asked_as role.Reference kind.Numeric 10 (pos 0)
 abbrev item : FieldSpec → Content → Item Content
 item spec content = record { spec = spec; content = content }
 
--- ---- the content of an item
+-- ---- The content of an item.
 
 point_and_zero :
     (IsSaid (item block (number 1)) (draft 24 257 (number_token (codes "1.0"))))
@@ -38,7 +38,7 @@ point_and_zero :
 unfolding decimal_value_of
 point_and_zero = (refl, refl, refl, refl)
 
--- all ones would be read as missing
+-- All ones would read as missing.
 one_above : content_of block (draft 24 257 (number_token (codes "127"))) ≡ Err wrong.OutOfRange
 unfolding decimal_value_of
 one_above = refl
@@ -53,7 +53,7 @@ minus_zero_reference : IsSaid (item redefining (reference (pos 0))) (draft 24 25
 unfolding decimal_value_of
 minus_zero_reference = refl
 
--- ---- all items, one by one
+-- ---- All items, one by one.
 
 two_subsets : AreSaid ((item block (number 1) ∷ []) ∷ (item block missing ∷ []) ∷ []) (subset (draft 24 257 (number_token (codes "1.0")) ∷ []) 25 ∷ subset (draft 26 257 missing_form ∷ []) 27 ∷ [])
 unfolding decimal_value_of
@@ -69,7 +69,7 @@ of_octets = (((omega arith, (omega arith, tt)), (tt, tt)), tt)
 no_octet : HasOctets (text_form (256 ∷ [])) → ⊥
 no_octet h = omega (arith, h.0)
 
--- ---- the one spelling
+-- ---- The normal form.
 
 one : normal_form block (number_token (codes "1.0")) ≡ number_token (codes "1")
 unfolding decimal_value_of decimal_text_of unsigned_text digits
@@ -90,7 +90,7 @@ whole_reference : normal_form redefining (reference_token (codes "-007.0")) ≡ 
 unfolding decimal_value_of decimal_text_of unsigned_text digits
 whole_reference = refl
 
--- ---- drafts with the same contents
+-- ---- Drafts with the same contents.
 
 on_other_lines : AllAlike (subset (draft 24 257 (number_token (codes "10")) ∷ []) 25 ∷ []) (subset (draft 34 257 (number_token (codes "10")) ∷ []) 36 ∷ [])
 on_other_lines = ((λ spec. refl, tt), tt)

@@ -1,4 +1,4 @@
--- What is known of data that are read without a stop, and that bits are read so.
+-- Properties of data that are read without a fault, and of bits that read as given values.
 use Rattle.std.proofs.Common.{◌≡◌, ℕ, zero, suc, ◌*◌, ◌≤◌, Bool, true, false, List, [], ◌∷◌, ◌++◌, length, drop, Option, Some, None, refl, sym, ◌∙◌, ap, subst, arith, append_assoc, length-append, if◌then◌else◌}
 use Rattle.std.proofs.Math.Seq.{drop-append_seam}
 use Rattle.std.specs.Prelude.{is_none, is_some}
@@ -16,7 +16,7 @@ abbrev pub is_together : Values → Bool
 is_together (apart subsets) = false
 is_together (together items) = true
 
--- values are read in the form of the data
+-- The values have the form of the data: plain or compressed.
 pub form_is : (course : Course) (d : Data) (values : Values) (used : ℕ) → HasReading course d values used → d.compressed ≡ is_together values
 form_is course d values used h = by d.compressed h.values_are
   where
@@ -24,14 +24,15 @@ form_is course d values used h = by d.compressed h.values_are
     by false e = ap is_together e
     by true e = ap is_together e
 
--- ---- Bits that are read as values.
+-- ---- Bits that read as given values.
 
--- whatever follows them
+-- The bits read as these values, whatever follows them.
 abbrev pub AreReadAs : Course → (compressed : Bool) → (subsets : ℕ) → Values → (out : List Bool) → Type 0
 AreReadAs course compressed n values out = (more : List Bool) → HasReading course (record { compressed = compressed; subsets = n; bits = out ++ more }) values (length out)
 
 module _ (course : Course) (sane : (m : ℕ) → IsSane m course) where
-  -- a subset, and those after it
+  -- Bits that read as one subset, and bits that read as those after it, together read as all of
+  -- them.
   pub subset_then : (n : ℕ) (items : List (Item Content)) (values : Values) (first others : List Bool)
       → ((more : List Bool) → ReadsItems plain course items (first ++ more) more) → course (answers_in answer_of items) ≡ at_end
       → AreReadAs course false n values others → AreReadAs course false (suc n) (apart (items ∷ each_subset n values)) (first ++ others)
@@ -51,7 +52,7 @@ module _ (course : Course) (sane : (m : ℕ) → IsSane m course) where
         within = omega (arith, length-append first others, length-append first (others ++ more), length-append others more);
       })
 
-  -- the items of compressed data
+  -- Bits that read as the items of a pass over compressed data read as these values.
   pub items_read : (n : ℕ) (items : List (Item (List Content))) (out : List Bool)
       → ((more : List Bool) → ReadsItems (packed (suc n)) course items (out ++ more) more) → course (answers_in answer_first items) ≡ at_end → length items * suc n ≤ max_values
       → AreReadAs course true (suc n) (together items) out
@@ -64,7 +65,7 @@ module _ (course : Course) (sane : (m : ℕ) → IsSane m course) where
         within = omega (arith, length-append out more);
       }
 
--- no subsets
+-- If there are no subsets, no bits are read.
 pub none_read : (course : Course) → AreReadAs course false 0 (apart []) []
 none_read course more = record { none = refl; values_are = refl; left = refl; within = omega arith }
 
@@ -80,11 +81,12 @@ module _ (table : List Row) (template : Tree) (rows : AreRead table) (legal : Is
   sane : (m : ℕ) → IsSane m course
   sane m = legal_sane table template rows legal m
 
-  -- how many bits a reading without a stop takes
+  -- If a reading does not stop, its values take a number of bits at the beginning.
   pub reads_as : (d : Data) → (reading_of course d).stop ≡ None → (used : ℕ) × HasReading course d (reading_of course d).values used
   reads_as d none = let s = reading_left course sane d in (s.0, record { none = none; values_are = refl; left = s.2; within = s.1 })
 
-  -- What holds of no subsets, and of one more if it holds of those after it, holds of all that were read.
+  -- Induction over the subsets of plain data. P is true of no subsets, and of one more subset if it
+  -- is true of those after it. Therefore, it is true of all data that were read.
   module _ (P : ℕ → List (List (Item Content)) → (bits left : List Bool) → Type 0) (none : (bits : List Bool) → P 0 [] bits bits)
       (more : (n : ℕ) (items : List (Item Content)) (subsets : List (List (Item Content))) (bits mid left : List Bool) → AllFields items
       → ReadsItems plain course items bits mid → course (answers_in answer_of items) ≡ at_end → P n subsets mid left → P (suc n) (items ∷ subsets) bits left) where
@@ -103,7 +105,8 @@ module _ (table : List Row) (template : Tree) (rows : AreRead table) (legal : Is
         let h = subst (λ b. HasReading course (record d { compressed = b }) (apart subsets) used) (form_is course d (apart subsets) used read) read in
         subst (λ (q : List (List (Item Content)) × List Bool). P d.subsets q.0 d.bits q.1) (λ j. (each_subset 0 (h.values_are j), h.left j)) (of_passes d.subsets d.bits h.none)
 
-  -- What holds of no items, where there are no subsets, and of those of one pass holds of all that were read.
+  -- The same for compressed data. P is true of no items if there are no subsets, and of the items
+  -- of a pass. Therefore, it is true of all data that were read.
   module _ (P : ℕ → List (Item (List Content)) → (bits left : List Bool) → Type 0) (none : (bits : List Bool) → P 0 [] bits bits)
       (some : (n : ℕ) (items : List (Item (List Content))) (bits left : List Bool) → AllFields items → ReadsItems (packed (suc n)) course items bits left
       → course (answers_in answer_first items) ≡ at_end → length items * suc n ≤ max_values → P (suc n) items bits left) where

@@ -1,5 +1,6 @@
--- Worked examples of what an encoder refuses: each bound from both sides, of two faults at one item
--- the first, and the least k on both sides of each step.
+-- Worked examples of what an encoder refuses. Each bound is shown from both sides. If an item has
+-- two faults, the example shows which one is reported. The least k is shown on both sides of each
+-- step.
 use Rattle.std.proofs.Common.{◌≡◌, ◌+◌, ◌++◌, ℕ, Bool, List, [], ◌∷◌, map, replicate, Option, Some, None, Result, Ok, Err, pos, refl, codes}
 use Rattle.bufr_bits.specs.Prelude.{bits_of, bits_in, decimal_value_of}
 use Rattle.bufr_tables.specs.declared.table_b.Kind.TheVariants as kind
@@ -18,7 +19,7 @@ fault_in : Result (List Bool) DraftFault → Option DraftFault
 fault_in (Ok bits) = None
 fault_in (Err why) = Some why
 
--- why an item cannot be written as the first field of a template, or none
+-- why an item cannot be written as the first field of a template, or `None`
 fault_of : Tree → (fxy : ℕ) → DraftValue → Option DraftFault
 unfolding fault_in plain_bits decimal_value_of
 fault_of tree fxy value = fault_in (plain_bits tree (subset (draft 24 fxy value ∷ []) 25 ∷ []))
@@ -29,8 +30,8 @@ at_24 why = Some (at_line 24 why)
 abbrev expects : (fxy : ℕ) → Option DraftFault
 expects fxy = at_24 (wrong.WrongDescriptor (expected.Item fxy))
 
--- 012101 has 16 bits and scale 2, and its greatest number reads as missing; 005002 has 15 bits and
--- the reference -9000. Fails where a bound is another, at either end.
+-- 012101 has 16 bits and scale 2, and its greatest number reads as missing. 005002 has 15 bits and
+-- the reference -9000. The example fails if a bound is different at either end.
 -- rule: fault-53
 quantities_out_of_range :
     (map (λ digits. fault_of temperature 3173 (number_token digits)) (codes "0" ∷ codes "-0" ∷ codes "-0.01" ∷ codes "655.34" ∷ codes "655.35" ∷ codes "655.36" ∷ [])
@@ -46,7 +47,8 @@ first_subset_refused :
 unfolding fault_in plain_bits decimal_value_of block
 first_subset_refused = refl
 
--- Of class 31 all ones is a number. Fails where it is out of range, or where one more fits.
+-- In class 31, all ones is a number. The example fails if it is out of range, or if a greater
+-- number is accepted.
 -- rule: fault-53
 class_31_out_of_range :
     (map (λ digits. fault_of coded_spec 7957 (number_token digits)) (codes "0" ∷ codes "-1" ∷ codes "63" ∷ codes "64" ∷ []) ≡ None ∷ at_24 wrong.OutOfRange ∷ None ∷ at_24 wrong.OutOfRange ∷ [])
@@ -55,7 +57,7 @@ class_31_out_of_range :
 unfolding fault_of coded_spec fxy
 class_31_out_of_range = (refl, refl, refl)
 
--- the greatest numbers of 63 bits, where all ones is missing and where it is not
+-- the greatest 63-bit numbers, if all ones means missing and if it does not
 -- rule: fault-53
 greatest_of_63_bits :
     (map (λ digits. fault_of (operator (fxy 2 6 63) block) 257 (number_token digits)) (codes "9223372036854775806" ∷ codes "9223372036854775807" ∷ []) ≡ None ∷ at_24 wrong.OutOfRange ∷ [])
@@ -63,8 +65,8 @@ greatest_of_63_bits :
 unfolding fault_of block coded_spec fxy
 greatest_of_63_bits = (refl, refl)
 
--- A reference of Y bits has a sign and Y - 1 bits of magnitude, and all ones is a number. Fails
--- where it is a two's complement, or where all ones is refused.
+-- A redefined reference of Y bits has a sign and a magnitude of Y - 1 bits, and all ones is a
+-- number. The example fails if it is in two's complement, or if all ones is refused.
 -- rule: fault-53
 references_out_of_range :
     (map (λ digits. fault_of (operator (fxy 2 3 10) temperature) 3173 (reference_token digits)) (codes "511" ∷ codes "512" ∷ codes "-511" ∷ codes "-512" ∷ [])
@@ -75,8 +77,8 @@ references_out_of_range :
 unfolding fault_of temperature fxy
 references_out_of_range = (refl, refl, refl)
 
--- A text has at most the octets of its field, of 2 05, of 2 08 or of Table B; an empty one is
--- written as spaces.
+-- A text has at most the octets of its field, whether 2 05 Y, 2 08 Y or Table B gives the width. An
+-- empty text is written as spaces.
 -- rule: fault-54
 texts_too_long :
     (map (λ octets. fault_of four_letters 34052 (text_form octets)) ([] ∷ replicate 4 65 ∷ replicate 5 65 ∷ []) ≡ None ∷ None ∷ at_24 wrong.TextLong ∷ [])
@@ -86,15 +88,16 @@ texts_too_long :
 unfolding fault_of four_letters name fxy
 texts_too_long = (refl, refl, refl, refl)
 
--- A text of octets 255 alone would read as missing; with an octet 254 or a space it does not.
+-- A text whose octets are all 255 would read as missing. One with an octet of 254 or a space does
+-- not.
 -- rule: fault-53
 texts_that_read_as_missing : map (λ octets. fault_of four_letters 34052 (text_form octets)) (replicate 4 255 ∷ replicate 3 255 ∷ (replicate 3 255 ++ 254 ∷ []) ∷ [])
     ≡ at_24 wrong.OutOfRange ∷ None ∷ None ∷ []
 unfolding fault_of four_letters
 texts_that_read_as_missing = refl
 
--- Class 31 alone is never missing, by its row or by 2 06, and nor is a factor; texts may be, and so
--- may classes 30 and 32.
+-- In class 31, a number is never missing, whether its width comes from its row or from 2 06 Y, nor
+-- is a factor. Texts may be missing, and so may elements of classes 30 and 32.
 -- rule: fault-55
 missing_or_not :
     (map (λ d. fault_of (operator (fxy 2 6 4) (element d bare)) d missing_form) (fxy 0 30 1 ∷ fxy 0 31 3 ∷ fxy 0 32 1 ∷ []) ≡ None ∷ at_24 wrong.MissingForbidden ∷ None ∷ [])
@@ -105,9 +108,10 @@ missing_or_not :
 unfolding fault_of coded_spec name four_letters fxy
 missing_or_not = (refl, refl, refl, refl, refl)
 
--- ---- Of two faults at one item the first: 62, 51, 52, 55, 54, 53.
+-- ---- If an item has two faults, the first of these is reported: 62, 51, 52, 55, 54, 53.
 
--- 62 before 51, 52 and 53, by 2 01; before 55, by 2 06; before 54, by 2 03.
+-- Fault 62 comes before 51, 52 and 53 (after 2 01 Y), before 55 (after 2 06 Y), and before 54
+-- (after 2 03 Y).
 -- rule: fault-62-first, fault-order-of-an-item
 walk_is_first :
     (map (fault_of (operator (fxy 2 1 121) block) 257) (text_form (codes "A") ∷ number_token (codes "0.5") ∷ number_token (codes "999") ∷ []) ≡ replicate 3 (at_24 (walk_refused (refusal.Width 257))))
@@ -117,7 +121,7 @@ walk_is_first :
 unfolding fault_of block coded_spec name fxy
 walk_is_first = (refl, refl, refl, refl)
 
--- 51 before 52, 55, 54 and 53.
+-- Fault 51 comes before 52, 55, 54 and 53.
 -- rule: fault-51, fault-order-of-an-item
 descriptor_is_second :
     (map (fault_of temperature 257) (text_form (codes "A") ∷ number_token (codes "0.005") ∷ number_token (codes "-1") ∷ []) ≡ replicate 3 (expects 3173))
@@ -127,7 +131,8 @@ descriptor_is_second :
 unfolding fault_of temperature coded_spec four_letters
 descriptor_is_second = (refl, refl, refl, refl)
 
--- So is the mark of a reference: before 52, 53 and 55. Fails where the number is looked at first.
+-- This is also true of the mark of a redefined reference, which comes before 52, 53 and 55. The
+-- example fails if the number is checked first.
 -- rule: fault-51, fault-order-of-an-item
 mark_is_second :
     (map (fault_of (operator (fxy 2 3 10) temperature) 3173) (missing_form ∷ text_form (codes "A") ∷ number_token (codes "512") ∷ number_token (codes "1") ∷ [])
@@ -137,8 +142,8 @@ mark_is_second :
 unfolding fault_of temperature coded_spec fxy
 mark_is_second = (refl, refl, refl)
 
--- 52 before 54 and 53: a long text and one of octets 255 for a number, a number for a text, and
--- numbers that are not whole at their scale, however large.
+-- Fault 52 comes before 54 and 53: a long text or one of octets 255 for a number, a number for a
+-- text, and numbers that are not whole at their scale, however large they are.
 -- rule: fault-52, fault-order-of-an-item
 kind_is_before_range :
     (map (fault_of temperature 3173) (text_form (replicate 256 65) ∷ text_form (replicate 2 255) ∷ number_token (codes "655.355") ∷ number_token (codes "-0.001") ∷ number_token (replicate 40 57 ++ codes ".155") ∷ []) ≡ replicate 5 (at_24 wrong.Number))
@@ -149,7 +154,7 @@ kind_is_before_range :
 unfolding fault_of temperature four_letters fxy
 kind_is_before_range = (refl, refl, refl, refl, refl)
 
--- 54 before 53: five octets of 255 for four.
+-- Fault 54 comes before 53: five octets of 255 for a text of four.
 -- rule: fault-54, fault-order-of-an-item
 length_is_before_missing : map (λ octets. fault_of four_letters 34052 (text_form octets)) (replicate 5 255 ∷ replicate 4 255 ∷ []) ≡ at_24 wrong.TextLong ∷ at_24 wrong.OutOfRange ∷ []
 unfolding fault_of four_letters
@@ -161,11 +166,12 @@ two_blocks : Tree
 unfolding fxy
 two_blocks = element (fxy 0 1 1) (element (fxy 0 1 1) bare)
 
--- an item that does not fit in the second place of subset 1, and one in the first place of subset 2
+-- an item that does not fit, as the second item of subset 1, and another one as the first item of
+-- subset 2
 late_and_early : List Subset
 late_and_early = subset (numbered 24 257 (codes "1") ∷ numbered 25 257 (codes "127") ∷ []) 26 ∷ subset (numbered 27 257 (codes "0.5") ∷ numbered 28 257 (codes "1") ∷ []) 29 ∷ []
 
--- Data that are not compressed are examined subset by subset, compressed data item by item.
+-- Plain data are checked subset by subset, compressed data item by item.
 -- rule: fault-order-of-subsets
 by_subset_or_by_item :
     (plain_bits two_blocks late_and_early ≡ Err (at_line 25 wrong.OutOfRange))
@@ -173,8 +179,9 @@ by_subset_or_by_item :
 unfolding plain_bits packed_to_bits two_blocks late_and_early decimal_value_of bits_in
 by_subset_or_by_item = (refl, refl)
 
--- An item that is left out is expected at the line that ends its subset, and an item too many is at
--- fault after all others. Fails where the number of items is examined before the items.
+-- If an item is left out, the fault is on the line that ends its subset. An item too many is
+-- reported after all other faults. The example fails if the number of items is checked before the
+-- items.
 -- rule: fault-51
 too_few_and_too_many :
     (plain_bits two_blocks (subset (numbered 24 257 (codes "1") ∷ []) 25 ∷ []) ≡ Err (at_line 25 (wrong.WrongDescriptor (expected.Item 257))))
@@ -184,7 +191,8 @@ too_few_and_too_many :
 unfolding plain_bits packed_to_bits two_blocks block decimal_value_of bits_in
 too_few_and_too_many = (refl, refl, refl, refl)
 
--- An operator after the last item that is refused comes before an item too many, on its line.
+-- If an operator after the last item is refused, this is reported before an item too many, on the
+-- line of this item.
 -- rule: fault-62-first, fault-51
 walk_before_an_item_too_many :
     (plain_bits (operator (fxy 2 3 10) (element (fxy 0 12 101) (operator (fxy 2 8 0) bare))) (subset (draft 24 3173 (reference_token (codes "1")) ∷ numbered 25 3173 (codes "1") ∷ []) 26 ∷ [])
@@ -194,17 +202,18 @@ walk_before_an_item_too_many :
 unfolding plain_bits packed_to_bits decimal_value_of bits_in fxy
 walk_before_an_item_too_many = (refl, refl)
 
--- ---- 58 and 59 come last, after the faults of every subset, and 62 comes before them.
+-- ---- Faults 58 and 59 come last, after the faults of every subset. Fault 62 comes before them.
 
--- two or three subsets of one item each, from line 24 on
+-- two subsets of one item each, from line 24 on
 abbrev each : (fxy : ℕ) → DraftValue → DraftValue → List Subset
 each fxy a b = subset (draft 24 fxy a ∷ []) 25 ∷ subset (draft 26 fxy b ∷ []) 27 ∷ []
 
--- the third may have another descriptor
+-- the same with a third subset, whose item may have another descriptor
 abbrev with_third : (fxy : ℕ) → DraftValue → List Subset → List Subset
 with_third fxy c subsets = subsets ++ subset (draft 28 fxy c ∷ []) 29 ∷ []
 
--- Factors 0 and 1 are 58, where the third subset has no fault of its own: 51, 52, 55 or 53.
+-- The factors 0 and 1 cause fault 58, unless the third subset has a fault of its own: 51, 52, 55 or
+-- 53.
 -- rule: fault-58, fault-order-of-subsets
 factors_differ_last :
     (packed_to_bits delayed_blocks (each 7937 (number_token (codes "0")) (number_token (codes "1"))) ≡ Err (at_line 26 wrong.UnequalFactor))
@@ -214,7 +223,8 @@ factors_differ_last :
 unfolding packed_to_bits delayed_blocks decimal_value_of bits_in
 factors_differ_last = (refl, refl, refl)
 
--- References that differ are 59, at subset 1, where the third subset has no fault of its own.
+-- References that differ cause fault 59, at subset 1, unless the third subset has a fault of its
+-- own.
 -- rule: fault-59, fault-order-of-subsets
 references_differ_last :
     (packed_to_bits (operator (fxy 2 3 10) temperature) (each 3173 (reference_token (codes "1")) (reference_token (codes "2"))) ≡ Err (at_line 24 wrong.Increment))
@@ -223,7 +233,7 @@ references_differ_last :
 unfolding packed_to_bits temperature decimal_value_of bits_in fxy
 references_differ_last = (refl, refl)
 
--- Texts that differ in octet 64 are 59, where the third is not too long (54) and does not read as
+-- Texts that differ in octet 64 cause fault 59, unless the third text is too long (54) or reads as
 -- missing (53).
 -- rule: fault-59, fault-order-of-subsets
 texts_differ_last : map (λ c. packed_to_bits (operator (fxy 2 5 64) bare) (with_third 34112 (text_form c) (each 34112 (text_form (replicate 64 65)) (text_form (replicate 63 65)))))
@@ -232,7 +242,7 @@ texts_differ_last : map (λ c. packed_to_bits (operator (fxy 2 5 64) bare) (with
 unfolding packed_to_bits fxy
 texts_differ_last = refl
 
--- 62 comes before 58 and 59, at the line of subset 1.
+-- Fault 62 comes before 58 and 59, on the line of subset 1.
 -- rule: fault-62-first
 walk_before_packing :
     (packed_to_bits (operator (fxy 2 3 10) delayed_blocks) (each 7937 (number_token (codes "0")) (number_token (codes "1"))) ≡ Err (at_line 24 (walk_refused (refusal.Defining 7937))))
@@ -241,11 +251,11 @@ walk_before_packing :
 unfolding packed_to_bits delayed_blocks fxy
 walk_before_packing = (refl, refl)
 
--- a field of 8 bits without a missing value
+-- an 8-bit field that is never missing
 asked : Role → FieldSpec
 asked r = record { fxy = 7937; role = r; kind = kind.Numeric; width = 8; scale = pos 0; reference = pos 0; may_be_missing = Bool.false; listed = Bool.true }
 
--- at an index, an item of each of two subsets, of different numbers
+-- a row at an index, with the items of two subsets, whose numbers differ
 at_index : ℕ → Role → (fxy : ℕ) → Result Bool DraftFault
 unfolding asked decimal_value_of
 at_index n r d = only (pack_across (asked r) (record { index = n; cells = record { draft = Some (draft 24 d (number_token (codes "1"))); end_line = 25 } ∷ record { draft = Some (draft 26 d (number_token (codes "2"))); end_line = 27 } ∷ [] }))
@@ -254,7 +264,7 @@ at_index n r d = only (pack_across (asked r) (record { index = n; cells = record
     only (Ok a) = Ok Bool.true
     only (Err why) = Err why
 
--- 134,217,728 values are not too many. One more is, before 51 and 58.
+-- 134,217,728 values are not too many, but one more is, and this is reported before 51 and 58.
 -- rule: fault-62, fault-62-first
 too_many_values_first :
     (at_index 67108863 role.Element 7937 ≡ Ok Bool.true)
@@ -268,7 +278,7 @@ too_many_values_first = (refl, refl, refl, refl, refl, refl)
 
 -- ---- The least k.
 
--- the k of contents that are packed, or 64
+-- the k of packed contents, or 64 if they cannot be packed
 k_in : FieldSpec → Result (List Bool) FieldFault → ℕ
 k_in spec (Ok bits) = k_of spec bits
 k_in spec (Err why) = 64
@@ -280,8 +290,9 @@ least spec contents = k_in spec (packing spec contents)
 field : Kind → (width : ℕ) → (may_be_missing : Bool) → FieldSpec
 field k w m = record { fxy = 257; role = role.Element; kind = k; width = w; scale = pos 0; reference = pos 0; may_be_missing = m; listed = Bool.true }
 
--- An increment of all ones is missing, so 1 and 2 need two bits, 3 needs three, 7 needs four. Fails
--- where an increment may be all ones, or where it must be less by one.
+-- An increment of all ones means missing, so 1 and 2 need two bits, 3 needs three, and 7 needs
+-- four. The example fails if an increment may be all ones, or if the greatest number below all ones
+-- is refused.
 -- rule: packs-numbers
 least_of_numbers :
     (map (λ n. least (field kind.Numeric 16 Bool.true) (number 0 ∷ number n ∷ [])) (0 ∷ 1 ∷ 2 ∷ 3 ∷ 6 ∷ 7 ∷ 14 ∷ 15 ∷ []) ≡ 0 ∷ 2 ∷ 2 ∷ 3 ∷ 3 ∷ 4 ∷ 4 ∷ 5 ∷ [])
@@ -289,13 +300,13 @@ least_of_numbers :
 unfolding least field
 least_of_numbers = (refl, refl)
 
--- Where none is missing, it may be.
+-- If a number is never missing, an increment may be all ones.
 -- rule: packs-class-31
 least_of_class_31 : map (λ n. least (field kind.Numeric 16 Bool.false) (number 0 ∷ number n ∷ [])) (0 ∷ 1 ∷ 2 ∷ 3 ∷ 4 ∷ 7 ∷ 8 ∷ []) ≡ 0 ∷ 1 ∷ 2 ∷ 2 ∷ 3 ∷ 3 ∷ 4 ∷ []
 unfolding least field
 least_of_class_31 = refl
 
--- the greatest spread of numbers: 63 bits
+-- the widest range of numbers: 63 bits
 -- rule: packs-numbers, packs-class-31
 least_of_63_bits :
     (least (field kind.Numeric 63 Bool.true) (number 0 ∷ number 9223372036854775806 ∷ []) ≡ 63)
@@ -303,9 +314,9 @@ least_of_63_bits :
 unfolding least field
 least_of_63_bits = (refl, refl)
 
--- Of texts k is the least count of octets, from 1 on, that writes each text without the spaces at
--- its end and none as octets 255 alone. Fails where spaces alone need none, or where a text that
--- begins with octets 255 becomes missing.
+-- For texts, k is the least number of octets, at least 1, with which no text loses anything but
+-- trailing spaces, and none has only octets of 255. The example fails if a text of spaces needs no
+-- octets, or if a text that begins with octets of 255 becomes missing.
 -- rule: packs-texts, packs-texts-not-missing
 least_of_texts :
     (map (λ octets. least (field kind.Character 32 Bool.true) (text (codes "AA  ") ∷ text octets ∷ [])) (codes "AA  " ∷ codes "    " ∷ codes "AB  " ∷ codes "ABC " ∷ codes "ABCD" ∷ codes "   D" ∷ []) ≡ 0 ∷ 2 ∷ 2 ∷ 3 ∷ 4 ∷ 4 ∷ [])

@@ -1,4 +1,4 @@
--- One item of all subsets, as the code reads and packs it.
+-- How the code reads and packs one item of all subsets.
 use Rattle.std.proofs.lemmas.Grind.{common_steps}
 use Rattle.std.proofs.Common.{◌≡◌, ℕ, zero, suc, ◌+◌, ◌-◌, ◌*◌, ◌/◌, ◌%◌, ◌<◌, ◌≤◌, ◌&&◌, max, Bool, true, false, List, [], ◌∷◌, ◌++◌, length, take, drop, get_or, replicate, refl, sym, ◌∙◌, ap, arith, add-one, append_assoc, ℤ, Option, Some, None, Result, Ok, Err, ◌⊎◌, inl, inr, nat_lt, if◌then◌else◌, slice_get, ◌==◌}
 use Rattle.std.proofs.lemmas.Bool.{eq-eqb, eqb-true, le-ltb, lt-ltb, ne_eqb}
@@ -20,23 +20,23 @@ use Rattle.std.specs.Result.{result_map_both}
 use Rattle.bufr_fill.specs.declared.fault.DraftFault.TheVariants as draft_fault
 use Rattle.bufr_walk.specs.declared.spec.Role.TheVariants as role
 
--- contents before others, or the fault of these
+-- prepends contents to a result; a fault stays
 abbrev pub with_contents_before : List Content → Result (List Content) DraftFault → Result (List Content) DraftFault
 with_contents_before cs (Ok more) = Ok (cs ++ more)
 with_contents_before cs (Err f) = Err f
 
--- the first `number` cells were converted
+-- The first `number` cells were converted.
 pub record IsGathering (count : ℕ) (spec : FieldSpec) (cells : List RowCell) (number : ℕ) (contents : List FieldContent) : Type 0 where
   pub so : contents_here spec cells ≡ with_contents_before (padded_contents count contents) (contents_here spec (drop number cells))
   pub all : AreContentsOf spec contents
   pub many : length contents ≡ number
 
--- the line of the first cell that is left and whose content is not the first of all
+-- the line of the first remaining cell whose content is not that of the first cell
 abbrev pub unlike_from : (all left : List Content) → List RowCell → ℕ
 unlike_from [] left cells = 0
 unlike_from (c ∷ cs) left cells = first_unlike c left cells
 
--- references that are equal, and those that are not
+-- redefined references that are equal, and those that are not
 pub same_references : (a b : ℤ) → a ≡ b → true ≡ same (reference a) (reference b)
 same_references a b e = sym (ap (λ x. same (reference a) (reference x)) (sym e) ∙ content_self (reference a))
 
@@ -50,11 +50,12 @@ other_references a b h = by (same (reference a) (reference b)) refl
     by true e = absurd (h (same_value a b (content_same (reference a) (reference b) e)))
     by false e = sym e
 
--- the first of those that are left
+-- The remaining items begin with the one at the index.
 pub at_next : {X : Type 0} (xs : List X) (i : ℕ) (x : X) → i < length xs → x ≡ get_or xs i x → drop i xs ≡ x ∷ drop (i + 1) xs
 at_next xs i x h e = drop-cons xs i x h ∙ ap (λ y. y ∷ drop (suc i) xs) (sym e) ∙ ap (λ j. x ∷ drop j xs) (sym (add-one i))
 
--- the octets needed so far, and by those that are left
+-- The octets needed so far and those needed by the remaining contents determine those needed by
+-- all.
 pub need_more : (ds : List FieldContent) (i : ℕ) (d : FieldContent) (most one : ℕ) → i < length ds → d ≡ get_or ds i d → max most (most_need (drop i ds)) ≡ most_need ds → one ≡ need_of d
     → max (max one most) (most_need (drop (i + 1) ds)) ≡ most_need ds
 need_more ds i d most one h e inv is = omega (arith, ap most_need (at_next ds i d h e), inv, is)
@@ -62,7 +63,7 @@ need_more ds i d most one h e inv is = omega (arith, ap most_need (at_next ds i 
 pub need_done : (ds : List FieldContent) (i most : ℕ) → 1 ≤ most → length ds ≤ i → max most (most_need (drop i ds)) ≡ most_need ds → most ≡ most_need ds
 need_done ds i most some h inv = omega (arith, some, ap most_need (drop_all i ds h), inv)
 
--- the first k that passes
+-- If the first k passes, it is the result.
 first_here : (p : ℕ → Bool) (fuel k : ℕ) → 1 ≤ fuel → p k ≡ true → first_from p fuel k ≡ k
 first_here p zero k h e = absurd (omega (arith, h))
 first_here p (suc fuel) k h e = ap (λ b. if b then k else first_from p fuel (k + 1)) e
@@ -83,11 +84,11 @@ pub least_end : (m : Bool) (s k : ℕ) → 64 ≤ k → least_from m s k ≡ k
 unfolding least_from
 least_end m s k h = let q : 64 - k ≡ 0 = omega (arith, h) in ap (λ f. first_from (λ k. nat_lt s (raw_limit m k)) f k) q
 
--- a text has at most 255 octets
+-- A text has at most 255 octets.
 pub eighth_most : (w : ℕ) → w ≤ 2040 → w / 8 ≤ 255
 eighth_most w h = omega (arith, h)
 
--- what holds of all holds of each
+-- Each of the contents is one that the field can have.
 pub is_content_at : (spec : FieldSpec) (ds : List FieldContent) (i : ℕ) (d : FieldContent) → i < length ds → AreContentsOf spec ds → IsContentOf spec (get_or ds i d)
 is_content_at spec [] i d h all = absurd (omega (arith, h))
 is_content_at spec (x ∷ ds) zero d h all = all.0
@@ -98,7 +99,7 @@ short_at base k [] i d h s = absurd (omega (arith, h))
 short_at base k (x ∷ ds) zero d h s = s.0
 short_at base k (x ∷ ds) (suc i) d h s = short_at base k ds i d (omega (arith, h)) s.1
 
--- the content at an index, and those after it
+-- The contents from an index on are the content at the index and those after it.
 pub at_index : {X : Type 0} (xs : List X) (i : ℕ) (z : X) → i < length xs → drop i xs ≡ get_or xs i z ∷ drop (i + 1) xs
 at_index xs i z h = drop-cons xs i z h ∙ ap (λ j. get_or xs i z ∷ drop j xs) (sym (add-one i))
 
@@ -106,7 +107,7 @@ pub most_some : (ds : List FieldContent) → 1 ≤ most_need ds
 most_some [] = omega arith
 most_some (d ∷ ds) = omega (arith, most_some ds)
 
--- bits of the first contents, and of those that are left
+-- The bits of all contents are those of the first contents, followed by those of the others.
 flat_one : (f : Content → List Bool) (old now new bits rest all : List Bool) → now ++ (bits ++ rest) ≡ old ++ all → new ≡ now ++ bits → new ++ rest ≡ old ++ all
 flat_one f old now new bits rest all inv is = ap (λ x. x ++ rest) is ∙ append_assoc now bits rest ∙ inv
 
@@ -119,14 +120,15 @@ pub flat_done : (f : Content → List Bool) (count : ℕ) (old now : List Bool) 
     → now ++ flat_map f (padded_contents count (drop i ds)) ≡ old ++ flat_map f (padded_contents count ds) → now ≡ old ++ flat_map f (padded_contents count ds)
 flat_done f count old now ds i h inv = sym (append-nil now) ∙ ap (λ xs. now ++ flat_map f (padded_contents count xs)) (sym (drop_all i ds h)) ∙ inv
 
--- n numbers of k bits, of which i were put: there is room for the next, and for those after it
+-- If i of n k-bit numbers were written and there is room for the others, there is room for the next
+-- one and for those after it.
 pub room_next : (n i k room next : ℕ) → n * k ≤ room + i * k → room ≤ next + k → n * k ≤ next + (i + 1) * k
 room_next n i k room next e h = omega (arith, e, h)
 
 pub few_bits : (n k most : ℕ) → k ≤ most → n * k ≤ most * n
 few_bits n k most h = let most = mul-le-mul_right n h in omega (arith, most)
 
--- whether those that are left are the same as one
+-- If the next content is the same, those after it decide whether all are.
 pub alike_more : (count : ℕ) (c : Content) (ds : List FieldContent) (i : ℕ) (d : FieldContent) (b : Bool) → i < length ds → d ≡ get_or ds i d
     → list_all (same c) (padded_contents count ds) ≡ list_all (same c) (padded_contents count (drop i ds)) → same c (padded_content count d) ≡ true
     → list_all (same c) (padded_contents count ds) ≡ list_all (same c) (padded_contents count (drop (i + 1) ds))
@@ -142,7 +144,7 @@ pub alike_done : (count : ℕ) (c : Content) (ds : List FieldContent) (i : ℕ) 
     → list_all (same c) (padded_contents count ds) ≡ true
 alike_done count c ds i h inv = inv ∙ ap (λ xs. list_all (same c) (padded_contents count xs)) (drop_all i ds h)
 
--- octets of zeros
+-- Octets of 0 consist of zero bits.
 zeros_are : (n : ℕ) → bits_of (replicate n 0) ≡ replicate (8 * n) false
 unfolding bits_of
 zeros_are zero = refl
@@ -159,7 +161,7 @@ zero_bits w most whole =
 
 -- ---- Steps of the loops over a row.
 
--- the cell at a number
+-- the cell at index j
 pub record CellAt (cells : List RowCell) (j : ℕ) : Type 0 where
   pub cell : RowCell
   pub is : slice_get cells j ≡ Some cell
@@ -173,7 +175,7 @@ cell_at (c ∷ cells) (suc j) h =
     let n : suc (j + 1) ≡ suc j + 1 = omega arith in
     record { cell = r.cell; is = r.is; left = r.left ∙ ap (λ k. r.cell ∷ drop k (c ∷ cells)) n }
 
--- an entry has the content of its cell
+-- An entry has the content of its cell.
 entry_same : (spec : FieldSpec) (o : Option Draft) (line : ℕ) → entry_here spec (entry_or_end o line) ≡ content_here spec o line
 entry_same spec None line = refl
 entry_same spec (Some d) line = refl
@@ -196,7 +198,7 @@ contents_before_more cs x (Err f) = refl
 
 module _ (count : ℕ) (spec : FieldSpec) (cells : List RowCell) (j : ℕ) (ds : List FieldContent) (e : DraftEntry) (inv : IsGathering count spec cells j ds) (within : j < length cells)
     (here : (c : RowCell) → slice_get cells j ≡ Some c → e ≡ entry_or_end c.draft c.end_line) where
-  -- the contents of the row, by the next cell
+  -- the contents of the row, given the next cell
   next_is : (k : CellAt cells j) → contents_here spec cells ≡ with_contents_before (padded_contents count ds)
       (entry_here spec e >>= λ first. contents_here spec (drop (j + 1) cells) >>= λ rest. Ok (first ∷ rest))
   next_is k =
@@ -250,12 +252,12 @@ end_more cells j (Ends line) h here is inv = by (cell_at cells j h)
 pub end_done : (cells : List RowCell) (j : ℕ) → length cells ≤ j → all_at_end cells ≡ all_at_end (drop j cells) → all_at_end cells ≡ Ok tt
 end_done cells j h inv = inv ∙ ap all_at_end (drop_all j cells h)
 
--- the first subset's line
+-- The line that the code finds is that of the first subset's item, or of its end.
 pub first_is : (cells : List RowCell) (n : ℕ) → 0 < length cells → ((c : RowCell) → slice_get cells 0 ≡ Some c → n ≡ cell_line c) → n ≡ first_line cells
 first_is [] n h here = absurd (omega (arith, h))
 first_is (c ∷ cells) n h here = here c refl
 
--- the line of the first that differs
+-- The first content that differs is the next one, or is among those after it.
 unlike_left : (c : Content) (cs : List Content) (d : Content) (ds : List Content) (k : RowCell) (ks : List RowCell) (b : Bool) → same c d ≡ b
     → unlike_from (c ∷ cs) (d ∷ ds) (k ∷ ks) ≡ (if b then unlike_from (c ∷ cs) ds ks else cell_line k)
 unlike_left c cs d ds k ks b e = ap (λ t. if t then first_unlike c ds ks else cell_line k) e
@@ -292,7 +294,7 @@ module _ (count : ℕ) (ds : List FieldContent) (cells : List RowCell) (j : ℕ)
 -- ---- One item of all subsets, as the code writes it.
 
 module _ (spec : FieldSpec) (index : ℕ) (subsets : List Subset) where
-  -- with too many values
+  -- If there are too many values, the item is refused.
   pub many_fault : max_values < (index + 1) * length (cells_at index subsets)
       → pack_across spec (item_row index subsets) ≡ Err (at_line (first_line (cells_at index subsets)) (too_many_values spec.fxy))
   many_fault h =
@@ -328,13 +330,13 @@ module _ (spec : FieldSpec) (index : ℕ) (subsets : List Subset) where
         → pack_across spec (item_row index subsets) ≡ Err (at_line (first_line (cells_at index subsets)) wrong.Increment)
     put_uneven cs h e = given cs h ∙ ap (result_map_both (written_item cs) (packing_fault cs (cells_at index subsets))) e
 
--- what the first subset's content returns to the walk
+-- The answer of an item is that of its content in the first subset.
 pub answers_first : (spec : FieldSpec) (count : ℕ) (ds : List FieldContent) (z : FieldContent) (t : Taken) → 0 < length ds → t ≡ answer_of spec (padded_content count (get_or ds 0 z))
     → t ≡ answer_first spec (padded_contents count ds)
 answers_first spec count [] z t h e = absurd (omega (arith, h))
 answers_first spec count (d ∷ ds) z t h e = e
 
--- contents that are all the same, and those that are not
+-- contents that are all the same, and contents that differ
 pub packed_alike : (spec : FieldSpec) (count : ℕ) (ds : List FieldContent) (z : FieldContent) → 0 < length ds → list_all (same (padded_content count (get_or ds 0 z))) (padded_contents count ds) ≡ true
     → packing spec (padded_contents count ds) ≡ Ok (packed_bits (bits_for spec.width (padded_content count (get_or ds 0 z))) 0 [])
 packed_alike spec count [] z h e = absurd (omega (arith, h))
@@ -346,13 +348,13 @@ pub packed_apart : (spec : FieldSpec) (count : ℕ) (ds : List FieldContent) (z 
 packed_apart spec count [] z h e = absurd (omega (arith, h))
 packed_apart spec count (d ∷ ds) z h e = grind (arith, common_steps, content_self)
 
--- elements that differ go by their kind
+-- Contents of elements and inserted texts may differ.
 pub apart_by : (spec : FieldSpec) (cs : List Content) (r : Role) → r ≡ spec.role → (r ≡ role.Element) ⊎ (r ≡ role.Inserted)
     → packed_unlike spec.role spec cs ≡ packed_over spec cs
 apart_by spec cs r is (inl e) = ap (λ a. packed_unlike a spec cs) (sym is ∙ e)
 apart_by spec cs r is (inr e) = ap (λ a. packed_unlike a spec cs) (sym is ∙ e)
 
--- the item was put, by its bits
+-- The item was written, given its bits.
 pub put_within : (spec : FieldSpec) (index : ℕ) (subsets : List Subset) (ds : List FieldContent) (z : FieldContent) (t : Taken) (old new bits : List Bool) (most : ℕ)
     → (index + 1) * length (cells_at index subsets) ≤ max_values
     → contents_here spec (cells_at index subsets) ≡ Ok (padded_contents (spec.width / 8) ds) → 0 < length ds → t ≡ answer_of spec (padded_content (spec.width / 8) (get_or ds 0 z))
@@ -369,7 +371,7 @@ put_within spec index subsets ds z t old new bits most few given some gives pack
   few = fits;
 }
 
--- the same by what packed it, where the contents differ
+-- The item was written, given how contents that differ are packed.
 pub put_packed : (spec : FieldSpec) (index : ℕ) (subsets : List Subset) (ds : List FieldContent) (z : FieldContent) (t : Taken) (old new : List Bool) (few most : ℕ)
     → (index + 1) * length (cells_at index subsets) ≤ max_values
     → contents_here spec (cells_at index subsets) ≡ Ok (padded_contents (spec.width / 8) ds) → 0 < length ds → t ≡ answer_of spec (padded_content (spec.width / 8) (get_or ds 0 z))
@@ -381,7 +383,7 @@ put_packed spec index subsets ds z t old new few most values given some gives ap
 
 -- ---- Steps of the code that reads texts.
 
--- texts of the same length, each followed by as many spaces
+-- Two texts of the same length are equal if, and only if, their padded forms are.
 pub same_spaced : (count : ℕ) (a b : List ℕ) → length a ≡ length b → bytes_eq a b ≡ bytes_eq (spaced count a) (spaced count b)
 same_spaced count a b e = by a b (count - length a) e ∙ ap (λ n. bytes_eq (spaced count a) (b ++ replicate (count - n) 32)) e
   where
@@ -391,14 +393,14 @@ same_spaced count a b e = by a b (count - length a) e ∙ ap (λ n. bytes_eq (sp
     by (x ∷ xs) [] n e = absurd (omega (arith, e))
     by (x ∷ xs) (y ∷ ys) n e = ap (λ b. (x == y) && b) (by xs ys n (omega (arith, e)))
 
--- a text of spaces, and spaces after it
+-- A text consists of spaces if its padded form does.
 all_spaces : (os : List ℕ) (n : ℕ) → list_all (λ octet. octet == 32) os ≡ bytes_eq (os ++ replicate n 32) (replicate (length os + n) 32)
 all_spaces [] n = let none : n ≡ 0 + n = omega arith in sym (octets_self (replicate n 32)) ∙ ap (λ k. bytes_eq (replicate n 32) (replicate k 32)) none
 all_spaces (o ∷ os) n =
     let more : suc (length os + n) ≡ suc (length os) + n = omega arith in
     ap (λ b. (o == 32) && b) (all_spaces os n) ∙ ap (λ k. bytes_eq ((o ∷ os) ++ replicate n 32) (replicate k 32)) more
 
--- a text that begins with another and goes on with spaces
+-- If a text begins with another one, they have the same padded form if only spaces follow.
 pub spaced_start : (count : ℕ) (whole start os rest : List ℕ) → whole ≡ start ++ rest → length start ≡ length os → length whole ≤ count
     → (bytes_eq start os && list_all (λ octet. octet == 32) rest) ≡ bytes_eq (spaced count whole) (spaced count os)
 spaced_start count whole start os rest parts e few =
@@ -414,7 +416,7 @@ spaced_start count whole start os rest parts e few =
     by (x ∷ xs) [] n e = absurd (omega (arith, e))
     by (x ∷ xs) (y ∷ ys) n e = and_assoc (x == y) (bytes_eq xs ys) (list_all (λ octet. octet == 32) rest) ∙ ap (λ b. (x == y) && b) (by xs ys n (omega (arith, e)))
 
--- two texts may be compared either way
+-- Texts can be compared in either order.
 false_true : false ≡ true → ⊥
 false_true e = cc
 
@@ -431,7 +433,7 @@ spaced_other [] (y ∷ ys) = refl
 spaced_other (x ∷ xs) [] = refl
 spaced_other (x ∷ xs) (y ∷ ys) = ap (λ b. b && bytes_eq xs ys) (eqb_other x y) ∙ ap (λ b. (y == x) && b) (spaced_other xs ys)
 
--- the spaces at the end of a text
+-- A space at the end of a text does not change its trimmed length, but any other octet does.
 trimmed_space : (b : Bool) (os : List ℕ) (n : ℕ) → trimmed os ≡ n → trimmed (os ++ 32 ∷ []) ≡ n
 trimmed_space b [] n e = e
 trimmed_space b (o ∷ os) n e = ap (λ t. if (t == 0) && (o == 32) then 0 else suc t) (trimmed_space b os (trimmed os) refl) ∙ e
@@ -463,7 +465,7 @@ trimmed_later os spaces x z h e is inv = grind (arith, common_steps, trimmed_spa
 pub trimmed_all : (os : List ℕ) (spaces : ℕ) → length os ≤ spaces → trimmed (take (length os - spaces) os) ≡ trimmed os → 0 ≡ trimmed os
 trimmed_all os spaces h inv = let n : 0 ≡ length os - spaces = omega (arith, h) in ap (λ k. trimmed (take k os)) n ∙ inv
 
--- an element or an inserted text is no reference
+-- An element or an inserted text is not a redefined reference.
 pub no_reference : (spec : FieldSpec) (r : Role) → r ≡ spec.role → (r ≡ role.Element) ⊎ (r ≡ role.Inserted) → is_reference spec.role ≡ false
 no_reference spec r is (inl e) = ap is_reference (sym is ∙ e)
 no_reference spec r is (inr e) = ap is_reference (sym is ∙ e)

@@ -1,4 +1,4 @@
--- A walk over drafts writes as the definition does.
+-- A walk over drafts writes them as defined.
 use Rattle.bufr_walk.specs.Prelude.{FieldSpec, bits_for, answer_of, Course, take_next, Next, at_end, astray, refused, TakenField, Takes, answers_of, oks, Item, pass}
 use Rattle.bufr_walk.specs.Pass.{empty_pass, EndsPass}
 use Rattle.bufr_walk.proofs.WalkPass.{at_last, IsStep, walk_passes}
@@ -8,9 +8,9 @@ use Rattle.std.proofs.Common.{Option, Some, refl, sym, ◌∙◌, ap, subst, app
 use Rattle.std.proofs.lemmas.List.{append-nil}
 use Rattle.std.proofs.lemmas.List.Concat.{flat_map-append}
 
--- ---- A walk over drafts writes as the definition does.
+-- ---- A walk over drafts writes them as defined.
 
--- the first of the drafts that are left was taken as the field, and its bits were written
+-- The first of the remaining drafts was written as this field.
 pub record HasFilled {D C E : Type 0} (filler : Filler D C E) (left : List D) (out : List Bool) (spec : FieldSpec) (t : Taken) (left' : List D) (out' : List Bool) : Type 0 where
   pub draft : D
   pub item : WrittenItem C
@@ -25,7 +25,7 @@ module _ {D C E F S : Type 0} (filler : Filler D C E) (left : S → List D) (out
   gives spec w = filler.gives spec w.content
 
   module _ (first : S) where
-    -- where a walk is after some items: these drafts are left, and the bits of the items are written
+    -- After these items, the walk has these drafts left, and has written the bits of the items.
     record Meets (items : List (Item (WrittenItem C))) (s : S) (drafts : List D) : Type 0 where
       here : left s ≡ drafts
       bits : out s ≡ out first ++ bits_written items
@@ -72,7 +72,7 @@ module _ {D C E : Type 0} (filler : Filler D C E) where
   pub fill_ends : (course : Course) (ds : List D) (stop : Option E) → EndsPass (filling filler) (course []) ds stop → fill_pass filler course ds ≡ empty_pass ds stop
   fill_ends course ds stop h = at_last (filling filler) (course []) ds stop _ h
 
-  -- where a walk ends or stops, its pass does
+  -- If what comes next ends the pass, the walk has written all that the pass writes.
   pub walk_ends : (course : Course) (walked : List TakenField) (old new : List Bool) (drafts left : List D) (stop : Option E) → (w : WritesDrafts filler course walked old new drafts left)
       → EndsPass (filling filler) (course (answers_of walked)) left stop
       → fill_pass filler course drafts ≡ record { items = w.items; state = left; stop = stop }
@@ -82,15 +82,15 @@ module _ {D C E : Type 0} (filler : Filler D C E) where
       (subst (λ a. EndsPass (filling filler) (course a) left stop) (sym (append-nil (answers_of walked))) h))
       ∙ ap (λ items. record { items = items; state = left; stop = stop }) (append-nil w.items)
 
--- ---- A walk over the items of one subset writes what the definition makes of them.
+-- ---- A walk over the items of one subset writes them as defined.
 
--- what is left after the end of the next subset
+-- the entries after the end of the next subset
 abbrev pub left_after : List DraftEntry → List DraftEntry
 left_after [] = []
 left_after (Holds d ∷ more) = left_after more
 left_after (Ends line ∷ more) = more
 
--- a walk stays in its subset
+-- The walk stays in its subset.
 pub record Keeps (s s' : PlainOutModel) : Type 0 where
   pub suffix : left_after s'.left ≡ left_after s.left
   pub end : end_left s'.left ≡ end_left s.left
@@ -121,7 +121,7 @@ walk_of_items end course first walked last h =
       },
     )
 
--- the fault where a walk stops is that of the definition
+-- The fault at which a walk stops is the one that is defined.
 pub stops_at : (next : Next) (left : List DraftEntry) (f : DraftFault) → IsFaultNext next left f → EndsPass (filling (plain_filler (end_left left))) next (items_left left) (Some f)
 stops_at (take_next spec) [] f h = ap Err (sym h)
 stops_at (take_next spec) (Ends line ∷ left) f h = ap Err (sym h)

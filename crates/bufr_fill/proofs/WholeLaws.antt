@@ -17,7 +17,7 @@ use Rattle.bufr_fill.proofs.BackLaws.{read_back}
 use Rattle.bufr_fill.proofs.ReadsLemmas.{AreReadAs, form_is, of_apart, of_together, items_read, none_read_together}
 use Rattle.bufr_walk.proofs.PackedReading.{length-items_of}
 
--- ---- The drafts of compressed data, subset after subset, have the rows of the items.
+-- ---- The drafts of all subsets have the rows of the items of compressed data.
 
 drop-items_of : (j p : ℕ) (items : List (Item (List Content))) → drop p (items_of_subset j items) ≡ items_of_subset j (drop p items)
 drop-items_of j zero items = refl
@@ -41,7 +41,7 @@ drop_next [] (suc p) i rest e = absurd cc
 drop_next (x ∷ items) zero i rest e = cc
 drop_next (x ∷ items) (suc p) i rest e = let q : suc p + 1 ≡ suc (p + 1) = omega arith in ap (λ k. drop k (x ∷ items)) q ∙ drop_next items p i rest e
 
--- the draft at an index has the content of the item there
+-- The draft at an index has the content of the item there.
 said_at : (end_line : ℕ) (items : List (Item Content)) (ds : List Draft) (p : ℕ) (i : Item Content) (rest : List (Item Content)) → AreDrafts IsSaid items ds → drop p items ≡ i ∷ rest
     → content_here i.spec (slice_get ds p) end_line ≡ Ok i.content
 said_at end_line [] [] zero i rest h e = absurd cc
@@ -50,7 +50,7 @@ said_at end_line (x ∷ items) (d ∷ ds) zero i rest h e = let is : x ≡ i = c
 said_at end_line (x ∷ items) (d ∷ ds) (suc p) i rest h e = said_at end_line items ds p i rest h.1 e
 said_at end_line items ds p i rest h e = absurd h
 
--- the cells at an index have the contents of the item there
+-- The cells at an index have the contents of the item there.
 contents_said : (items : List (Item (List Content))) (p : ℕ) (i : Item (List Content)) (rest : List (Item (List Content))) (j : ℕ) (ss : List Subset) → drop p items ≡ i ∷ rest
     → j + length ss ≡ length i.content → AreSaid (subsets_from (length ss) j items) ss → contents_here i.spec (cells_at p ss) ≡ Ok (drop j i.content)
 contents_said items p i rest j [] e n h = ap Ok (sym (content_none j i.content (omega (arith, n))))
@@ -61,7 +61,7 @@ contents_said items p i rest j (s ∷ ss) e n h =
     ∙ ap (λ r. r >>= λ more. Ok (content_at j i.content ∷ more)) (contents_said items p i rest (suc j) ss e (omega (arith, n)) h.1)
     ∙ ap Ok (sym (content_more j i.content (omega (arith, n))))
 
--- row after row, from an index on
+-- the rows from an index on
 rows_said : (items : List (Item (List Content))) (ss : List Subset) (rest : List (Item (List Content))) (p : ℕ) → HaveContents (length ss) rest → AreSaid (subsets_from (length ss) 0 items) ss
     → drop p items ≡ rest → (p + length rest) * length ss ≤ max_values → AreDrafts IsSaidRow rest (rows (length rest) p ss)
 rows_said items ss [] p have h e few = tt
@@ -92,7 +92,7 @@ have_contents : (n : ℕ) (course : Course) (items : List (Item (List Content)))
 have_contents n course [] bits suffix fields h = tt
 have_contents n course (i ∷ items) bits suffix fields h = (packed_count n i.spec fields.0.spec i.content bits h.0 h.2, have_contents n (after (packed n) course i) items h.0 suffix fields.1 h.3)
 
--- the drafts with the contents of items that were read are packed, and read again
+-- Drafts with the contents of items that were read are packed and read back, in no more bits.
 pub record ArePackedRows (n : ℕ) (course : Course) (items : List (Item (List Content))) (drafts : List Subset) (bits suffix : List Bool) : Type 0 where
   pub is : packed_data course drafts ≡ Ok (flat_map row_bits items)
   pub again : AreReadAs course true n (together items) (flat_map row_bits items)
@@ -112,12 +112,12 @@ packed_rows course sane n items (s ∷ ss) bits suffix fields said r end few =
     (rows (most_items (s ∷ ss)) 0 (s ∷ ss)) bits suffix fields (all_rows_said (suc n) items s ss (have_contents (suc n) course items bits suffix fields r) said few) r end in
     record { is = w.fills; again = items_read course sane n items (flat_map row_bits items) w.again end few; short = w.short }
 
--- the bits that are written of values
+-- the bits that are written for values
 abbrev pub bits_again : Values → List Bool
 bits_again (apart subsets) = subset_bits subsets
 bits_again (together items) = flat_map row_bits items
 
--- ---- The same over a template: nothing is required of the specifications.
+-- ---- The same for a legal template. Nothing is required of the specs.
 
 module _ (table : List Row) (template : Tree) (rows : AreRead table) (legal : IsLegal template) (d : Data) where
   abbrev course : Course
@@ -126,7 +126,7 @@ module _ (table : List Row) (template : Tree) (rows : AreRead table) (legal : Is
   sane : (m : ℕ) → IsSane m course
   sane m = legal_sane table template rows legal m
 
-  -- what is known of items that were read: subset after subset, or together
+  -- the properties of items that were read, from plain data or from compressed data
   plain_all : (subsets : List (List (Item Content))) (used : ℕ) → HasReading course d (apart subsets) used → AreAllFollowed course d.subsets subsets d.bits (drop used d.bits)
   plain_all subsets used h =
       of_apart table template rows legal (AreAllFollowed course) (none_followed course) (more_followed course) d subsets used h
@@ -137,7 +137,7 @@ module _ (table : List Row) (template : Tree) (rows : AreRead table) (legal : Is
       of_together table template rows legal (λ n items bits left. AreSaid (subsets_from n 0 items) drafts → ArePackedRows n course items drafts bits left)
       (λ bits said. no_rows course drafts bits said) (λ n items bits left fields r end few said. packed_rows course sane n items drafts bits left fields said r end few) d items used h said
 
-  -- as many as there are subsets
+  -- There are as many lists of items as subsets.
   pub each_count : (values : Values) (used : ℕ) → HasReading course d values used → length (each_subset d.subsets values) ≡ d.subsets
   each_count (apart subsets) used h = (plain_all subsets used h).count
   each_count (together items) used h = length-subsets_from d.subsets 0 items
@@ -148,7 +148,7 @@ module _ (table : List Row) (template : Tree) (rows : AreRead table) (legal : Is
       of_together table template rows legal (λ n items bits left. AllFollow course (subsets_from n 0 items)) (λ bits. tt)
       (λ n items bits left fields r end few. all_follow (suc n) 0 (suc n) course items bits left (omega arith) fields r end) d items used h
 
-  -- drafts that say what was read are written so that they are read again
+  -- Drafts with the contents that were read are written so that they read back the same.
   pub said_again : (values : Values) (used : ℕ) (drafts : List Subset) → HasReading course d values used → AreSaid (each_subset d.subsets values) drafts
       → (w : IsWrittenAgain course d values used drafts) × (w.0.out ≡ bits_again values)
   said_again (apart subsets) used drafts h said =
@@ -184,7 +184,7 @@ module _ (table : List Row) (template : Tree) (rows : AreRead table) (legal : Is
       → IsWrittenAgain course d values used drafts
   written_again values used drafts h dumped = (said_again values used drafts h (subsets_said course (each_subset d.subsets values) drafts (follows values used h) dumped)).0
 
-  -- the contents of drafts determine the bits that are written
+  -- The contents of drafts determine the bits that are written.
   pub said_alike : (values : Values) (used : ℕ) (drafts others : List Subset) → HasReading course d values used → AreSaid (each_subset d.subsets values) drafts
       → AreSaid (each_subset d.subsets values) others → data_bits d.compressed course drafts ≡ data_bits d.compressed course others
   said_alike values used drafts others h said also =
@@ -192,7 +192,7 @@ module _ (table : List Row) (template : Tree) (rows : AreRead table) (legal : Is
       let b = said_again values used others h also in
       a.0.0.is ∙ ap Ok (a.1 ∙ sym b.1) ∙ sym b.0.0.is
 
-  -- compressed data are written subset after subset
+  -- Compressed data are written as plain data.
   pub written_apart : (items : List (Item (List Content))) (used : ℕ) (drafts : List Subset) → HasReading course d (together items) used
       → AreDumped (subsets_from d.subsets 0 items) drafts → IsWritten course false d.subsets (apart (subsets_from d.subsets 0 items)) drafts
   written_apart items used drafts h dumped =
@@ -201,12 +201,12 @@ module _ (table : List Row) (template : Tree) (rows : AreRead table) (legal : Is
       let w = plain_subsets course sane subsets drafts follow (subsets_said course subsets drafts follow dumped) in
       subst (λ n. IsWritten course false n (apart subsets) drafts) (length-subsets_from d.subsets 0 items) (record { out = subset_bits subsets; is = w.is; again = w.again })
 
-  -- other data are written together, where they can be
+  -- Plain data are written as compressed data, if these can represent their contents.
   pub written_together : (subsets : List (List (Item Content))) (used : ℕ) (drafts : List Subset) → length d.bits ≤ max_values → HasReading course d (apart subsets) used
       → AreDumped subsets drafts → IsTogetherOrNot course subsets drafts
   written_together subsets used drafts few h dumped = all_together course sane d.subsets subsets drafts d.bits (drop used d.bits) few dumped (plain_all subsets used h)
 
--- ---- Drafts with the same contents are written to the same bits.
+-- ---- Drafts with the same contents are written as the same bits.
 
 items_alike : (items : List (Item Content)) (ds es : List Draft) → AllZip IsAlike ds es → AreDrafts IsSaid items ds → AreDrafts IsSaid items es
 items_alike [] [] [] a h = tt

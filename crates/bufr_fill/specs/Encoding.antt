@@ -1,5 +1,6 @@
--- The data bits of a document: how its items are written, plain or compressed. (WMO-No. 306, Volume
--- I.2, FM 94: section 4; the order of the faults, the base and the least k are our choices)
+-- The data bits of a document, and how its items are written as plain or compressed data (WMO-No.
+-- 306, Volume I.2, FM 94: section 4). The order of the faults, the base, and the least k (the size
+-- of an increment) are our choices.
 -- Cited by public contracts.
 use Rattle.std.specs.Prelude.{Bool, List, [], ◌∷◌, ◌++◌, Result, Ok, Err, ℕ, zero, suc, ◌+◌, ◌-◌, ◌==◌, ◌&&◌, nat_lt, nat_le, min, not, true, false, if◌then◌else◌, take, replicate, length, Option, Some, None, unwrap_or, ◌≡◌, ◌≤◌, drop, max, map, slice_get}
 pub use Rattle.bufr_walk.specs.declared.spec.Taken.{Taken}
@@ -14,7 +15,7 @@ use Rattle.bufr_walk.specs.declared.spec.Role.TheVariants as role
 use Rattle.bufr_fill.specs.Draft.{TurnRefusal, Draft, Subset, DraftFault, at_line, item_too_many, walk_refused, too_many_values, Role, content_of, wrong_for, raw_limit}
 use Rattle.bufr_fill.specs.declared.fault.ItemFault.TheVariants as item_fault
 
--- an item that was written: its content and its bits
+-- a written item, with its content and its bits
 pub record WrittenItem (C : Type 0) : Type 0 where
   pub content : C
   pub bits : List Bool
@@ -22,48 +23,49 @@ pub record WrittenItem (C : Type 0) : Type 0 where
 abbrev pub written_item : {C : Type 0} → C → List Bool → WrittenItem C
 written_item content bits = record { content = content; bits = bits }
 
--- How items are written, one at each field. D is what is written at a field: an item, or in
--- compressed data a row with the items of all subsets. C is its content, and E a fault.
+-- How items are written, one for each field. D is the type of the input for one field: an item or,
+-- in compressed data, a row with the items of all subsets. C is the type of the field's content,
+-- and E is the type of a fault.
 pub record Filler (D C E : Type 0) : Type 0 where
-  -- writes an item as a field
+  -- the result of writing an item as a field
   pub fills : FieldSpec → D → Result (WrittenItem C) E
-  -- the answer of its content
+  -- the part of a field's content that affects the walk
   pub gives : FieldSpec → C → Taken
-  -- the fault if a field comes next but no item is left
+  -- the fault if another field follows but no items remain
   pub none_left : FieldSpec → E
-  -- the fault if the template ends but this item is left
+  -- the fault if the template ends before the given item
   pub left_over : D → E
-  -- the fault if the walk refuses a step before this item
+  -- the fault if the walk refuses a step before the given item
   pub refused_at : D → TurnRefusal → E
   -- the fault if the walk refuses a step after the last item
   pub refused_at_end : TurnRefusal → E
-  -- never used; see `Passing`
+  -- a fault that never occurs (see `Passing`)
   pub lost : E
 
 module _ {D C E : Type 0} (filler : Filler D C E) where
-  -- bits, followed by the bits in a result
+  -- the given bits followed by the bits in a result, or the fault if the result is a fault
   abbrev pub with_bits_before : List Bool → Result (List Bool) E → Result (List Bool) E
   with_bits_before bits (Err why) = Err why
   with_bits_before bits (Ok suffix) = Ok (bits ++ suffix)
 
-  -- the step at a field: the next item is written as this field
+  -- the step at a field, which writes the next item as that field
   abbrev pub write_first : FieldSpec → List D → Result (Step (List D) (WrittenItem C)) E
   write_first spec [] = Err (filler.none_left spec)
   write_first spec (d ∷ left) = do
     w ← filler.fills spec d
     Ok (record { content = w; returned = filler.gives spec w.content; state = left })
 
-  -- the fault if the walk refuses a step: at the next item, or after the last one
+  -- the fault if the walk refuses a step before the next item or after the last item
   abbrev pub refused_first : TurnRefusal → List D → E
   refused_first why [] = filler.refused_at_end why
   refused_first why (d ∷ left) = filler.refused_at d why
 
-  -- the fault if items are left at the end of the template
+  -- the fault if items remain at the end of the template
   abbrev pub none_over : List D → Option E
   none_over [] = None
   none_over (d ∷ left) = Some (filler.left_over d)
 
-  -- how a pass writes items; its state is the items that are left
+  -- how a pass writes items; its state is the list of remaining items
   -- rule: fault-62-first
   abbrev pub filling : Passing (List D) (WrittenItem C) E
   filling = record {
@@ -73,36 +75,38 @@ module _ {D C E : Type 0} (filler : Filler D C E) where
     lost = filler.lost;
   }
 
-  -- the pass that writes items; `suc (length drafts)` is enough, since each field uses one item
+  -- the pass that writes items; its bound, `suc (length drafts)`, is large enough because each
+  -- field uses one item
   abbrev pub fill_pass : Course → List D → Pass (List D) (WrittenItem C) E
   fill_pass course drafts = pass filling (suc (length drafts)) course drafts
 
 abbrev pub bits_written : {C : Type 0} → List (Item (WrittenItem C)) → List Bool
 bits_written {C} items = flat_map (λ (i : Item (WrittenItem C)). i.content.bits) items
 
--- a pass with these items before its own
+-- the pass with the given items inserted before its own items
 abbrev pub with_items : {S C E : Type 0} → List (Item C) → Pass S C E → Pass S C E
 with_items items p = record p { items = items ++ p.items }
 
--- the bits that a pass wrote, or what stopped it
+-- the bits that a pass wrote, or the fault that stopped the pass
 abbrev pub bits_of_pass : {S C E : Type 0} → Pass S (WrittenItem C) E → Result (List Bool) E
 bits_of_pass p = option_map_or (λ why. Err why) p.stop (Ok (bits_written p.items))
 
--- the bits of drafts, or what stops their pass
+-- the bits written for drafts, or the fault that stopped the pass
 abbrev pub fill : {D C E : Type 0} → Filler D C E → Course → List D → Result (List Bool) E
 fill filler course drafts = bits_of_pass (fill_pass filler course drafts)
 
--- the least number among contents, if there is one; other contents are ignored
+-- the least number among the contents of a field, if any of them is a number
 -- rule: packs-numbers
 abbrev pub lowest : List Content → Option ℕ
 lowest [] = None
 lowest (number n ∷ cs) = Some (option_map_or (min n) (lowest cs) n)
 lowest (_ ∷ cs) = lowest cs
 
--- Whether a content can be read back from an increment of this k. (`base` is at most each number,
--- and k at most the length of a text.) The increment of a number must fit into k bits, without
--- being all ones if these mean missing. A text must be its first k octets and then spaces, and
--- those k octets must not all be 255. Missing always has an increment, of all ones.
+-- Whether the content of a field can be read back from an increment with the given k. The increment
+-- of a number must fit in k bits and, if the field may be missing, must not have all bits set.
+-- After its first k octets, which must not all be 255, a string must contain only spaces. A missing
+-- value always has an increment, in which all bits are set. The definition assumes that no number
+-- is less than `base` and that no string is shorter than k octets.
 -- rule: packs-numbers, packs-texts-not-missing
 abbrev pub has_increment : Coding → (base k : ℕ) → Content → Bool
 has_increment (numbers width m) base k (number n) = nat_lt (n - base) (raw_limit m k)
@@ -111,29 +115,30 @@ has_increment (texts count) base k (text octets) =
     && not (list_all (λ octet. octet == 255) (take k octets))
 has_increment c base k _ = true
 
--- the first number that passes a test among the next `fuel` numbers from k on, or else the number
--- after them
+-- the first of the `fuel` numbers from k on that passes a test, or k + `fuel` if none of them does
 abbrev pub first_from : (ℕ → Bool) → ℕ → ℕ → ℕ
 first_from p zero k = k
 first_from p (suc fuel) k = if p k then k else first_from p fuel (k + 1)
 
--- the least k for which all contents pass, from 1 to 63 (k has 6 bits), or 64 if there is none
+-- the least k from 1 to 63 for which all contents of a field pass the test, or 64 if no such k
+-- exists; k is written in six bits
 -- rule: packs-numbers
 abbrev pub least_k : (ℕ → Content → Bool) → List Content → ℕ
 least_k passes cs = first_from (λ k. list_all (passes k) cs) 63 1
 
--- the increment of a content; all ones if it is missing, which is the only other case
+-- the increment that represents the content of a field; if the content is missing, all bits of the
+-- increment are set
 abbrev pub increment_for : Coding → (base k : ℕ) → Content → List Bool
 increment_for (numbers width m) base k (number n) = bits_in (n - base) k
 increment_for (texts count) base k (text octets) = bits_of (take k octets)
 increment_for c base k _ = replicate (step_of c k) true
 
--- an item in compressed data: its base, k in 6 bits, and its increments
+-- the bits of a packed item, which consist of the base, k (in six bits), and the increments
 abbrev pub packed_bits : (base : List Bool) (k : ℕ) (more : List Bool) → List Bool
 packed_bits base k more = base ++ (bits_in k 6 ++ more)
 
--- Contents that differ: the base is the least number, or 0 in a text. Fault 59 if a text needs a k
--- over 63.
+-- The bits of an item whose contents differ between subsets. The base is the least number, or 0 for
+-- strings. A string for which k would exceed 63 causes fault 59.
 -- rule: packs-numbers, packs-texts, fault-59
 abbrev pub packed_over : FieldSpec → List Content → Result (List Bool) FieldFault
 packed_over spec cs =
@@ -143,14 +148,16 @@ packed_over spec cs =
     let increments = flat_map (increment_for c base k) cs in
     if nat_le k 63 then Ok (packed_bits (bits_in base spec.width) k increments) else Err increment
 
--- contents that differ: factors and redefined references must not
+-- the bits of an item that differs between subsets, or a fault; replication factors and redefined
+-- reference values must not differ
 -- rule: packs-factors-and-references, fault-59
 abbrev pub packed_unlike : Role → FieldSpec → List Content → Result (List Bool) FieldFault
 packed_unlike role.Factor spec cs = Err unequal_factor
 packed_unlike role.Reference spec cs = Err increment
 packed_unlike _ spec cs = packed_over spec cs
 
--- the contents of one item in all subsets: if they are equal, that content is the base and k is 0
+-- the bits of one item, given its contents in all subsets; if the contents are equal, the base
+-- represents the common value and k is 0
 -- rule: packs-equal, packs-all-missing
 abbrev pub packing : FieldSpec → List Content → Result (List Bool) FieldFault
 packing spec [] = Ok []
@@ -158,12 +165,12 @@ packing spec (c ∷ cs) =
     if list_all (same c) cs then Ok (packed_bits (bits_for spec.width c) 0 [])
     else packed_unlike spec.role spec (c ∷ cs)
 
--- the k of an item: the number in the six bits after its base
+-- the k of an item, which is the number in the six bits after the base
 abbrev pub k_of : FieldSpec → List Bool → ℕ
 k_of spec bits = number_of (take 6 (drop spec.width bits))
 
--- The contents are packed into bits that read as these contents. No other bits that read as them
--- have a smaller k, or are fewer.
+-- The contents of an item are packed into bits that are read back as the same contents. No other
+-- bits that are read as those contents have a smaller k or are shorter.
 pub record HasLeastK (n : ℕ) (spec : FieldSpec) (contents : List Content) : Type 0 where
   pub out : List Bool
   pub is : packing spec contents ≡ Ok out
@@ -173,15 +180,14 @@ pub record HasLeastK (n : ℕ) (spec : FieldSpec) (contents : List Content) : Ty
   pub short : (bits suffix : List Bool) → packed_field n spec bits ≡ Ok (found contents suffix)
       → length out + length suffix ≤ length bits
 
--- the content of an item of a subset that ends at line `end_line`; a fault if the subset has no
--- more items
+-- the content that an item specifies, or a fault; if the subset has no more items, the fault is
+-- reported for line `end_line`, which ends the subset
 -- rule: fault-51
 abbrev pub content_here : FieldSpec → Option Draft → (end_line : ℕ) → Result Content DraftFault
 content_here spec None end_line = Err (at_line end_line (wrong_for spec))
 content_here spec (Some d) end_line = map_err (at_line d.line) (content_of spec d)
 
--- How the items of one subset of plain data are written; `end_line` is the line that ends the
--- subset.
+-- How the items of one subset are written as plain data. The subset ends on line `end_line`.
 -- rule: fault-51, fault-62
 abbrev pub plain_filler : (end_line : ℕ) → Filler Draft Content DraftFault
 plain_filler end_line = record {
@@ -195,8 +201,8 @@ plain_filler end_line = record {
   lost = at_line end_line item_too_many;
 }
 
--- the bits of plain data, or the first fault: one subset after another, each from the beginning of
--- the template
+-- The bits of plain data, or the first fault. The subsets are written one after another, and the
+-- template starts again for each subset.
 abbrev pub plain_data : Course → List Subset → Result (List Bool) DraftFault
 plain_data course [] = Ok []
 plain_data course (s ∷ subsets) = do
@@ -206,18 +212,20 @@ plain_data course (s ∷ subsets) = do
 
 -- ---- Compressed data.
 
--- the item of one subset in a row (`None` if the subset has no more), and the line that ends the
--- subset
+-- one subset's cell in a row, with its item (`None` if the subset has no more items) and the number
+-- of the line that ends the subset
 pub record RowCell : Type 0 where
   pub draft : Option Draft
   pub end_line : ℕ
 
--- the items of all subsets at one index, from 0; in compressed data, they are written as one item
+-- the items of all subsets at one index (counted from 0), which are written as one item of
+-- compressed data
 pub record ItemRow : Type 0 where
   pub index : ℕ
   pub cells : List RowCell
 
--- the line of the item in a cell, or else the line that ends its subset
+-- the line number of the item in a cell or, if the cell has no item, the number of the line that
+-- ends the subset
 abbrev pub cell_line : RowCell → ℕ
 cell_line c = option_map_or (λ (d : Draft). d.line) c.draft c.end_line
 
@@ -229,27 +237,27 @@ cells_at index subsets =
 abbrev pub item_row : ℕ → List Subset → ItemRow
 item_row index subsets = record { index = index; cells = cells_at index subsets }
 
--- the rows at the next `count` indices, the first of which is `from`
+-- the `count` rows from index `from` on
 abbrev pub rows : (count from : ℕ) → List Subset → List ItemRow
 rows zero from subsets = []
 rows (suc n) from subsets = item_row from subsets ∷ rows n (from + 1) subsets
 
--- the number of items of the longest subset
+-- the number of items in the longest subset
 abbrev pub most_items : List Subset → ℕ
 most_items [] = 0
 most_items (s ∷ subsets) = max (length s.items) (most_items subsets)
 
--- the line of the first subset's cell; 0 if there are no subsets
+-- the line number of the first subset's cell, or 0 if there are no subsets
 abbrev pub first_line : List RowCell → ℕ
 first_line [] = 0
 first_line (c ∷ cs) = cell_line c
 
--- the line of the first item in a row; subsets that have no more items are skipped
+-- the line number of the first item in a row; cells without an item are skipped
 abbrev pub first_there : List RowCell → ℕ
 first_there [] = 0
 first_there (c ∷ cs) = option_map_or (λ (d : Draft). d.line) c.draft (first_there cs)
 
--- the contents of a row, or the first fault
+-- the contents that the cells of a row specify, or the first fault
 abbrev pub contents_here : FieldSpec → List RowCell → Result (List Content) DraftFault
 contents_here spec [] = Ok []
 contents_here spec (c ∷ cs) = do
@@ -257,28 +265,28 @@ contents_here spec (c ∷ cs) = do
   rest ← contents_here spec cs
   Ok (first ∷ rest)
 
--- the line of the first cell whose content is not c
+-- the line number of the first cell whose content differs from c
 abbrev pub first_unlike : Content → List Content → List RowCell → ℕ
 first_unlike c [] cells = 0
 first_unlike c (d ∷ ds) [] = 0
 first_unlike c (d ∷ ds) (cell ∷ cells) = if same c d then first_unlike c ds cells
     else cell_line cell
 
--- the line of the first subset whose content is not that of subset 1
+-- the line number of the first item whose content differs from that in subset 1
 -- rule: fault-58
 abbrev pub unlike_line : List Content → List RowCell → ℕ
 unlike_line [] cells = 0
 unlike_line (c ∷ cs) cells = first_unlike c (c ∷ cs) cells
 
--- the fault if the contents of a row cannot be packed
+-- the fault caused by a row that cannot be packed
 -- rule: fault-58
 abbrev pub packing_fault : List Content → List RowCell → FieldFault → DraftFault
 packing_fault cs cells unequal_factor = at_line (unlike_line cs cells) item_fault.UnequalFactor
 packing_fault cs cells _ = at_line (first_line cells) item_fault.Increment
 
--- An item of all subsets: first there must not be too many values, then each subset must have its
--- item, and then the contents must be packed. (`result_map_both` applies its first function to
--- `Ok`, and its second one to `Err`.)
+-- The item that is written for a row, or the first fault. The number of values is checked first,
+-- then the item of each subset, and finally whether the contents can be packed. `result_map_both`
+-- applies its first function to the value in `Ok`, or its second function to the fault in `Err`.
 -- rule: fault-order-of-subsets
 abbrev pub pack_across : FieldSpec → ItemRow → Result (WrittenItem (List Content)) DraftFault
 pack_across spec a =
@@ -288,10 +296,10 @@ pack_across spec a =
       cs ← contents_here spec a.cells
       result_map_both (written_item cs) (packing_fault cs a.cells) (packing spec cs)
 
--- How the rows of compressed data are written. If a field comes next but all rows have been
--- written, `many` says whether one more row would make too many values; this is then reported
--- instead of a missing item. Faults after the last row are reported on the line that ends the first
--- subset (`end_line`).
+-- How the rows of compressed data are written. `many` is true if the data would have too many
+-- values with one more row. If `many` is true and another field follows the last row, the fault
+-- reports too many values instead of a missing item. Faults after the last row are reported for the
+-- line that ends the first subset (`end_line`).
 -- rule: fault-62
 abbrev pub packed_filler : (end_line : ℕ) (many : Bool) → Filler ItemRow (List Content) DraftFault
 packed_filler end_line many = record {
@@ -305,8 +313,8 @@ packed_filler end_line many = record {
   lost = at_line end_line item_too_many;
 }
 
--- The bits of compressed data, or the first fault: one pass over the rows of all subsets. Without
--- subsets, nothing is written.
+-- The bits of compressed data, or the first fault. One pass writes the rows of all subsets. If
+-- there are no subsets, nothing is written.
 abbrev pub packed_data : Course → List Subset → Result (List Bool) DraftFault
 packed_data course [] = Ok []
 packed_data course (s ∷ subsets) =

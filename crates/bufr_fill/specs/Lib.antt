@@ -1,12 +1,12 @@
--- the items of a dump text, as the contents of fields and as they are stored, and their faults
+-- the items of a dump, the field contents that they specify, and the faults in them
 pub mod Draft
--- the data bits of a document, plain or compressed, and how one item is packed
+-- the data bits of a document, and how one item is packed in compressed data
 pub mod Encoding
--- the bits that are written and the number of turns, up to the first fault
+-- the bits written and the steps taken up to the first fault
 pub mod Steps
--- what is written from a reading, from its other form, or from any drafts reads back the same
+-- how written data bits are read back
 pub mod RoundTrip
 -- the writers of plain and compressed data
 pub mod Writers
--- the names that proofs and other crates cite, re-exported
+-- re-exports of the names that proofs and other crates use
 pub mod Prelude

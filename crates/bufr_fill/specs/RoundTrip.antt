@@ -1,5 +1,6 @@
--- Only contracts need this file. What is written from a reading, from its other form (plain or
--- compressed), or from any drafts reads back the same. (WMO-No. 306, Volume I.2, FM 94: section 4)
+-- Only contracts need this file. Field contents are written as data bits that are read back as the
+-- same contents, whether the contents come from a message (plain or compressed) or from drafts
+-- (WMO-No. 306, Volume I.2, FM 94: section 4).
 use Rattle.std.specs.Prelude.{ℕ, ◌≡◌, ◌<◌, ◌-◌, ◌/◌, ◌^◌, ◌==◌, Bool, true, false, List, length, nat_abs, ◌≤◌, ◌++◌, Ok, ◌⊎◌, Err, drop, None}
 use Rattle.std.specs.List.{list_all, AllByRecursion, AllZip}
 use Rattle.bufr_walk.specs.declared.spec.Role.TheVariants as role
@@ -10,68 +11,69 @@ use Rattle.bufr_fill.specs.Encoding.{Kind, packed_data, data_bits, Filler, Writt
 use Rattle.bufr_tables.specs.Prelude.{IsLegal, Record, Row, AreRows, Tree}
 use Rattle.bufr_tables.specs.declared.table_b.Kind.TheVariants as kind
 
--- Each number is an octet.
+-- Each number fits in an octet.
 abbrev pub AreOctets : List ℕ → Type 0
 AreOctets xs = AllByRecursion (λ (x : ℕ). x < 256) xs
 
--- The content is a number that fits the width and does not read as missing, or it is missing and
--- the field may be missing (m).
+-- The content is a number that fits in the data width and is not read as missing, or it is missing
+-- and m (the field may be missing) is true.
 abbrev pub FitsNumber : Bool → ℕ → Content → Type 0
 FitsNumber m width (number raw) = raw < raw_limit m width
 FitsNumber m width missing = m ≡ true
 FitsNumber m width _ = ⊥
 
--- The content is a text of `count` octets that does not read as missing, or it is missing.
+-- The content is a string that is `count` octets long and not read as missing, or it is missing.
 abbrev pub FitsText : ℕ → Content → Type 0
 FitsText count (text octets) =
     (length octets ≡ count) × AreOctets octets × (list_all (λ octet. octet == 255) octets ≡ false)
 FitsText count missing = Unit {0}
 FitsText count _ = ⊥
 
--- The content is a reference whose magnitude fits into the bits after the sign bit.
+-- The content is a redefined reference value whose magnitude fits in the bits after the sign bit.
 abbrev pub FitsReference : ℕ → Content → Type 0
 FitsReference width (reference value) = nat_abs value < 2 ^ (width - 1)
 FitsReference width _ = ⊥
 
--- The content fits a field of this kind.
+-- The content fits a field of the given kind.
 abbrev pub FitsKind : Kind → Bool → ℕ → Content → Type 0
 FitsKind kind.Character m width c = FitsText (width / 8) c
 FitsKind kind.Coded m width c = FitsNumber m width c
 FitsKind kind.Numeric m width c = FitsNumber m width c
 
--- The content fits a field of this role.
+-- The content fits a field of the given role.
 abbrev pub FitsRole : Role → FieldSpec → Content → Type 0
 FitsRole role.Reference spec c = FitsReference spec.width c
 FitsRole _ spec c = FitsKind spec.kind spec.may_be_missing spec.width c
 
--- The field can have this content.
+-- The field can have the given content.
 abbrev pub Fits : FieldSpec → Content → Type 0
 Fits spec c = FitsRole spec.role spec c
 
--- The field can have each of these contents.
+-- The field can have each of the given contents.
 abbrev pub AllFit : FieldSpec → List Content → Type 0
 AllFit spec cs = AllByRecursion (λ (c : Content). Fits spec c) cs
 
--- The draft is the one that a dump writes for the item, on any line.
+-- The draft is what a dump writes for the item, except that the line number may differ.
 abbrev pub IsDumped : Item Content → Draft → Type 0
 IsDumped i d = (d.fxy ≡ i.spec.fxy) × (d.form ≡ draft_value_of i.spec i.content)
 
--- The drafts correspond to the items, one by one (`of_item`).
+-- `of_item` relates each item to the draft at the same index, and both lists have the same length.
 abbrev pub AreDrafts : {C D : Type 0} → (Item C → D → Type 0) → List (Item C) → List D → Type 0
 AreDrafts of_item items ds = AllZip of_item items ds
 
--- The drafts are those of the dump, subset by subset.
+-- The drafts of each subset are what a dump writes for the items of that subset.
 abbrev pub AreDumped : List (List (Item Content)) → List Subset → Type 0
 AreDumped = AllZip (λ (items : List (Item Content)) (s : Subset). AreDrafts IsDumped items s.items)
 
--- The data are read without a fault. They have these values, which take the first `used` bits.
+-- Reading the data succeeds and gives the values, which occupy the first `used` bits.
 pub record HasReading (course : Course) (d : Data) (values : Values) (used : ℕ) : Type 0 where
   pub none : (reading_of course d).stop ≡ None
   pub values_are : (reading_of course d).values ≡ values
   pub left : (reading_of course d).left ≡ drop used d.bits
   pub within : used ≤ length d.bits
 
--- The drafts of n subsets are written as bits that read back as these values, whatever follows.
+-- The drafts are written as bits that are read back as the given values of n subsets, whatever bits
+-- follow.
 pub record IsWritten (course : Course) (compressed : Bool) (n : ℕ) (values : Values)
     (drafts : List Subset) : Type 0 where
   pub out : List Bool
@@ -79,19 +81,20 @@ pub record IsWritten (course : Course) (compressed : Bool) (n : ℕ) (values : V
   pub again : (more : List Bool) → HasReading course
       (record { compressed = compressed; subsets = n; bits = out ++ more }) values (length out)
 
--- The values are written again from the drafts of their dump, in no more bits than they took.
+-- The drafts are written as bits that are read back as the given values, which originally occupied
+-- at least as many bits.
 abbrev pub IsWrittenAgain : Course → Data → Values → (used : ℕ) → List Subset → Type 0
 IsWrittenAgain course d values used drafts =
     (w : IsWritten course d.compressed d.subsets values drafts) × (length w.out ≤ used)
 
--- The fault means that compressed data cannot represent the contents.
+-- The fault means that compressed data cannot represent the items.
 abbrev pub IsUnlike : ItemFault → Type 0
 IsUnlike item_fault.UnequalFactor = Unit {0}
 IsUnlike item_fault.Increment = Unit {0}
 IsUnlike _ = ⊥
 
--- The items of the subsets are written as compressed data and read back from the bits, or there is
--- a fault because compressed data cannot represent them.
+-- The drafts are written as compressed data that are read back as the items of the given subsets,
+-- or writing fails because compressed data cannot represent the items.
 abbrev pub IsTogetherOrNot : Course → List (List (Item Content)) → List Subset → Type 0
 IsTogetherOrNot course subsets drafts =
     ((items : List (Item (List Content))) × (subsets_from (length subsets) 0 items ≡ subsets)
@@ -101,27 +104,27 @@ IsTogetherOrNot course subsets drafts =
 
 -- ---- Reading data that were written from drafts. (own)
 
--- If the value is a text, it consists of octets.
+-- If the value is a string, it consists of octets.
 abbrev pub HasOctets : DraftValue → Type 0
 HasOctets (number_token digits) = Unit {0}
 HasOctets (text_form octets) = AreOctets octets
 HasOctets missing_form = Unit {0}
 HasOctets (reference_token digits) = Unit {0}
 
--- Each text in the drafts of the subsets consists of octets.
+-- Each string in the drafts of the subsets consists of octets.
 abbrev pub AllHaveOctets : List Subset → Type 0
 AllHaveOctets ss =
     AllByRecursion (λ (s : Subset). AllByRecursion (λ (d : Draft). HasOctets d.form) s.items) ss
 
--- The item has the content that the draft has in this field.
+-- The item has the content that the draft specifies for its field.
 abbrev pub IsSaid : Item Content → Draft → Type 0
 IsSaid i d = content_of i.spec d ≡ Ok i.content
 
--- The items of each subset have the contents of its drafts, one by one.
+-- Each item has the content that the draft at the same index of its subset specifies.
 abbrev pub AreSaid : List (List (Item Content)) → List Subset → Type 0
 AreSaid = AllZip (λ (items : List (Item Content)) (s : Subset). AreDrafts IsSaid items s.items)
 
--- The bits read back as the contents of the drafts, whatever follows them.
+-- The bits are read back as the contents that the drafts specify, whatever bits follow.
 pub record IsReadBack (course : Course) (compressed : Bool) (drafts : List Subset)
     (bits : List Bool) : Type 0 where
   pub values : Values
@@ -130,27 +133,28 @@ pub record IsReadBack (course : Course) (compressed : Bool) (drafts : List Subse
       (record { compressed = compressed; subsets = length drafts; bits = bits ++ suffix }) values
       (length bits)
 
--- ---- Drafts with the same contents, however they are spelled. (own)
+-- ---- Drafts that specify the same contents, even if they are spelled differently. (own)
 
--- In each field, both drafts have the same content or the same fault.
+-- Both drafts specify the same content, or have the same fault, for every field.
 abbrev pub IsAlike : Draft → Draft → Type 0
 IsAlike a b = (spec : FieldSpec) → content_of spec a ≡ content_of spec b
 
--- In each subset, the drafts are alike one by one. The lines that end the subsets may differ.
+-- Drafts at the same index of the same subset specify the same content, or have the same fault, for
+-- every field. The line numbers may differ.
 abbrev pub AllAlike : List Subset → List Subset → Type 0
 AllAlike ss ts = AllZip (λ (s t : Subset). AllZip IsAlike s.items t.items) ss ts
 
--- ---- Definitions shared by the laws on writing.
+-- ---- Definitions shared by the laws about writing.
 
--- A law holds for the course of each template of legal nodes, with each Table B that can be read.
+-- The law holds for the course of every template that consists of legal nodes, with any readable
+-- Table B.
 abbrev pub OfTemplates : (Course → Type 0) → Type 0
 OfTemplates law =
     (records : List Record) (table : List Row) (template : Tree) → AreRows records table
     → IsLegal template → law (next_item table template)
 
--- A walk wrote the bits that the definition gives for the drafts, except those in `left`: the pass
--- over all drafts begins with these items, which have the answers of the walk, and continues as the
--- pass over `left`.
+-- A walk wrote the bits of all drafts except those in `left`. The pass over all drafts begins with
+-- items that give the same answers as the walk, and continues as the pass over `left`.
 pub record WritesDrafts {D C E : Type 0} (filler : Filler D C E) (course : Course)
     (walked : List TakenField) (old new : List Bool) (drafts left : List D) : Type 0 where
   pub items : List (Item (WrittenItem C))

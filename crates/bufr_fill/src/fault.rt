@@ -1,4 +1,4 @@
-//! Faults in the items of a document. (Their numbers and their order are our choice.)
+//! Faults in the items of a document. (We chose the numbers and the order of the faults.)
 ghost use Rattle.std.specs.Prelude.{◌≡◌};
 ghost use Rattle.bufr_fill.specs.Draft.{item_report, number_of_draft_fault, refusal_parts};
 ghost use Rattle.bufr_fill.specs.declared.fault.DraftFault.TheVariants.{Memory};
@@ -9,18 +9,18 @@ use std::alloc::AllocError;
 use std::fmt;
 use thiserror::Error;
 
-/// The item that was expected.
+/// The item that was expected, or the end of a subset.
 #[derive(Clone, Copy, Debug, PartialEq, Eq)]
 pub enum Expected {
     /// An item with this descriptor.
     Item(Fxy),
-    /// A redefined reference (`R`) with this descriptor.
+    /// A redefined reference value (`R`) with this descriptor.
     Reference(Fxy),
-    /// The end of the subset: no further item.
+    /// The end of a subset. No further item was expected.
     EndOfSubset,
 }
 
-/// Writes what was expected in the form that fault lines use.
+/// Formats the expected item as it appears in fault lines.
 impl fmt::Display for Expected {
     fn fmt<W: fmt::Write>(&self, f: &mut fmt::Formatter<W>) -> fmt::Result {
         match self {
@@ -31,20 +31,23 @@ impl fmt::Display for Expected {
     }
 }
 
-/// The reason why the walk over a template rejects an item, with the rejected descriptor.
+/// The reason why the walk over a template rejects an item. Each variant contains the rejected
+/// descriptor.
 #[derive(Clone, Copy, Debug, PartialEq, Eq)]
 pub enum WalkRefusal {
-    /// The same as [`TurnRefusal::Width`](bufr_walk::TurnRefusal::Width).
+    /// The width is invalid, as described for
+    /// [`TurnRefusal::Width`](bufr_walk::TurnRefusal::Width).
     Width(Fxy),
-    /// The same as [`TurnRefusal::Defining`](bufr_walk::TurnRefusal::Defining).
+    /// The descriptor is not allowed, as described for
+    /// [`TurnRefusal::Defining`](bufr_walk::TurnRefusal::Defining).
     Defining(Fxy),
-    /// With this item, compressed data would have more than 134,217,728 values.
+    /// With this item, the compressed data would contain more than 134,217,728 values.
     TooManyValues(Fxy),
 }
 
 impl WalkRefusal {
-    /// Returns the number of the fault that a message's data would have for this reason: 31, 32 or
-    /// 35.
+    /// Returns the fault number (31, 32 or 35). The same fault in the data of a message has the
+    /// same number.
     pub fn number(self) -> u8
         ensures { result ≡ (refusal_parts self).0 }
     {
@@ -70,27 +73,27 @@ impl WalkRefusal {
 /// The reason why an item cannot be written.
 #[derive(Clone, Copy, Debug, PartialEq, Eq, Error)]
 pub enum ItemFault {
-    /// This was expected, but there is another item or none.
+    /// The document contains an item that was not expected, or no further item.
     #[error("expected {0}")]
     WrongDescriptor(Expected),
-    /// The value is not a decimal number, is not whole at the field's scale, or is of another kind
-    /// than the field.
+    /// The value is not a decimal number, is not an integer after scaling, or does not match the
+    /// field's kind.
     #[error("number")]
     Number,
-    /// The number does not fit in the field's bits, or the number or text would be read as missing.
+    /// The number does not fit in the field's bits, or the value would be read back as missing.
     #[error("out of range")]
     OutOfRange,
-    /// The text has more octets than the field.
+    /// The string is longer than the field.
     #[error("text long")]
     TextLong,
-    /// The field does not allow a missing value.
+    /// The value is missing, but the field does not allow missing values.
     #[error("missing forbidden")]
     MissingForbidden,
-    /// A factor of compressed data differs from that of the first subset.
+    /// A replication factor in compressed data differs from that of the first subset.
     #[error("unequal factor")]
     UnequalFactor,
-    /// In compressed data, texts differ and need more octets than an increment can have, or
-    /// redefined references differ.
+    /// In compressed data, the strings differ and need more octets than an increment can contain,
+    /// or the redefined reference values differ.
     #[error("increment")]
     Increment,
     /// The walk over the template rejects this item.
@@ -99,7 +102,7 @@ pub enum ItemFault {
 }
 
 impl ItemFault {
-    /// Returns the number of this fault in a document: 51 to 55, 58, 59 or 62.
+    /// Returns the number that this fault has in a document (51 to 55, 58, 59 or 62).
     pub fn number(self) -> u8
         ensures { result ≡ (item_report self).0 }
     {
@@ -116,11 +119,11 @@ impl ItemFault {
     }
 }
 
-/// The reason why items cannot be written.
+/// The reason why the items of a document cannot be written.
 #[derive(Clone, Copy, Debug, PartialEq, Eq, Error)]
 pub enum DraftFault {
-    /// The line number of an item, and the fault. If an item is missing, the line is the one that
-    /// ends the subset.
+    /// The line number of an item, and the reason why it cannot be written. If an expected item is
+    /// missing, the number is that of the line that ends the subset.
     #[error("{1}")]
     Item(u64, ItemFault),
     /// Memory ran out.
@@ -129,9 +132,9 @@ pub enum DraftFault {
 }
 
 impl DraftFault {
-    /// Returns the number of this fault. If the walk rejects an item, this is the number of the
-    /// reason: 31, 32 or 35. Otherwise, it is the number of the item's fault, or 73 if memory ran
-    /// out.
+    /// Returns the number of this fault. If the walk rejected an item, the result is 31, 32 or 35,
+    /// depending on the reason. If memory ran out, the result is 73. Otherwise, the result is the
+    /// number of the item's fault.
     pub fn number(self) -> u8
         ensures { result ≡ number_of_draft_fault self }
     {

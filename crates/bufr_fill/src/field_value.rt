@@ -1,4 +1,5 @@
-//! Converts an item of a document to the content of its field, and writes the content as bits.
+//! Functions that convert an item of a document to the content of its field and encode that content
+//! as bits.
 ghost use Rattle.std.specs.Prelude.{◌≡◌, ℕ, List, ◌≤◌, ◌<◌, ◌-◌, ◌/◌, ◌^◌, ◌==◌, ◌++◌, false, length, replicate, unsigned_abs, Some, IfOk, ◌+◌, ◌*◌, true, OnOk, OnErr};
 ghost use Rattle.std.specs.List.{list_all};
 ghost use Rattle.bufr_tables.specs.Prelude.{is_character};
@@ -12,21 +13,22 @@ use bufr_tables::Fxy;
 use bufr_walk::{Role, Spec, Taken};
 use std::alloc::AllocError;
 
-/// The content of a field, as given by an item.
+/// The content of a field, converted from an item of a document.
 #[derive(Clone, Copy)]
 pub(crate) enum FieldContent<'a> {
-    /// The number in the field's bits, which does not include the reference value.
+    /// The number that is encoded in the field's bits. The reference value has already been
+    /// subtracted.
     Number(u64),
-    /// The octets of a text. Spaces follow them up to the width of the field.
+    /// The octets of a string. In the field, the string is padded with spaces to the field's width.
     Text(&'a [u8]),
-    /// A missing value: all bits are ones.
+    /// A missing value. All bits of the field are ones.
     Missing,
-    /// A redefined reference.
+    /// A redefined reference value.
     Reference(i64),
 }
 
-/// Returns the limit below which numbers fit in `width` bits. All ones are excluded if they mean
-/// missing.
+/// Returns the exclusive upper limit for the numbers in a field that is `width` bits wide. If the
+/// field can be missing, the limit excludes the number whose bits are all ones.
 pub(crate) fn raw_limit(may_be_missing: bool, width: u32) -> u64
     requires narrow { width ≤ 63 }
     ensures { result ≡ raw_limit may_be_missing width }
@@ -38,8 +40,9 @@ pub(crate) fn raw_limit(may_be_missing: bool, width: u32) -> u64
     }
 }
 
-/// Returns the number to write in the field's bits for a value that was read at the field's scale,
-/// or a fault if the value could not be read or the number does not fit.
+/// Returns the number that encodes a decimal value in a field. `read` is the result of reading the
+/// value with the field's scale. Returns a fault if the value cannot be read or if the number does
+/// not fit in the field.
 #[inline(always)]
 // rule: fault-52, fault-53
 fn raw_of_read(read: Result<i128, NumberFault>, spec: &Spec) -> Result<u64, ItemFault>
@@ -62,7 +65,7 @@ fn raw_of_read(read: Result<i128, NumberFault>, spec: &Spec) -> Result<u64, Item
     }
 }
 
-/// Returns whether all octets are 255.
+/// Returns whether every octet is 255.
 pub(crate) fn is_all_255(octets: &[u8]) -> bool
     ensures { result ≡ list_all (λ octet. octet == 255) octets.now }
 {
@@ -119,7 +122,7 @@ fn content_by_form<'a>(
                 Err(NumberFault::Large) => return Err(ItemFault::OutOfRange),
                 Err(_) => return Err(ItemFault::Number),
             };
-            // The magnitude must fit in the bits after the sign.
+            // The magnitude must fit in the bits that follow the sign bit.
             if value.unsigned_abs() >= 1u128 << (spec.width() - 1) {
                 return Err(ItemFault::OutOfRange);
             }
@@ -128,8 +131,9 @@ fn content_by_form<'a>(
     }
 }
 
-/// Returns whether an item has the descriptor of a field, and has the mark `R` if and only if the
-/// field is a redefined reference.
+/// Returns whether an item belongs to a field. The item and the field must have the same
+/// descriptor, and the item must have the mark `R` if and only if the field redefines a reference
+/// value.
 #[inline(always)]
 // rule: fault-51
 fn is_of(fxy: Fxy, kind: ValueKind, spec: &Spec) -> bool
@@ -142,7 +146,7 @@ fn is_of(fxy: Fxy, kind: ValueKind, spec: &Spec) -> bool
     }
 }
 
-/// Returns the fault of a line that does not contain the expected item.
+/// Returns the fault for a line that does not contain the expected item.
 pub(crate) fn wrong_item(spec: &Spec, line: u64) -> DraftFault
     ensures { result ≡ at_line line (wrong_for spec.now) }
 {
@@ -154,7 +158,7 @@ pub(crate) fn wrong_item(spec: &Spec, line: u64) -> DraftFault
     DraftFault::Item(line, ItemFault::WrongDescriptor(expected))
 }
 
-/// Converts an entry to the content of its field.
+/// Converts an entry of a document to the content of a field.
 #[inline(always)]
 // rule: fault-order-of-an-item
 pub(crate) fn field_content<'a>(
@@ -178,7 +182,7 @@ pub(crate) fn field_content<'a>(
     }
 }
 
-/// Returns the octets, padded with spaces to 255 octets.
+/// Returns a copy of the octets, padded with spaces to 255 octets.
 #[tactic(auto, using(crate::proofs::FieldLemmas::spaced_whole))]
 pub(crate) fn with_spaces(octets: &[u8]) -> [u8; 255]
     requires { length octets.now ≤ 255 }
@@ -189,7 +193,7 @@ pub(crate) fn with_spaces(octets: &[u8]) -> [u8; 255]
     all
 }
 
-/// Appends `count` octets in which all bits are ones.
+/// Appends `count` octets whose bits are all ones.
 #[tactic(auto, using(crate::proofs::FieldLemmas::full_bits))]
 pub(crate) fn put_full(out: &mut BitWriter, count: usize)
     requires most { count ≤ 255 }
@@ -202,7 +206,8 @@ pub(crate) fn put_full(out: &mut BitWriter, count: usize)
     out.put_octets(&ones[..count]);
 }
 
-/// Appends the content of a field as the field's bits. `out` must have room for them.
+/// Encodes the content of a field and appends its bits. Space for the bits must already be reserved
+/// in `out`.
 #[inline(always)]
 #[tactic(auto, using(crate::proofs::FieldLemmas::top_below, crate::proofs::FieldLemmas::spaced_prefix, crate::proofs::FieldLemmas::eighths_ones, crate::proofs::FieldLemmas::ones_bits, crate::proofs::FieldLemmas::negative_bits, crate::proofs::FieldLemmas::positive_bits))]
 // rule: writes-plus-zero
@@ -230,7 +235,7 @@ pub(crate) fn put_content(out: &mut BitWriter, content: FieldContent<'_>, spec: 
     }
 }
 
-/// Makes room for the content of a field, and appends it as the field's bits.
+/// Reserves space for the content of a field, encodes it, and appends the bits.
 #[inline(always)]
 #[tactic(auto, using(crate::proofs::FieldLemmas::top_below))]
 pub(crate) fn push_content(
@@ -255,7 +260,7 @@ pub(crate) fn push_content(
     Ok(())
 }
 
-/// Returns the answer of a field: the part of its content that affects the walk.
+/// Returns the part of a field's content that affects the walk.
 #[inline(always)]
 #[tactic(auto, using(crate::proofs::FieldLemmas::answer_count, crate::proofs::FieldLemmas::answer_reference, crate::proofs::FieldLemmas::answer_element, crate::proofs::FieldLemmas::answer_inserted))]
 pub(crate) fn taken_of(content: FieldContent<'_>, spec: &Spec) -> Taken

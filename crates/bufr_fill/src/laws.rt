@@ -1,24 +1,25 @@
-//! Laws about writing. A walk writes what the definition specifies for the items. The items of a
-//! dump are written as bits that read the same, and there are no more of them than were read. Each
-//! item of compressed data has the least `k`.
+//! Laws about writing data. A walk writes the data that the definition specifies for the given
+//! items. If the items of a dump are written again, reading the resulting bits gives the same
+//! result as reading the original data, and the number of bits does not increase. Each item of
+//! compressed data has the least possible `k`.
 ghost use Rattle.std.specs.Prelude.{◌≡◌, ◌≤◌, ℕ, List, [], Bool, false, length, Ok, Err};
 ghost use Rattle.bufr_walk.specs.Prelude.{FieldSpec, IsSpec, Content, found, packed_field, Course, at_end, TakenField, Takes, oks, answers_of, max_values, Item, Data, Values, apart, together, each_subset, subsets_from};
 ghost use Rattle.bufr_fill.specs.Prelude.{AllAlike, OfTemplates, WritesDrafts, AllFit, AllHaveOctets, AreSaid, HasReading, IsReadBack, IsWritten, IsTogetherOrNot, AreDumped, IsWrittenAgain, plain_filler, fill, cells_at, packed_filler, packed_data, data_bits, HasLeastK, packing, DraftEntry, Subset, DraftFault, PackedOutModel, new_packed_out, PackedFills, all_at_end, rows_left, IsFaultHere, PlainOutModel, PlainFills, IsFaultNext, items_left, end_left};
 
-/// Law: data that were read, compressed or not, can be written again from the items of their dump.
-/// The bits have the same reading, and there are no more of them than before. (WMO-No. 306, Volume
-/// I.2, FM 94: section 4)
+/// Law: if data can be read, the items of their dump can be written as data in the same form
+/// (compressed or plain). Reading the written bits gives the same result as reading the original
+/// data, and the number of bits does not increase. (WMO-No. 306, Volume I.2, FM 94: section 4)
 pub fn data_round_trip()
     ensures { OfTemplates (λ course. (d : Data) (values : Values) (used : ℕ) (drafts : List Subset)
         → HasReading course d values used → AreDumped (each_subset d.subsets values) drafts
         → IsWrittenAgain course d values used drafts) }
 {}
 
-/// Law: an item of compressed data is packed with the least `k` of all those with which its
-/// contents can be read. So its `k` is never greater than the one that was read, and the item has
-/// no more bits. The same holds for contents from any other source, if they fit their field.
-/// (WMO-No. 306, Volume I.2, FM 94: section 4, compression; that the `k` is the least is our
-/// choice)
+/// Law: an item of compressed data is written with the least `k` that allows its field contents to
+/// be read back. Therefore, if an item is read and written again, neither its `k` nor its number of
+/// bits increases. Items whose field contents come from any other source also have the least `k`,
+/// provided that the contents fit in the field. (WMO-No. 306, Volume I.2, FM 94: section 4,
+/// compression. Using the least `k` is our choice.)
 pub fn items_are_packed_with_the_least_k()
     ensures read { (n : ℕ) (spec : FieldSpec) (contents : List Content) (bits suffix : List Bool)
         → 1 ≤ n → IsSpec spec
@@ -28,16 +29,18 @@ pub fn items_are_packed_with_the_least_k()
         → packing spec contents ≡ Ok out → HasLeastK n spec contents }
 {}
 
-/// Law: the data that are written for any drafts, in either form, read back as the contents of the
-/// drafts, whatever bits follow. (WMO-No. 306, Volume I.2, FM 94: section 4)
+/// Law: if the items of a document can be written as compressed or plain data, their field contents
+/// can be read back from the written bits, even if other bits follow. (WMO-No. 306, Volume I.2, FM
+/// 94: section 4)
 pub fn written_data_are_read()
     ensures { OfTemplates (λ course. (compressed : Bool) (drafts : List Subset) (bits : List Bool)
         → AllHaveOctets drafts → data_bits compressed course drafts ≡ Ok bits
         → IsReadBack course compressed drafts bits) }
 {}
 
-/// Law: in the form that was read, the drafts of a reading's items are written to bits that depend
-/// only on the items. Any other drafts with the same contents are written to the same bits.
+/// Law: if the items read from a message are written in the form in which they were read
+/// (compressed or plain), the written bits depend only on those items. Two documents whose items
+/// have the same field contents produce the same bits.
 pub fn data_are_fixed_by_what_is_said()
     ensures { OfTemplates (λ course. (d : Data) (values : Values) (used : ℕ)
         (drafts others : List Subset) → HasReading course d values used
@@ -46,8 +49,8 @@ pub fn data_are_fixed_by_what_is_said()
         → data_bits d.compressed course drafts ≡ data_bits d.compressed course others) }
 {}
 
-/// Law: if drafts can be written in a form, then other drafts with the same contents at every field
-/// are written to the same bits in that form.
+/// Law: if the items of a document can be written (as compressed or plain data), any other document
+/// whose items have the same field contents produces the same bits.
 pub fn alike_drafts_have_the_same_data()
     ensures { OfTemplates (λ course. (compressed : Bool) (drafts others : List Subset)
         (bits : List Bool) → AllHaveOctets drafts → AllAlike drafts others
@@ -55,11 +58,12 @@ pub fn alike_drafts_have_the_same_data()
         → data_bits compressed course others ≡ Ok bits) }
 {}
 
-/// Law: compressed data that were read can be written from the items of their dump as plain data,
-/// subset after subset, and this is never rejected. Plain data that were read (at most 134,217,728
-/// bits) can be written as compressed data, unless factors differ between subsets or no increments
-/// can write the contents. No other fault is possible. In both cases, the items of each subset are
-/// read back from the bits. (WMO-No. 306, Volume I.2, FM 94: section 4, compression)
+/// Law: if compressed data can be read, the items of their dump can always be written as plain
+/// data. If plain data of at most 134,217,728 bits can be read, the items of their dump can be
+/// written as compressed data, unless replication factors differ between subsets or increments
+/// cannot represent the field contents. No other fault is possible. In both cases, the items of
+/// each subset can be read back from the written bits. (WMO-No. 306, Volume I.2, FM 94: section 4,
+/// compression)
 pub fn data_are_written_in_the_other_form()
     ensures apart { OfTemplates (λ course. (d : Data) (items : List (Item (List Content)))
         (used : ℕ) (drafts : List Subset) → HasReading course d (together items) used
@@ -71,9 +75,10 @@ pub fn data_are_written_in_the_other_form()
         → IsTogetherOrNot course subsets drafts) }
 {}
 
-/// Law: a walk over the items of one subset, or of all subsets, writes what the definition
-/// specifies for these items, up to those that are left. If the walk over all subsets ends and no
-/// item is left over, the bits that were written are the data of all subsets.
+/// Law: a walk over the items of one subset (plain data) or of all subsets (compressed data) writes
+/// the bits that the definition specifies for the items processed so far. If the walk over all
+/// subsets reaches the end of the template and no items remain, the written bits are the data of
+/// all subsets.
 #[tactic(auto, using(crate::proofs::PackedWalks::written_as_defined))]
 pub fn walks_write_as_defined()
     ensures plain { (end : ℕ) (course : Course) (s : PlainOutModel) (items : List TakenField)
@@ -93,10 +98,11 @@ pub fn walks_write_as_defined()
         → all_at_end (cells_at s.index s.subsets) ≡ Ok tt → packed_data course subsets ≡ Ok s.bits }
 {}
 
-/// Law: if a walk over the items of one subset, or of all subsets, stops, its fault is the one that
-/// the definition specifies. This is the fault of an item, the fault of the first item that is left
-/// over, or the fault of a width or a step. A width or a step is reported at the line of the next
-/// entry (of the first subset, if there are several).
+/// Law: if a walk over the items of one subset (plain data) or of all subsets (compressed data)
+/// fails, it reports the fault that the definition specifies. The fault concerns an item, the first
+/// remaining item after the end of the template, or an invalid width or descriptor. An invalid
+/// width or descriptor is reported with the line number of the next entry (in compressed data, the
+/// next entry of the first subset).
 #[tactic(auto, using(crate::proofs::WalkLemmas::fault_as_defined, crate::proofs::PackedWalks::fault_as_defined))]
 pub fn faults_are_as_defined()
     ensures plain { (course : Course) (left : List DraftEntry) (f : DraftFault)

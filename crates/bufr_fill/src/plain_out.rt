@@ -1,4 +1,4 @@
-//! The writer of plain data, from the items of a document.
+//! A writer that converts the items of a document to plain data.
 ghost use Rattle.std.specs.Prelude.{◌≡◌, ◌≤◌, ◌+◌, ◌/◌, ◌^◌, ◌++◌, [], length, vec_len};
 ghost use Rattle.bufr_bits.specs.Prelude.{bits_of, padding};
 ghost use Rattle.bufr_fill.specs.Writers.{plain_out_model, line_at, EndsSubset};
@@ -13,11 +13,11 @@ use bufr_walk::{Fields, Spec, Taken};
 use std::alloc::Global;
 use std::marker::Model;
 
-/// A writer of plain data. It writes the items of a document, subset after subset, each as the
-/// field that comes next in a walk. One walk takes the items of one subset. (WMO-No. 306, Volume
-/// I.2, FM 94: section 4)
+/// A writer that converts the items of a document to plain data, one subset after another. Each
+/// walk processes the items of one subset, and each item is written as the next field of the walk.
+/// (WMO-No. 306, Volume I.2, FM 94: section 4)
 ///
-/// Contracts see the entries that are left and the bits that were written.
+/// Contracts describe a writer in terms of the remaining entries and the bits written so far.
 ///
 /// ```
 /// let mut out = PlainOut::new(alloc, &entries);
@@ -43,8 +43,9 @@ impl<'s> Model for PlainOut<'s> {
 }
 
 impl<'s> PlainOut<'s> {
-    /// Creates a writer for these entries: the items of all subsets and the lines that end them.
-    /// There must be at most 2^45 of them. This does not allocate.
+    /// Creates a writer for the entries of a document. The entries are the items of all subsets and
+    /// the lines that end the subsets. The number of entries must be at most 2^45. This function
+    /// does not allocate.
     pub fn new(alloc: Global, entries: &'s Entries) -> PlainOut<'s>
         requires { length entries.now ≤ 2 ^ 45 }
         ensures { result ≡ plain_out_model entries.now [] }
@@ -56,8 +57,8 @@ impl<'s> PlainOut<'s> {
         }
     }
 
-    /// Returns the number of the line of the next item or, if there is none, of the line that ends
-    /// the subset. After the last subset, the result is 0.
+    /// Returns the line number of the next item. If the subset has no items left, the result is the
+    /// number of the line that ends it. After the last subset, the result is 0.
     pub fn line(&self) -> u64
         ensures { result ≡ line_at self.now.left }
     {
@@ -71,8 +72,8 @@ impl<'s> PlainOut<'s> {
     ///
     /// # Errors
     ///
-    /// [`ItemFault::WrongDescriptor`] if the next entry is not the end of a subset; the writer is
-    /// left unchanged.
+    /// [`ItemFault::WrongDescriptor`] if the next entry does not mark the end of a subset, in which
+    /// case the writer is left unchanged.
     // rule: fault-51
     pub fn end_subset(&mut self) -> Result<(), DraftFault>
         ensures { EndsSubset self.old result self.new }
@@ -88,8 +89,8 @@ impl<'s> PlainOut<'s> {
         Err(DraftFault::Item(line, why))
     }
 
-    /// Returns the bits that were written as octets. The last octet is padded with zero bits. This
-    /// does not allocate.
+    /// Returns the written bits, packed into octets. The last octet is padded with zero bits. This
+    /// function does not allocate.
     // rule: writes-section-4
     pub fn into_octets(self) -> Vec<u8>
         ensures bits { bits_of result.items ≡ self.entry.bits ++ padding (length self.entry.bits) }

@@ -1,4 +1,5 @@
--- Only contracts need this file. The model of a finder, its search, and the effects of its calls.
+-- Only contracts need this file. The model of a finder, its search, and the effects of its
+-- functions.
 use Rattle.std.specs.Prelude.{◌≡◌, ◌≢◌, ℕ, ◌+◌, ◌*◌, ◌<◌, ◌≤◌, max, Bool, true, false, List, [], ◌∷◌, ◌++◌, Option, Some, None, length, drop, ◌-◌, Result, Ok, Err, take, ◌⊎◌, ◌^◌, codes, IfSome}
 use Rattle.std.specs.List.{concat}
 use Rattle.std.specs.Io.KnownBytes.{Consumes, IsAtEnd}
@@ -16,26 +17,26 @@ use Rattle.bufr_frame.specs.Events.{events_of}
 use Rattle.bufr_frame.specs.declared.finder.Event.{Event}
 use Rattle.bufr_frame.specs.declared.finder.Event.TheVariants.{Frame, Stray, Done}
 
--- the number of octets that may be buffered if no greater length was declared
+-- the number of octets that a finder may buffer if no message has declared a greater length
 abbrev pub min_held : ℕ
 min_held = 4096
 
 pub record FinderModel : Type 0 where
   -- the buffered octets that the search has passed
   pub before : List ℕ
-  -- the remaining octets: they were read, and the search has not passed them
+  -- the remaining octets, which have been read but not yet passed by the search
   pub rest : List ℕ
-  -- the offset of the first of the remaining octets
+  -- the stream offset of the first remaining octet
   pub at : ℕ
-  -- whether a read found the end of the stream
+  -- whether a read has found the end of the stream
   pub ended : Bool
   -- the fault that stopped the finder, if any
   pub fault : Option RunFault
-  -- the number of reads made
+  -- the number of reads made so far
   pub reads : ℕ
-  -- the greatest length declared so far
+  -- the greatest message length declared so far
   pub longest : ℕ
-  -- the capacity of the buffer, in octets
+  -- the buffer's capacity, in octets
   pub room : ℕ
   -- the free space after the buffered octets, in octets
   pub free : ℕ
@@ -44,7 +45,7 @@ pub record FinderModel : Type 0 where
 abbrev pub held : FinderModel → ℕ
 held s = length s.before + length s.rest
 
--- a finder that has read nothing
+-- a finder that has not read anything yet
 abbrev pub new_finder : FinderModel
 new_finder =
     record {
@@ -59,14 +60,15 @@ new_finder =
       free = 0;
     }
 
--- `rest`, from offset `at'`, is a suffix of s, whose first octet is at offset `at`.
+-- The list s begins at offset `at`, and its suffix `rest` begins at offset `at'`.
 pub record Follows (at : ℕ) (s : List ℕ) (at' : ℕ) (rest : List ℕ) : Type 0 where
   pub passed : ℕ
   pub within : passed ≤ length s
   pub offset : at' ≡ at + passed
   pub left : rest ≡ drop passed s
 
--- A call read octets and passed events. After the end of the stream, it reads nothing.
+-- A call read the octets bs, and the search passed the events. If the end of the stream had already
+-- been found, the call read nothing.
 pub record ReadsAndPasses (left left' : Option (List ℕ)) (old new : FinderModel) (bs : List ℕ)
     (events : List StreamEvent) : Type 0 where
   pub read : Consumes left left' bs
@@ -75,24 +77,24 @@ pub record ReadsAndPasses (left left' : Option (List ℕ)) (old new : FinderMode
   pub kept : old.ended ≡ true → (new.ended ≡ true) × (bs ≡ []) × (new.reads ≡ old.reads)
   pub end : (old.ended ≡ true → IsAtEnd left) → new.ended ≡ true → IsAtEnd left'
 
--- The greatest length declared so far covers the events that were seen.
+-- The greatest declared length was updated with the lengths declared at the events in `seen`.
 abbrev pub RaisesLongest : FinderModel → FinderModel → List ℕ → List StreamEvent → Type 0
 RaisesLongest old new bs seen = new.longest
     ≡ max old.longest (longest_of old.at (old.rest ++ bs) seen)
 
--- The end of the stream was found, and no event begins in the remaining octets.
+-- The end of the stream has been found, and no event begins in the remaining octets.
 abbrev pub HasNoMoreEvents : FinderModel → Type 0
 HasNoMoreEvents s = (s.ended ≡ true) × ((at : ℕ) → scan_from 0 at s.rest ≡ [])
 
--- The fault stopped the finder before the end of the stream was found, and no event in the
+-- The finder stopped with the given fault before finding the end of the stream, and no event in the
 -- remaining octets is certain.
 abbrev pub IsUndecided : FinderModel → RunFault → Type 0
 IsUndecided s fault = (s.fault ≡ Some fault) × (s.ended ≡ false)
     × ((at : ℕ) → NoEventCertain at s.rest)
 
--- The finder stopped with this fault, which is never `Write`: with `InputTooLong` only after 2^32
--- reads, each of which returned an octet, and with `Memory` only before that many reads, and only
--- if the buffer had room for less than twice the octets that may be buffered.
+-- The finder stopped with a fault other than `Write`. `InputTooLong` occurs only after 2^32 reads,
+-- each of which returned at least one octet. `Memory` occurs only after fewer than 2^32 reads, and
+-- only if the buffer's capacity is less than twice the number of octets that may be buffered.
 abbrev pub StopsFinder : (old new : FinderModel) → RunFault → Type 0
 StopsFinder old new Read = IsUndecided new Read
 StopsFinder old new Write = ⊥
@@ -101,36 +103,38 @@ StopsFinder old new InputTooLong =
 StopsFinder old new Memory =
     IsUndecided new Memory × (new.reads < max_reads) × (old.room < 2 * max min_held new.longest)
 
--- These are the octets of consecutive reads, each of which returned at most `most` octets. Before
--- each read, no event was certain in the remaining octets and those read so far.
+-- Consecutive reads returned the lists of octets in `given`, and no read returned more than `most`
+-- octets. Before each read, no event in the octets available by then was certain.
 abbrev pub EachReadIsNeeded : (most at : ℕ) (left : List ℕ) (given : List (List ℕ)) → Type 0
 EachReadIsNeeded most at left [] = Unit {0}
 EachReadIsNeeded most at left (octets ∷ more) =
     NoEventCertain at left × (length octets ≤ most) × EachReadIsNeeded most at (left ++ octets) more
 
--- The octets of a call are those of its reads. Each read was needed, and returned no more octets
--- than may be buffered.
+-- The reads made by a call returned the octets bs. Each read was needed and returned no more octets
+-- than the finder may buffer.
 pub record CallReadsAreNeeded (old new : FinderModel) (bs : List ℕ) : Type 0 where
   pub given : List (List ℕ)
   pub octets : bs ≡ concat given
   pub made : new.reads ≡ old.reads + length given
   pub waited : EachReadIsNeeded (max min_held new.longest) old.at old.rest given
 
--- A call read octets and passed these events. Each read was needed, and the greatest length covers
--- the events that were seen.
+-- A call read octets, and the search passed the events. Each read was needed. Unless a fault had
+-- occurred earlier, the greatest declared length was updated with the lengths declared at the
+-- events in `seen`.
 abbrev pub ReadsOn : (left left' : Option (List ℕ)) → (old new : FinderModel)
     → (events seen : List StreamEvent) → Type 0
 ReadsOn left left' old new events seen =
     (bs : List ℕ) × ReadsAndPasses left left' old new bs events
     × (old.fault ≡ None → RaisesLongest old new bs seen) × CallReadsAreNeeded old new bs
 
--- ---- What a search in the remaining octets finds, if more octets may follow.
+-- ---- The result of searching the remaining octets. More octets may follow.
 
--- the first event in the remaining octets, if any; after a fault, the greatest length covers it
+-- the first event in the remaining octets, if any; after a failed call, the length that it declares
+-- counts towards the greatest declared length
 abbrev pub first_left : FinderModel → List StreamEvent
 first_left s = first_event (scan_from 0 s.at s.rest)
 
--- the finder after it passes the first n remaining octets, and takes a declared length into account
+-- the finder after passing n more octets and updating the greatest declared length
 abbrev pub gone_to : FinderModel → (n stated_length : ℕ) → FinderModel
 gone_to s n stated_length =
     record s {
@@ -140,19 +144,19 @@ gone_to s n stated_length =
       longest = max s.longest stated_length;
     }
 
--- the length of what begins at a `BUFR`: a message, as it declares, or the four octets of a stray
+-- the length of a candidate, which is the declared length for a message and 4 for a stray `BUFR`
 abbrev pub len_at : Candidate → (stated_length : ℕ) → ℕ
 len_at (Stray cause) stated_length = 4
 len_at Frame stated_length = stated_length
 
--- the finder after it passes what a search found
+-- the finder after a search with the given result
 abbrev pub passed_by : FinderModel → SearchResult → FinderModel
 passed_by s (Found place here stated_length) =
     gone_to s (place + len_at here stated_length) stated_length
 passed_by s (NeedsMore place stated_length) = gone_to s place stated_length
 passed_by s End = s
 
--- This is the event that the finder passed last.
+-- The event is the last one that the finder passed.
 abbrev pub IsEventAt : FinderModel → Candidate → (stated_length : ℕ) → Event → Type 0
 IsEventAt s (Stray cause) n (Frame offset octets) = ⊥
 IsEventAt s (Stray cause) n (Stray offset why) = (offset + 4 ≡ s.at) × (why ≡ cause)
@@ -166,7 +170,7 @@ IsEventAt s Frame n Done = ⊥
 abbrev pub StartsWithBufr : List ℕ → Type 0
 StartsWithBufr m = has_word_at (codes "BUFR") 0 m ≡ true
 
--- The next event begins at index `place` of the remaining octets, and it is certain.
+-- The next event is certain and begins at index `place` in the remaining octets.
 pub record IsNextEvent (ended : Bool) (rest : List ℕ) (place : ℕ)
     (here : Option Candidate) : Type 0 where
   pub is : here ≡ classify (drop place rest)
@@ -179,8 +183,8 @@ pub record IsNextEvent (ended : Bool) (rest : List ℕ) (place : ℕ)
       (at + place + candidate_len (drop place rest) here)
       (drop (place + candidate_len (drop place rest) here) rest)
 
--- No event begins before index `place`, and none is certain yet. A `BUFR` is at this index, or
--- fewer than four octets remain there.
+-- No event begins before index `place`, and no event is certain yet. Either `BUFR` begins at index
+-- `place`, or fewer than four octets remain from that index on.
 pub record IsIncomplete (rest : List ℕ) (place stated_length : ℕ) : Type 0 where
   pub within : place ≤ length rest
   pub first : StartsWithBufr rest → place ≡ 0
@@ -189,16 +193,18 @@ pub record IsIncomplete (rest : List ℕ) (place stated_length : ℕ) : Type 0 w
   pub advances : (at : ℕ) → Advances false at rest [] (at + place) (drop place rest)
   pub none : (at : ℕ) → NoEventCertain at (drop place rest)
 
--- There are no more events.
+-- No event begins in the given octets.
 pub record HasNoFurtherEvent (rest : List ℕ) : Type 0 where
   pub scan : (at : ℕ) → scan_from 0 at rest ≡ []
   pub word : StartsWithBufr rest → ⊥
 
--- This is the length that octets 5 to 7 declare, or 0 if there are fewer than eight octets.
+-- `stated_length` is the length declared in octets 5 to 7, or 0 if there are fewer than eight
+-- octets.
 abbrev pub IsStatedLength : List ℕ → ℕ → Type 0
 IsStatedLength m stated_length = (stated_length ≡ length_here m) × (stated_length < 2 ^ 24)
 
--- This is what a search in these octets finds. More octets may follow them unless `ended`.
+-- Searching the octets in `rest` yields the given result. More octets may follow unless `ended` is
+-- true.
 abbrev pub IsSearchResult : Bool → List ℕ → SearchResult → Type 0
 IsSearchResult ended rest (Found place here stated_length) =
     IsNextEvent ended rest place (Some here) × IsStatedLength (drop place rest) stated_length
@@ -207,10 +213,11 @@ IsSearchResult ended rest (NeedsMore place stated_length) =
     × IsStatedLength (drop place rest) stated_length
 IsSearchResult ended rest End = (ended ≡ true) × HasNoFurtherEvent rest
 
--- ---- The buffer of a finder: the octets that were passed, and after them the remaining ones.
+-- ---- The buffer of a finder, in which the passed octets precede the remaining ones.
 
--- The counts of a finder are small, it buffers no more than it needs, no fault comes after the end
--- of the stream, and each read before a fault or the end returned an octet.
+-- The counts of a finder do not overflow, and the finder buffers no more octets than allowed. A
+-- finder that has found the end of the stream has no fault. Each read before a fault or the end of
+-- the stream returned at least one octet.
 abbrev pub IsFinder : Inside → Type 0
 IsFinder f =
     (f.passed ≤ length f.input.held)
@@ -222,15 +229,15 @@ IsFinder f =
     × (f.fault ≡ None → f.input.ended ≡ false
     → f.input.reads ≤ f.offset + (length f.input.held - f.passed))
 
--- ---- What a call of `Finder::next` returns.
+-- ---- The result of a call to `Finder::next`.
 
--- the events of a result, or `failed` if it is a fault
+-- the events in a result, or `failed` if the result is a fault
 abbrev pub events_returned : List StreamEvent → Result Event RunFault → List StreamEvent
 events_returned failed (Ok event) = events_of event
 events_returned failed (Err fault) = failed
 
--- This is how a call with this result leaves the finder. A returned frame is still buffered, before
--- the remaining octets.
+-- A call with the given result changed the finder from `old` to `new`. A returned frame is still
+-- buffered, directly before the remaining octets.
 abbrev pub LeavesFinder : FinderModel → FinderModel → Result Event RunFault → Type 0
 LeavesFinder old new (Ok (Frame offset octets)) =
     (new.fault ≡ None) × (old.at < new.at) × (12 ≤ length octets.now)
@@ -241,25 +248,26 @@ LeavesFinder old new (Ok Done) = (new.fault ≡ None) × HasNoMoreEvents new
 LeavesFinder old new (Err fault) =
     (old.ended ≡ false) × (old.fault ≡ None → StopsFinder old new fault)
 
--- A call reads octets only while no event is certain, and returns the next event.
+-- A call read octets only while no event was certain, and returned the next event or a fault.
 pub record ReturnsNextEvent (left left' : Option (List ℕ)) (reads reads' : ℕ)
     (old new : FinderModel)
     (result : Result Event RunFault) : Type 0 where
   pub steps : ReadsOn left left' old new (events_returned [] result)
       (events_returned (first_left new) result)
   pub ends : LeavesFinder old new result
-  -- the reader and the finder count the reads
+  -- The reader and the finder counted the same number of reads.
   pub counts : AddsReads reads reads' old.reads new.reads
-  -- a read is made only if no event in the remaining octets is certain
+  -- The call made a read only if no event in the remaining octets was certain.
   pub waits : old.reads ≢ new.reads → NoEventCertain old.at old.rest
   pub near : new.at < 2 ^ 63
-  -- at most 4,096 octets are buffered or, if that is more, the greatest length declared so far
+  -- The number of buffered octets is at most 4,096 or the greatest message length declared so far,
+  -- whichever is greater.
   pub bound : held new ≤ max min_held new.longest
-  -- after an earlier fault, nothing changes
+  -- If a fault had occurred earlier, the call changed nothing.
   pub again : IfSome old.fault (λ _. new ≡ old)
 
--- No event in the remaining octets is certain, and none was passed. The greatest length covers the
--- length that is declared at the start of the remaining octets.
+-- No event was passed, and no event in the remaining octets is certain yet. The greatest declared
+-- length was updated with the length declared at the start of the remaining octets.
 pub record NeedsRead (old new : FinderModel) : Type 0 where
   pub sound : old.fault ≡ None
   pub passes : (left : Option (List ℕ)) → ReadsAndPasses left left old new [] []
@@ -271,8 +279,8 @@ pub record NeedsRead (old new : FinderModel) : Type 0 where
   pub few : length new.rest < max min_held new.longest
   pub longest : new.longest ≡ max old.longest (length_here new.rest)
 
--- The buffered octets make the next event certain, or a read is needed first (`None`). An earlier
--- fault is returned again.
+-- The call returned the next event because the buffered octets make it certain, or `None` because a
+-- read is needed first. If a fault had occurred earlier, the call returned it again.
 abbrev pub GivesHeldEvent : FinderModel → FinderModel → Option (Result Event RunFault) → Type 0
 GivesHeldEvent old new (Some (Ok event)) =
     (old.fault ≡ None) × ((left : Option (List ℕ)) (reads : ℕ)
@@ -280,7 +288,7 @@ GivesHeldEvent old new (Some (Ok event)) =
 GivesHeldEvent old new (Some (Err fault)) = (old.fault ≡ Some fault) × (new ≡ old)
 GivesHeldEvent old new None = NeedsRead old new
 
--- the remaining part of the input buffer of a finder; the gap before it is not in the model
+-- the input buffer of a finder, reduced to the remaining octets (with no gap before them)
 abbrev pub input_left : FinderModel → InputModel
 input_left s =
     record {
@@ -292,7 +300,7 @@ input_left s =
       gap = 0;
     }
 
--- One read appends octets to the remaining ones, or finds the end of the stream, or a fault stops
+-- A read appended octets to the remaining ones or found the end of the stream, or a fault stopped
 -- the finder.
 pub record ReadsMore (left left' : Option (List ℕ)) (old new : FinderModel)
     (result : Result (Unit {0}) RunFault) (bs : List ℕ) : Type 0 where
@@ -303,8 +311,8 @@ pub record ReadsMore (left left' : Option (List ℕ)) (old new : FinderModel)
   pub long : result ≡ Err InputTooLong → max_reads ≤ new.at + length new.rest
   pub longest : new.longest ≡ old.longest
 
--- All octets that were read, up to offset `end`, are buffered: those from the start of a returned
--- frame on, or those after the four octets of a stray.
+-- The offset of the returned frame (or of the first octet after the returned stray `BUFR`) plus the
+-- number of buffered octets is at least `end`.
 abbrev pub HoldsUnread : (end : ℕ) → FinderModel → Result Event RunFault → Type 0
 HoldsUnread end new (Ok (Frame offset octets)) = end ≤ offset + held new
 HoldsUnread end new (Ok (Stray offset cause)) = end ≤ offset + 4 + held new

@@ -1,4 +1,4 @@
--- The reads of an input: how many there may be, and which failures are counted. (own)
+-- The maximum number of reads from an input, and how failed reads are counted (own).
 -- Cited by public contracts.
 use Rattle.std.specs.Prelude.{◌≡◌, ℕ, ◌-◌, ◌*◌, min, ◌<◌, ◌≤◌, ◌^◌, nat_lt, nat_le, ◌&&◌, if◌then◌else◌, Result, Ok, Err, ◌+◌, Bool, true, false, List, [], ◌++◌, length, Option, MatchResult}
 use Rattle.bufr_bits.specs.Prelude.{counted}
@@ -8,7 +8,7 @@ use Rattle.std.specs.Io.KnownBytes.{Consumes, IsAtEnd}
 
 -- ---- The counts of a reader after a call. (own)
 
--- the count of failed reads after a call: `Err Read` adds one, and nothing else does
+-- the number of failed reads after a call; only the result `Err Read` adds one
 abbrev pub read_failures_after : {X : Type 0} → ℕ → Result X RunFault → ℕ
 read_failures_after count (Err Read) = counted count 1
 read_failures_after count _ = count
@@ -16,13 +16,14 @@ read_failures_after count _ = count
 abbrev pub max_reads : ℕ
 max_reads = 2 ^ 32
 
--- The reads of a reader raised a count of them from `before` to `after`, which is at most 2^32.
+-- The reader made `after - before` reads, and `after` is at most 2^32.
 pub record AddsReads (reads reads' before after : ℕ) : Type 0 where
   pub made : reads' ≡ counted reads (after - before)
   pub order : before ≤ after
   pub most : after ≤ max_reads
 
--- At most 2^32 reads were made: exactly 2^32 if the input is too long, and fewer if memory ran out.
+-- At most 2^32 reads were made. If the input was too long, exactly 2^32 reads were made; if memory
+-- ran out, fewer were made.
 abbrev pub MakesReads : {X : Type 0} → (reads reads' : ℕ) → Result X RunFault → Type 0
 MakesReads reads reads' result =
     (n : ℕ) × (n ≤ max_reads) × (reads' ≡ counted reads n)
@@ -30,32 +31,32 @@ MakesReads reads reads' result =
 
 -- the model of an input buffer
 pub record InputModel : Type 0 where
-  -- the buffered octets: they were read and not yet skipped
+  -- the buffered octets, which have been read but not yet skipped
   pub held : List ℕ
-  -- whether a read found the end of the input
+  -- whether a read has found the end of the input
   pub ended : Bool
-  -- the number of reads made
+  -- the number of reads made so far
   pub reads : ℕ
-  -- the capacity of the buffer, in octets
+  -- the buffer's capacity, in octets
   pub room : ℕ
   -- the free space after the buffered octets, in octets
   pub free : ℕ
-  -- the number of octets before the buffered ones, which were skipped
+  -- the number of skipped octets that precede the buffered ones in memory
   pub gap : ℕ
 
--- the buffer of an input that has not been read
+-- the buffer of an input that has not been read yet
 abbrev pub new_input : InputModel
 new_input = record { held = []; ended = false; reads = 0; room = 0; free = 0; gap = 0 }
 
--- No octets were read: the read failed, or 2^32 reads were already made, or memory ran out, which
--- happens only if `refused` holds.
+-- No octets were read, because the read failed, 2^32 reads had already been made, or memory ran
+-- out. Memory can run out only if `refused` is true.
 abbrev pub FillFails : (refused : Type 0) → InputModel → InputModel → RunFault → Type 0
 FillFails refused old new Read = new.reads ≡ old.reads + 1
 FillFails refused old new Write = ⊥
 FillFails refused old new InputTooLong = (new.reads ≡ old.reads) × (new.reads ≡ max_reads)
 FillFails refused old new Memory = (new.reads ≡ old.reads) × (new.reads < max_reads) × refused
 
--- A read returned octets, or it found the end of the input, or there is a fault.
+-- A read returned octets or found the end of the input, or a fault occurred.
 abbrev pub FillEnds : (refused : Type 0) → InputModel → InputModel → List ℕ
     → Result (Unit {0}) RunFault → Type 0
 FillEnds refused old new bs (Ok u) =
@@ -63,15 +64,16 @@ FillEnds refused old new bs (Ok u) =
 FillEnds refused old new bs (Err fault) =
     (bs ≡ []) × (new.ended ≡ false) × FillFails refused old new fault
 
--- Before a read, the buffered octets move to the start of the buffer if at least as many were
--- skipped.
+-- If a read was made and the buffer contained at least as many skipped octets as buffered ones, the
+-- buffered octets were moved to the start of the buffer. Otherwise, the buffered octets were not
+-- moved.
 abbrev pub SlidesOver : (old new : InputModel) → Type 0
 SlidesOver old new =
     new.gap ≡ (if nat_lt old.reads new.reads && nat_le (length old.held) old.gap then 0
     else old.gap)
 
--- the number of octets that the read, if one was made, requested: as many as fit after the buffered
--- octets, but at most `most`
+-- The number of octets that a call requested. If the call made no read, it requested none;
+-- otherwise, it requested as many as fit after the buffered octets, but at most `most`.
 abbrev pub asked_by : (most : ℕ) → InputModel → InputModel → ℕ
 asked_by most old new =
     (new.reads - old.reads) * min most (new.free + length new.held - length old.held)
@@ -80,8 +82,8 @@ asked_by most old new =
 abbrev pub AsksAtMost : (asked asked' most : ℕ) → Type 0
 AsksAtMost asked asked' most = asked' ≤ counted asked most
 
--- One read appends octets to those buffered, or finds the end of the input, or there is a fault.
--- Memory runs out only if `refused` holds.
+-- A read appended octets to the buffered ones or found the end of the input, or a fault occurred.
+-- Memory can run out only if `refused` is true.
 pub record FillsInput (left left' : Option (List ℕ)) (old new : InputModel) (refused : Type 0)
     (result : Result (Unit {0}) RunFault) (bs : List ℕ) : Type 0 where
   pub read : Consumes left left' bs
@@ -90,8 +92,8 @@ pub record FillsInput (left left' : Option (List ℕ)) (old new : InputModel) (r
   pub room : old.room ≤ new.room
   pub ends : FillEnds refused old new bs result
 
--- One read appends octets to the earlier ones. Unless it fails, it returns none only at the end of
--- the input.
+-- A read appended octets to those read earlier. If the read succeeded but returned no octets, it
+-- found the end of the input.
 pub record ReadsOnce (left left' : Option (List ℕ)) (old new : List ℕ) (result : Result ℕ RunFault)
     (bs : List ℕ) : Type 0 where
   pub read : Consumes left left' bs
@@ -99,8 +101,8 @@ pub record ReadsOnce (left left' : Option (List ℕ)) (old new : List ℕ) (resu
   pub outcome : MatchResult result (λ n. (n ≡ length bs) × (n ≡ 0 → IsAtEnd left'))
       (λ fault. (fault ≡ Read) × (bs ≡ []))
 
--- Reading stopped at the end of the input or because of a fault: an input is too long after 2^32
--- reads, and memory runs out only before that many.
+-- Reading stopped at the end of the input or because of a fault. `InputTooLong` occurs only after
+-- 2^32 reads, and `Memory` only after fewer reads.
 abbrev pub InputEnds : {X : Type 0} → (left : Option (List ℕ)) → (reads : ℕ)
     → Result X RunFault → Type 0
 InputEnds left reads (Ok x) = IsAtEnd left
@@ -109,8 +111,8 @@ InputEnds left reads (Err Write) = ⊥
 InputEnds left reads (Err InputTooLong) = reads ≡ max_reads
 InputEnds left reads (Err Memory) = reads < max_reads
 
--- Reads append their octets to the earlier ones. Unless there is a fault, the end of the input was
--- found.
+-- Reads appended octets to those read earlier. Unless a fault occurred, the reads reached the end
+-- of the input.
 pub record ReadsInput {X : Type 0} (left left' : Option (List ℕ)) (old new : List ℕ) (reads : ℕ)
     (result : Result X RunFault) (bs : List ℕ) : Type 0 where
   pub read : Consumes left left' bs

@@ -1,6 +1,5 @@
--- The octets of a message that is written, in edition 3 or 4. (WMO-No. 306, Volume I.2, FM 94:
--- sections 0 to 5) Our choices: each section is as short as its content allows, and reserved bits
--- are 0.
+-- The octets of an edition 3 or 4 message (WMO-No. 306, Volume I.2, FM 94: sections 0 to 5). Each
+-- section is as short as its content allows, and reserved bits are 0; these are our choices.
 -- Cited by public contracts.
 use Rattle.std.specs.Prelude.{◌≡◌, ℕ, ◌≤◌, ◌+◌, ◌*◌, ◌==◌, nat_le, ◌&&◌, ◌||◌, Bool, true, List, [], ◌∷◌, ◌++◌, Option, Some, None, length, codes, is_some, slice_index, if◌then◌else◌}
 use Rattle.bufr_frame.specs.Octets.{three_octets, two_octets, octets_of_words}
@@ -8,7 +7,7 @@ use Rattle.bufr_frame.specs.Section1.{is_edition, min_section_1, octets_3, octet
 use Rattle.bufr_frame.specs.Sections.{Sections, is_padded}
 use Rattle.bufr_frame.specs.declared.section1.Head.{Head}
 
--- what is written in addition to the head
+-- the parts of a message other than its head
 pub record MessageParts : Type 0 where
   pub local1 : List ℕ
   pub section2 : Option (List ℕ)
@@ -18,7 +17,7 @@ pub record MessageParts : Type 0 where
   pub compressed : Bool
   pub payload : List ℕ
 
--- the parts from the arguments of `write_message`
+-- the parts that the arguments of `write_message` specify
 abbrev pub parts_of : List ℕ → Option (List ℕ) → List ℕ → ℕ
     → (observed compressed : Bool) → List ℕ → MessageParts
 parts_of local1 section2 descriptors subsets observed compressed payload =
@@ -32,78 +31,81 @@ parts_of local1 section2 descriptors subsets observed compressed payload =
       payload = payload;
     }
 
--- what is written in a section 3 or 4 after its first `prefix` octets: the content, and in edition
--- 3 a zero octet if the length of the section would be odd
+-- the content that follows the first `prefix` octets of section 3 or 4, with a zero octet appended
+-- in edition 3 if the section's length would otherwise be odd
 -- rule: least-lengths, writes-no-pad-octet, writes-even-sections
 abbrev pub with_even_length : (edition prefix : ℕ) → List ℕ → List ℕ
 with_even_length edition prefix octets =
     if is_padded edition (prefix + length octets) then octets ++ 0 ∷ [] else octets
 
--- the greatest length of a message: 2^24 - 1, since three octets declare it
+-- the maximum length of a message, which is 2^24 - 1 because the length is stored in three octets
 -- rule: greatest-length
 abbrev pub max_octets : ℕ
 max_octets = 16777215
 
--- the number of octets by which a message may grow when it is written again: two padding octets in
--- edition 3
+-- the maximum number of octets by which a message can grow when it is rewritten, which is 2 in
+-- edition 3 (for padding) and 0 in edition 4
 -- rule: becomes-canonical, encode-may-grow
 abbrev pub max_extra_octets : (edition : ℕ) → ℕ
 max_extra_octets edition = if edition == 3 then 2 else 0
 
--- section 0: `BUFR`, the length of the message, and the edition
+-- section 0, which consists of `BUFR`, the length of the message, and the edition
 -- rule: section-0
 abbrev pub section0_octets : (size edition : ℕ) → List ℕ
 section0_octets size edition = codes "BUFR" ++ three_octets size ++ edition ∷ []
 
--- whether a head can be written: in edition 3, centre, sub-centre and year have one octet each, and
--- local sub-category and second have none
+-- Whether a head (the edition and the values of section 1) can be written. In edition 3, the
+-- centre, the sub-centre and the year are stored in one octet each, and the local sub-category and
+-- the seconds are not stored.
 abbrev pub is_writable : Head → Bool
 is_writable h =
     (h.edition == 4) || ((h.edition == 3) && (nat_le h.centre 255 && (nat_le h.subcentre 255
     && (nat_le h.year 255 && (nat_le h.local_subcategory 0 && nat_le h.second 0)))))
 
--- The edition of the head is supported, and each of its values fits into its octets.
+-- The head's edition is supported, and each value fits in the octets that store it.
 pub record IsFitting (h : Head) : Type 0 where
   pub edition : is_edition h.edition ≡ true
   pub fits : (i : ℕ) → slice_index (values_of h) i ≤ slice_index (greatest_values h.edition) i
 
--- section 1 from octet 4 up to local use; flag bit 1 (128) means that there is a section 2
+-- section 1 from octet 4 on, without the octets for local use; bit 1 of the flags (value 128) is
+-- set if section 2 is present
 -- rule: section-2-flag
 abbrev pub head_octets : Head → (optional : Bool) → List ℕ
 head_octets h optional =
     let flags = if optional then 128 else 0 in
     if h.edition == 3 then octets_3 h flags else octets_4 h flags
 
--- section 1: its length, its values, and its octets for local use
+-- section 1, which consists of its length, the values, and the octets for local use
 -- rule: sections-1-and-2-as-given
 abbrev pub section1_octets : Head → List ℕ → (optional : Bool) → List ℕ
 section1_octets h local1 optional =
     three_octets (min_section_1 h.edition + length local1) ++ head_octets h optional ++ local1
 
--- section 4: its length, a reserved octet, and the payload
+-- section 4, which consists of its length, a reserved octet, and the payload
 -- rule: section-4
 abbrev pub section4_octets : List ℕ → List ℕ
 section4_octets payload = three_octets (4 + length payload) ++ 0 ∷ payload
 
--- section 2 if there is one, which has the form of section 4
+-- section 2, which has the same layout as section 4, or no octets if section 2 is absent
 -- rule: section-2, sections-1-and-2-as-given
 abbrev pub section2_octets : Option (List ℕ) → List ℕ
 section2_octets None = []
 section2_octets (Some octets) = section4_octets octets
 
--- octet 7 of section 3: bit 1 (128) means observed, bit 2 (64) compressed
+-- octet 7 of section 3, in which bit 1 (value 128) is set for observed data and bit 2 (value 64)
+-- for compressed data
 -- rule: reserved-zero
 abbrev pub data_flags : (observed compressed : Bool) → ℕ
 data_flags observed compressed = (if observed then 128 else 0) + (if compressed then 64 else 0)
 
--- section 3: its length, a reserved octet, the number of subsets, the flags, and `content` (the
--- descriptors and their padding)
+-- section 3, which consists of its length, a reserved octet, the number of subsets, the flags, and
+-- `content` (the descriptors and their padding)
 -- rule: section-3, reserved-zero, writes-no-pad-octet
 abbrev pub section3_octets : List ℕ → (subsets flags : ℕ) → List ℕ
 section3_octets content subsets flags =
     three_octets (7 + length content) ++ 0 ∷ two_octets subsets ++ flags ∷ content
 
--- the length of a message of these parts: sections 0 to 5
+-- the length of a message with the given parts, from section 0 to section 5
 abbrev pub message_size : (edition : ℕ) → MessageParts → ℕ
 message_size edition p =
     8 + (min_section_1 edition + length p.local1) + length (section2_octets p.section2)
@@ -120,7 +122,8 @@ message_octets h p =
     (octets_of_words p.descriptors)) p.subsets (data_flags p.observed p.compressed)
     ++ (section4_octets (with_even_length h.edition 4 p.payload) ++ codes "7777"))))
 
--- the sections of a message of these parts; in edition 3, a padding octet may follow the payload
+-- the sections of a message with the given parts; in edition 3, the payload may end with a padding
+-- octet
 abbrev pub sections_from : Head → MessageParts → Sections
 sections_from h p = record {
   head = h;
@@ -134,22 +137,23 @@ sections_from h p = record {
   size = message_size h.edition p;
 }
 
--- the parts from which a message of these sections is written
+-- the parts from which a message with the given sections is written
 abbrev pub parts_in : Sections → MessageParts
 parts_in s = parts_of s.local1 s.section2 s.descriptors s.subsets s.observed s.compressed s.payload
 
--- ---- Private: the length of a message before it is written.
+-- ---- The length of a message that has not been written yet. Only private functions need this
+-- length.
 
--- the length of a section 3 or 4 with its padding
+-- the length of section 3 or 4, including its padding
 -- rule: least-lengths
 abbrev pub even_size : (edition size : ℕ) → ℕ
 even_size edition size = if is_padded edition size then size + 1 else size
 
--- octets, with a zero octet after them if `pads`
+-- the octets, followed by a zero octet if `pads` is true
 abbrev pub with_pad_octet : (pads : Bool) → List ℕ → List ℕ
 with_pad_octet pads octets = if pads then octets ++ 0 ∷ [] else octets
 
--- the length of a message, from the lengths of its parts
+-- the length of a message, computed from the lengths of its parts
 abbrev pub size_from : (edition local1 : ℕ) → Option (List ℕ) → (descriptors payload : ℕ) → ℕ
 size_from edition local1 section2 descriptors payload =
     8 + (min_section_1 edition + local1) + length (section2_octets section2)

@@ -8,5 +8,5 @@ pub mod Numbers
 pub mod Octets
 pub mod Sections
 pub mod Section1
--- the names that proofs and other crates cite, re-exported
+-- re-exports of the names that proofs and other crates use
 pub mod Prelude

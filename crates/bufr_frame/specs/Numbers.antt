@@ -1,4 +1,4 @@
--- The number of each fault and its text, as parts that are joined. (own)
+-- The number and the text of each fault (own). The text is a list of parts that are concatenated.
 -- Cited by public contracts.
 use Rattle.std.specs.Prelude.{ℕ, List, [], ◌∷◌, codes, decimal}
 use Rattle.bufr_frame.specs.declared.fault.Cause.{Cause}
@@ -10,31 +10,31 @@ use Rattle.bufr_frame.specs.declared.fault.RunFault.TheVariants as run_fault
 use Rattle.bufr_frame.specs.declared.fault.WriteFault.{WriteFault}
 use Rattle.bufr_frame.specs.declared.fault.WriteFault.TheVariants as write
 
--- why no message begins at a `BUFR`: the stream ends before the message does, the declared length
--- is below 12, or there is no `7777` at the end
+-- The number and the text that report why no message begins at a `BUFR`. Either the stream ends
+-- before the message does, or the declared length is less than 12, or `7777` is missing at the end.
 -- rule: fault-1, fault-2, fault-3
 abbrev pub cause_report : Cause → ℕ × List (List ℕ)
 cause_report cause.Cut = (1, codes "cut" ∷ [])
 cause_report cause.ShortLength = (2, codes "short length" ∷ [])
 cause_report cause.NoEnd = (3, codes "no end" ∷ [])
 
--- a fault in the sections of a message
+-- the number and the text of a fault in the sections of a message
 -- rule: fault-10, fault-11, fault-12, fault-13, fault-14
 abbrev pub section_report : SectionFault → ℕ × List (List ℕ)
--- the edition is not 3 or 4
+-- The edition is neither 3 nor 4.
 section_report (section.Edition edition) = (10, codes "edition " ∷ decimal edition ∷ [])
--- section k is shorter than allowed
+-- Section k is shorter than allowed.
 section_report (section.SectionShort k) = (11, codes "section " ∷ decimal k ∷ codes " short" ∷ [])
--- section k extends past the beginning of section 5
+-- Section k extends into section 5.
 section_report (section.SectionPast k) =
     (12, codes "section " ∷ decimal k ∷ codes " past the end" ∷ [])
--- section 4 ends before the beginning of section 5
+-- Section 4 ends before section 5 begins.
 section_report section.SectionsEnd = (13, codes "sections do not meet the end" ∷ [])
--- a message of edition 3 is too long (`is_long_edition_3`)
+-- An edition 3 message is too long (see `is_long_edition_3`).
 section_report section.Edition3Long = (14, codes "edition 3 length" ∷ [])
 
--- a fault that stops a run: a device failed, 2^32 reads did not reach the end of the input, or
--- memory ran out
+-- The number and the text of a fault that stops a run. A read or a write failed, 2^32 reads did not
+-- reach the end of the input, or memory ran out.
 -- rule: fault-70, fault-71, fault-72, fault-73
 abbrev pub run_report : RunFault → ℕ × List (List ℕ)
 run_report run_fault.Read = (70, codes "read failed" ∷ [])

@@ -1,43 +1,44 @@
--- The values of section 1, and the octets in which each edition stores them. (WMO-No. 306, Volume
--- I.2, FM 94: section 1)
+-- The values in section 1, and the octets in which each edition stores them (WMO-No. 306, Volume
+-- I.2, FM 94: section 1).
 -- Cited by public contracts.
 use Rattle.std.specs.Prelude.{ℕ, ◌+◌, ◌==◌, ◌||◌, Bool, List, [], ◌∷◌, ◌++◌, slice_index, if◌then◌else◌}
 use Rattle.bufr_frame.specs.Octets.{u16_at, two_octets}
 use Rattle.bufr_frame.specs.declared.section1.Head.{Head}
 
--- whether an edition is supported: 3 and 4 are
+-- whether an edition is supported (only editions 3 and 4 are)
 -- rule: edition-first
 abbrev pub is_edition : ℕ → Bool
 is_edition edition = (edition == 3) || (edition == 4)
 
--- the edition: octet 8 of section 0
+-- the edition of a message, which is stored in octet 8 of section 0
 abbrev pub edition_of : List ℕ → ℕ
 edition_of m = slice_index m 7
 
--- octet n of section 1, counted from 1; section 1 follows the 8 octets of section 0
+-- octet n of section 1 (counted from 1), which follows the 8 octets of section 0
 abbrev pub octet_at : List ℕ → (n : ℕ) → ℕ
 octet_at m n = slice_index m (7 + n)
 
--- the least length of section 1, which is its length without octets for local use
+-- the minimum length of section 1, which is its length without octets for local use
 -- rule: local-use, length-under-least
 unfoldable pub min_section_1 : (edition : ℕ) → ℕ
 min_section_1 edition = if edition == 3 then 17 else 22
 
--- the flags of section 1: octet 8 in edition 3 and octet 10 in edition 4
+-- the flags in section 1, which are stored in octet 8 in edition 3 and in octet 10 in edition 4
 abbrev pub flags_of : List ℕ → ℕ
 flags_of m = octet_at m (if edition_of m == 3 then 8 else 10)
 
--- where section 1 stores a value: in octet n, in octets n and n + 1, or nowhere
+-- whether section 1 stores a value in octet n, in octets n and n + 1, or not at all
 pub data HeadOctets : Type 0 where
   OneOctet : (n : ℕ) → HeadOctets
   TwoOctets : (n : ℕ) → HeadOctets
   NoOctets : HeadOctets
 
--- The head with this edition, for which `value key in_4 in_3` gives each other value: `key` is the
--- index of its line among the header lines of a dump (that of the edition is 0), and `in_4` and
--- `in_3` are its octets in the two editions. It is used for the values of a message (`head_of`) and
--- of a dump (`header_in`), and for the greatest values (`greatest_values`). In edition 3, the year
--- is that of the century, as in the message (own).
+-- The head with the given edition; `value key in_4 in_3` gives each of its other values. `key` is
+-- the index of the value's line among the header lines of a dump (the edition has index 0), and
+-- `in_4` and `in_3` are the octets that store the value in editions 4 and 3. This definition is
+-- used for the values in a message (`head_of`), for the values in a dump (`header_in`), and for the
+-- maximum values (`greatest_values`). In edition 3, the year is the year of the century, as in the
+-- message (own).
 -- rule: section-1-of-edition-3, section-1-of-edition-4, year-of-the-century, edition-3-lacks
 -- rule: listing-of-edition-3, odd-values-kept
 abbrev pub head_by : (edition : ℕ) → (value : (key : ℕ) → (in_4 in_3 : HeadOctets) → ℕ) → Head
@@ -60,31 +61,31 @@ head_by edition value = record {
   second = value 15 (OneOctet 22) NoOctets;
 }
 
--- the value in octets of section 1; 0 if the edition does not store it
+-- the value in the given octets of section 1, or 0 if the edition does not store it
 abbrev pub value_at : List ℕ → HeadOctets → ℕ
 value_at m (OneOctet n) = octet_at m n
 value_at m (TwoOctets n) = u16_at m (7 + n)
 value_at m NoOctets = 0
 
--- the greatest value that fits into these octets
+-- the greatest value that fits in the given octets
 abbrev pub greatest : HeadOctets → ℕ
 greatest (OneOctet n) = 255
 greatest (TwoOctets n) = 65535
 greatest NoOctets = 0
 
--- the edition and the values of section 1 of a message
+-- the edition of a message and the values in its section 1
 abbrev pub head_of : List ℕ → Head
 head_of m = head_by (edition_of m)
     (λ key in_4 in_3. value_at m (if edition_of m == 3 then in_3 else in_4))
 
--- section 1 of edition 3 as it is written, from octet 4 to the last octet before local use
+-- section 1 in edition 3, from octet 4 on, without the octets for local use
 -- rule: section-1-of-edition-3, year-of-the-century
 abbrev pub octets_3 : Head → (flags : ℕ) → List ℕ
 octets_3 h flags =
     h.master ∷ h.subcentre ∷ h.centre ∷ h.update ∷ flags ∷ h.category ∷ h.subcategory
     ∷ h.master_version ∷ h.local_version ∷ h.year ∷ h.month ∷ h.day ∷ h.hour ∷ h.minute ∷ []
 
--- the same in edition 4
+-- section 1 in edition 4, from octet 4 on, without the octets for local use
 -- rule: section-1-of-edition-4
 abbrev pub octets_4 : Head → (flags : ℕ) → List ℕ
 octets_4 h flags =
@@ -92,14 +93,14 @@ octets_4 h flags =
     ∷ h.subcategory ∷ h.local_subcategory ∷ h.master_version ∷ h.local_version ∷ two_octets h.year
     ++ h.month ∷ h.day ∷ h.hour ∷ h.minute ∷ h.second ∷ []
 
--- the values of a head without the edition, in the order of their keys
+-- the values of a head, except the edition, in the order of their keys
 abbrev pub values_of : Head → List ℕ
 values_of h =
     h.master ∷ h.centre ∷ h.subcentre ∷ h.update ∷ h.category ∷ h.subcategory
     ∷ h.local_subcategory ∷ h.master_version ∷ h.local_version ∷ h.year ∷ h.month ∷ h.day
     ∷ h.hour ∷ h.minute ∷ h.second ∷ []
 
--- the greatest value of each key after the edition, in an edition
+-- the maximum values that an edition allows, in the order of `values_of`
 -- rule: reading-header-ranges
 abbrev pub greatest_values : (edition : ℕ) → List ℕ
 greatest_values edition =

@@ -1,7 +1,7 @@
--- The sections of a message, or the first fault. (WMO-No. 306, Volume I.2, FM 94: sections 0 to 5)
--- Indices of a message count from 0, octets of a section from 1. Our choices: reserved bits are
+-- The sections of a message, or the first fault (WMO-No. 306, Volume I.2, FM 94: sections 0 to 5).
+-- Indices in a message are counted from 0, and octets in a section from 1. Reserved bits are
 -- ignored, the bits after the data remain at the end of `payload` and are not read, and edition 3
--- may have sections of odd length.
+-- messages may have sections of odd length; these are our choices.
 -- Cited by public contracts.
 use Rattle.std.specs.Prelude.{ℕ, ◌+◌, ◌-◌, ◌%◌, ◌==◌, ◌&&◌, ◌||◌, Bool, not, nat_lt, nat_le, List, Option, Some, None, Result, Ok, Err, length, slice_index, slice_range, if◌then◌else◌, ◌≡◌, ◌<◌, true, All, take, drop, codes}
 use Rattle.bufr_bits.specs.Prelude.{◌>>=◌}
@@ -14,23 +14,24 @@ use Rattle.bufr_frame.specs.declared.fault.SectionFault.TheVariants.{Edition, Se
 -- the parts of a message
 pub record Sections : Type 0 where
   pub head : Head
-  -- the octets of section 1 for local use
+  -- the section 1 octets for local use
   pub local1 : List ℕ
-  -- section 2 from octet 5 on, if there is a section 2
+  -- section 2 from octet 5 on, if it is present
   pub section2 : Option (List ℕ)
-  -- the descriptors of section 3, as numbers of two octets
+  -- the descriptors in section 3, as two-octet numbers
   pub descriptors : List ℕ
   pub subsets : ℕ
   pub observed : Bool
   pub compressed : Bool
   -- section 4 from octet 5 on
   pub payload : List ℕ
-  -- the length of the message in octets
+  -- the length of the message, in octets
   pub size : ℕ
 
--- The index after section k, which begins at index p. The checks come in this order: its three
--- length octets precede section 5 (the last four octets), its length is at least `least`, and it
--- ends before section 5.
+-- The index after section k, which begins at index p, or the first fault in that section. The three
+-- length octets of the section must precede section 5 (the last four octets), the length must be at
+-- least `least`, and the section must not extend into section 5. The requirements are checked in
+-- this order.
 -- rule: odd-sections-read, length-past-end, length-under-least, section-past-end
 -- rule: order-of-sections
 unfoldable pub section_end : List ℕ → (k least p : ℕ) → Result ℕ SectionFault
@@ -40,18 +41,20 @@ section_end m k least p =
     else if nat_lt (length m - 4) (p + u24_at m p) then Err (SectionPast k)
     else Ok (p + u24_at m p)
 
--- Whether a section 3 or 4 of this length gets a padding octet (zero) when a message is written: in
--- edition 3, FM 94 requires even lengths. Sections 1 and 2 get none (own), since it would be read
--- back as an octet for local use; so if their length is odd, the message does not conform to FM 94.
+-- Whether section 3 or 4 gets a padding octet (zero) when a message is written, given the section's
+-- length without padding. In edition 3, FM 94 requires even lengths. Sections 1 and 2 are not
+-- padded (own), because a padding octet would be read back as an octet for local use. Therefore, an
+-- edition 3 message does not conform to FM 94 if section 1 or 2 has an odd length.
 abbrev pub is_padded : (edition size : ℕ) → Bool
 is_padded edition size = (edition == 3) && (size % 2 == 1)
 
--- whether there is a section 2: bit 1 of the flags of section 1
+-- whether section 2 is present, as indicated by bit 1 of the flags in section 1
 -- rule: section-2-flag
 abbrev pub has_section2 : List ℕ → Bool
 has_section2 m = nat_le 128 (flags_of m)
 
--- the parts of a message whose sections 1 to 4 end at p1 to p4; without section 2, p2 is p1
+-- the parts of a message whose sections 1 to 4 end at indices p1 to p4; if section 2 is absent, p2
+-- equals p1
 -- rule: local-use, section-2, section-3, section-4, reserved-ignored
 abbrev pub parts : List ℕ → (p1 p2 p3 p4 : ℕ) → Sections
 parts m p1 p2 p3 p4 = record {
@@ -66,16 +69,18 @@ parts m p1 p2 p3 p4 = record {
   size = length m;
 }
 
--- Whether a message of edition 3 is refused (own), because encoding its dump might give more than
--- 2^24 - 1 octets: each odd section 3 or 4 gets a padding octet. (Nothing else gets longer.) For
--- simplicity, the limit is 2^24 - 1 - 2 even if only one section is odd.
+-- Whether an edition 3 message is rejected (own) because encoding its dump might result in more
+-- than 2^24 - 1 octets. Encoding adds a padding octet to section 3 or 4 if its length is odd, and
+-- lengthens nothing else. For simplicity, the limit is 2^24 - 1 - 2 even if only one of the two
+-- sections has an odd length.
 -- rule: edition-3-length
 abbrev pub is_long_edition_3 : List ℕ → (p2 p3 p4 : ℕ) → Bool
 is_long_edition_3 m p2 p3 p4 =
     nat_lt 16777213 (length m)
     && (is_padded (edition_of m) (p3 - p2) || is_padded (edition_of m) (p4 - p3))
 
--- the parts, if section 4 ends where section 5 (the last four octets) begins
+-- the parts of a message, or a fault if section 4 does not end where section 5 (the last four
+-- octets) begins or if the message is too long for edition 3
 -- rule: section-4-end, order-of-sections
 abbrev pub parts_if_end_matches : List ℕ → (p1 p2 p3 p4 : ℕ) → Result Sections SectionFault
 parts_if_end_matches m p1 p2 p3 p4 =
@@ -83,9 +88,9 @@ parts_if_end_matches m p1 p2 p3 p4 =
     else if is_long_edition_3 m p2 p3 p4 then Err Edition3Long
     else Ok (parts m p1 p2 p3 p4)
 
--- The sections, or the first fault: of the edition, then of sections 1 to 4 in order, then of the
--- end of section 4, then of the length in edition 3. Sections 2, 3 and 4 have at least 4, 7 and 4
--- octets.
+-- The sections of a message, or the first fault. The edition is checked first, then sections 1 to 4
+-- in order, then the end of section 4, and finally the length of an edition 3 message. Section 2
+-- has at least 4 octets, section 3 at least 7, and section 4 at least 4.
 -- rule: edition-first, sections-in-order, order-of-sections
 unfoldable pub sections_of : List ℕ → Result Sections SectionFault
 sections_of m = if not (is_edition (edition_of m)) then Err (Edition (edition_of m)) else do
@@ -95,24 +100,24 @@ sections_of m = if not (is_edition (edition_of m)) then Err (Edition (edition_of
   p4 ← section_end m 4 4 p3
   parts_if_end_matches m p1 p2 p3 p4
 
--- ---- Messages in the form in which `write_message` writes them.
+-- ---- Messages in the form that `write_message` produces.
 
--- the index where section 2 begins or, without section 2, section 3
+-- the index at which section 2 (or section 3, if section 2 is absent) begins
 abbrev pub section2_begins : List ℕ → ℕ
 section2_begins m = 8 + u24_at m 8
 
--- the index where section 3 begins
+-- the index at which section 3 begins
 abbrev pub section3_begins : List ℕ → ℕ
 section3_begins m =
     if has_section2 m then section2_begins m + u24_at m (section2_begins m) else section2_begins m
 
--- the index where section 4 begins
+-- the index at which section 4 begins
 abbrev pub section4_begins : List ℕ → ℕ
 section4_begins m = section3_begins m + u24_at m (section3_begins m)
 
--- A message as a finder returns it, with reserved bits that are zero. In edition 4, section 3 has
--- no padding octet. In edition 3, the lengths of sections 3 and 4 are even, and the padding octet
--- of section 3 is zero.
+-- A finder can return the message, whose reserved octets and bits are zero. In edition 4, section
+-- 3 has no padding octet. In edition 3, the lengths of sections 3 and 4 are even, and the padding
+-- octet of section 3 is zero.
 -- rule: canonical
 pub record IsPlain (m : List ℕ) : Type 0 where
   pub octets : All (λ octet. octet < 256) m

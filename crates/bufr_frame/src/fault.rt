@@ -1,4 +1,5 @@
-//! The faults of streams, messages, runs and writes, each with its number and the text of its line.
+//! Faults in streams, messages, runs and writes. Each fault has a number and a description, which
+//! are reported together.
 
 ghost use Rattle.std.specs.Prelude.{◌≡◌};
 ghost use Rattle.bufr_frame.specs.Numbers.{cause_report, section_report, run_report, number_of_write_fault};
@@ -9,13 +10,14 @@ use thiserror::Error;
 /// The reason why no message begins at an occurrence of `BUFR`.
 #[derive(Clone, Copy, Debug, PartialEq, Eq, Error)]
 pub enum Cause {
-    /// The stream ends within section 0, which has 8 octets, or within the declared length.
+    /// The stream ends before the 8 octets of section 0 are complete, or before the declared length
+    /// is reached.
     #[error("cut")]
     Cut,
     /// The declared length is less than 12 octets.
     #[error("short length")]
     ShortLength,
-    /// `7777` is not at the end of the declared length.
+    /// The octets within the declared length do not end with `7777`.
     #[error("no end")]
     NoEnd,
 }
@@ -29,15 +31,16 @@ pub enum SectionFault {
     /// This section is shorter than its fixed part.
     #[error("section {0} short")]
     SectionShort(u8),
-    /// This section, or its length, extends past the start of section 5.
+    /// This section, or the three octets that declare its length, would extend past the start of
+    /// section 5.
     #[error("section {0} past the end")]
     SectionPast(u8),
     /// Section 4 does not end where section 5 begins.
     #[error("sections do not meet the end")]
     SectionsEnd,
-    /// An edition 3 message with a section 3 or 4 of odd length has more than 16,777,213 octets.
-    /// Writing it again would make these lengths even, and the length of the message might no
-    /// longer fit into three octets.
+    /// An edition 3 message is longer than 16,777,213 octets, and the length of section 3 or 4 is
+    /// odd. If the message were written again, both lengths would become even, and the length of
+    /// the message might no longer fit in three octets.
     #[error("edition 3 length")]
     Edition3Long,
 }
@@ -48,7 +51,7 @@ pub enum RunFault {
     /// A read failed.
     #[error("read failed")]
     Read,
-    /// A write or a flush failed, or a write took no octets.
+    /// A write or a flush failed, or a write accepted no octets.
     #[error("write failed")]
     Write,
     /// The input did not end within 2^32 reads.
@@ -71,7 +74,7 @@ pub enum WriteFault {
 }
 
 impl Cause {
-    /// Returns the number of this fault: 1 to 3.
+    /// Returns the number of this fault (1 to 3).
     pub fn number(self) -> u8
         ensures { result ≡ (cause_report self).0 }
     {
@@ -84,7 +87,7 @@ impl Cause {
 }
 
 impl SectionFault {
-    /// Returns the number of this fault: 10 to 14.
+    /// Returns the number of this fault (10 to 14).
     pub fn number(self) -> u8
         ensures { result ≡ (section_report self).0 }
     {
@@ -99,7 +102,7 @@ impl SectionFault {
 }
 
 impl RunFault {
-    /// Returns the number of this fault: 70 to 73.
+    /// Returns the number of this fault (70 to 73).
     pub fn number(self) -> u8
         ensures { result ≡ (run_report self).0 }
     {
@@ -113,7 +116,7 @@ impl RunFault {
 }
 
 impl WriteFault {
-    /// Returns the number of this fault: 60 or 73.
+    /// Returns the number of this fault (60 or 73).
     pub fn number(self) -> u8
         ensures { result ≡ number_of_write_fault self }
     {

@@ -1,4 +1,4 @@
-//! The finder, which returns the messages of a stream one after another, and its search for `BUFR`.
+//! The finder, which searches a stream for `BUFR` and returns the messages in order.
 ghost use Rattle.std.specs.Prelude.{◌≡◌, ◌≢◌, ◌⊎◌, ◌≤◌, false, List, ℕ, ◌<◌, ◌+◌, ◌-◌, ◌*◌, ◌^◌, length, take, drop, codes, IfSome, Some, None, Option, max, Err};
 ghost use Rattle.memchr.specs.Find.{FindsNeedle};
 ghost use Rattle.bufr_frame.specs.Scan.{classify, stated_length};
@@ -17,28 +17,29 @@ use memchr::memmem;
 use std::alloc::Global;
 use std::marker::Model;
 
-/// The number of octets that may be buffered if no greater length was declared.
+/// The maximum number of buffered octets if no greater length has been declared.
 const MIN_HELD: usize = 4096;
 
-/// An event of a stream. Offsets are in octets, counted from 0.
+/// An event that a finder returns. Offsets are in octets and are counted from 0 at the start of the
+/// stream.
 #[derive(Clone, Copy, Debug)]
 pub enum Event<'a> {
-    /// A message: the offset of its first octet, and its octets from `BUFR` to `7777`.
+    /// A message. The fields are the offset of the message and its octets, from `BUFR` to `7777`.
     Frame(u64, &'a [u8]),
-    /// A stray, which is an occurrence of `BUFR` where no message begins: its offset, and the
-    /// cause.
+    /// A stray, which is an occurrence of `BUFR` at which no message begins. The fields are the
+    /// offset of the stray and the cause.
     Stray(u64, Cause),
     /// The end of the stream.
     Done,
 }
 
-/// A finder of the messages in a stream. Each `BUFR` that is not inside a frame either begins a
-/// frame or is a stray. The search continues after the frame, or after the four octets of the
-/// stray.
+/// A finder searches a stream for messages, which are also called frames. Each `BUFR` outside a
+/// frame either begins a frame or is a stray. The search then continues after the frame or after
+/// the four octets of the stray.
 ///
 /// The finder reads only until the next event is certain, so it returns the first message before it
-/// reads the second. It buffers at most 4,096 octets or, if that is more, the greatest length
-/// declared so far, and uses about twice as much memory.
+/// reads the second. The finder buffers at most 4,096 octets or the greatest length declared so
+/// far, whichever is greater. The finder allocates about twice as many octets as it may buffer.
 ///
 /// ```
 /// let mut finder = Finder::new(rt.alloc());
@@ -54,14 +55,14 @@ pub enum Event<'a> {
 /// (WMO-No. 306, Volume I.2, FM 94: section 0. The treatment of strays is our choice.)
 #[derive(Drop)]
 pub struct Finder {
-    /// The searcher for `BUFR`.
+    /// The searcher that finds `BUFR`.
     word: memmem::Finder<'static>,
-    /// The buffered octets. The search continues after the first `passed` of them.
+    /// The buffered octets. The search has already passed the first `passed` octets.
     input: InputBuffer,
     passed: usize,
-    /// The offset in the stream where the search continues.
+    /// The offset in the stream at which the search continues.
     offset: u64,
-    /// The fault that stopped the finder.
+    /// The fault that stopped the finder, if any.
     fault: Option<RunFault>,
     /// The greatest length declared so far, in octets.
     longest: usize,
@@ -102,9 +103,9 @@ impl Finder {
         }
     }
 
-    /// Returns the number of buffered octets: those still to be searched and, before them, those
-    /// passed since the last read, such as a frame that was returned. There are at most 4,096 of
-    /// them or, if that is more, [`Finder::longest`].
+    /// Returns the number of buffered octets. The buffer contains the octets that the search has
+    /// passed since the last read, such as a returned frame, followed by the octets that are still
+    /// to be searched. The number is at most 4,096 or [`Finder::longest`], whichever is greater.
     pub fn held(&self) -> usize
         ensures value { result ≡ held self.now }
         ensures bound { result ≤ max min_held self.now.longest }
@@ -112,16 +113,18 @@ impl Finder {
         self.input.held().len()
     }
 
-    /// Returns the greatest length, in octets, that was declared after a `BUFR` so far; 0 at the
-    /// start. After an event, this covers all events so far. After a fault, it also covers the
-    /// first `BUFR` whose event is not certain, if its length was read.
+    /// Returns the greatest length declared so far after a `BUFR`, in octets. At the start, the
+    /// result is 0. After an event has been returned, the result takes into account all events
+    /// returned so far. After a fault, the result also takes into account the first `BUFR` whose
+    /// event is not certain, if the length declared there has been read.
     pub fn longest(&self) -> usize
         ensures { result ≡ self.now.longest }
     {
         self.longest
     }
 
-    /// Moves the search forward by `n` octets, and takes the declared length into account.
+    /// Moves the search forward by `n` octets. If `stated_length` is greater than `longest`,
+    /// `longest` is set to `stated_length`.
     #[inline(always)]
     fn advance_to(&mut self, n: usize, stated_length: usize)
         requires within { n ≤ length self.old.rest }
@@ -135,8 +138,9 @@ impl Finder {
         self.longest = self.longest.max(stated_length);
     }
 
-    /// Moves the search past the next event, if the buffered octets make it certain, or else past
-    /// the octets in which no event begins.
+    /// Moves the search past the next event if the buffered octets make that event certain.
+    /// Otherwise, moves the search past the octets in which no event begins. Returns what the
+    /// search found.
     #[inline(always)]
     fn pass(&mut self) -> SearchResult
         ensures shows { IsSearchResult self.old.ended self.old.rest result }
@@ -162,7 +166,7 @@ impl Finder {
         shown
     }
 
-    /// Returns the event that the search passed last.
+    /// Returns the event that the search has just passed.
     #[inline(always)]
     fn passed_event(&self, here: Candidate, stated_length: usize) -> Event<'_>
         requires within { here ≡ Candidate.Frame → stated_length ≤ length self.now.before }
@@ -180,10 +184,11 @@ impl Finder {
         }
     }
 
-    /// Returns the next event, as [`Finder::next`] does, if the buffered octets make it certain. A
-    /// frame is borrowed until the next call. Returns `None` if a read is needed first
-    /// ([`Finder::read_more`]): no event in the remaining octets is certain, and the end of the
-    /// stream was not found. After a fault, every call returns the same fault.
+    /// Returns the next event, as [`Finder::next`] does, if the buffered octets make that event
+    /// certain. This function never reads. A returned frame is borrowed until the next call.
+    /// Returns `None` if more octets must be read first (see [`Finder::read_more`]), that is, if no
+    /// event in the remaining octets is certain and the end of the stream has not been found. After
+    /// a fault, every call returns the same fault.
     #[inline(always)]
     pub fn next_held(&mut self) -> Option<Result<Event<'_>, RunFault>>
         ensures* next { sem 𝓛 (Rests the_row self.entry
@@ -203,13 +208,13 @@ impl Finder {
         }
     }
 
-    /// Reads once. Call this if [`Finder::next_held`] returned `None`. The stream `r` must be the
-    /// same in every call.
+    /// Makes one read from the stream `r`. Call this function if [`Finder::next_held`] returned
+    /// `None`. The stream must be the same in every call.
     ///
     /// # Errors
     ///
-    /// The same as those of [`Finder::next`]. After a fault, every call returns the same fault and
-    /// reads nothing.
+    /// Returns the same errors as [`Finder::next`]. After a fault, every call returns the same
+    /// fault and reads nothing.
     pub fn read_more<R: Source>(&mut self, r: &mut R) -> Result<(), RunFault>
         requires going { self.old.ended ≡ false }
         requires few { length self.old.rest < max min_held self.old.longest }
@@ -220,12 +225,14 @@ impl Finder {
         ensures sure { self.old.fault ≡ None → R.waits r.old ≡ false
             → result ≢ Err RunFault.Read }
         ensures counts { AddsReads (R.reads r.old) (R.reads r.new) self.old.reads self.new.reads }
-        // A read requests as many octets as fit, up to the number that may be buffered.
+        // The read requests as many octets as fit in the free space, up to the number that may
+        // still be buffered.
         ensures asked { R.asked r.new ≡ counted (R.asked r.old)
             (asked_by (max min_held self.old.longest - length self.old.rest)
             (input_left self.old) (input_left self.new)) }
-        // After a read, the capacity is at least 8,192 octets. If it grows, it becomes twice the
-        // number of octets that were buffered, but at least 8,192.
+        // After a read, the capacity is at least 8,192 octets. If the capacity grows, the new
+        // capacity is twice the number of octets that were still to be searched, but at least
+        // 8,192.
         ensures least { 0 < self.new.reads → 2 * min_held ≤ self.new.room }
         ensures grows { (self.new.room ≡ self.old.room)
             ⊎ (2 * length self.old.rest ≤ self.new.room) }
@@ -239,27 +246,28 @@ impl Finder {
         if let Some(fault) = self.fault {
             return Err(fault);
         }
-        // The octets that the search passed are dropped to make space.
+        // The octets that the search has passed are dropped to make space.
         self.input.skip(self.passed);
         self.passed = 0;
         let limit = self.longest.max(MIN_HELD);
         let held = self.input.held().len();
-        // The buffer grows with the octets that arrive, since a stray may declare any length.
+        // The buffer grows only as octets arrive, because a stray may declare any length.
         let room = (2 * limit).min((2 * MIN_HELD).max(2 * held));
         let read = self.input.fill(r, limit - held, room);
         self.fault = read.err();
         read
     }
 
-    /// Returns the next event of the stream `r`, which must be the same in every call. A frame is
-    /// borrowed until the next call. After [`Event::Done`], every call returns it again.
+    /// Returns the next event in the stream `r`. The stream must be the same in every call. A
+    /// returned frame is borrowed until the next call. Once a call has returned [`Event::Done`],
+    /// every further call returns `Done` again.
     ///
     /// # Errors
     ///
-    /// [`RunFault::Read`] if a read failed in this call. [`RunFault::InputTooLong`] if 2^32 reads
-    /// did not find the end of the stream. [`RunFault::Memory`] if the buffer cannot grow. All
-    /// events that are certain at that point were returned before. After a fault, every call
-    /// returns the same fault and reads nothing.
+    /// [`RunFault::Read`] if a read in this call fails. [`RunFault::InputTooLong`] if the end of
+    /// the stream is not found within 2^32 reads. [`RunFault::Memory`] if the buffer cannot grow.
+    /// All events that are certain at the time of a fault have already been returned. After a
+    /// fault, every call returns the same fault and reads nothing.
     pub fn next<R: Source>(&mut self, r: &mut R) -> Result<Event<'_>, RunFault>
         ensures failed { self.old.fault ≡ None
             → R.failures r.new ≡ read_failures_after (R.failures r.old) result }
@@ -286,23 +294,24 @@ impl Finder {
     }
 }
 
-/// The index of the three octets that declare the length of a message: octets 5 to 7.
+/// The index of the three octets that declare the length of a message (octets 5 to 7).
 const LENGTH: usize = 4;
 
-/// The number of indices that are compared one by one first, since starting a search costs more.
+/// The number of indices that are checked one by one before a full search, which is expensive to
+/// start.
 const NEAR: usize = 16;
 
-/// What begins at a `BUFR` in a stream.
+/// The message or stray that begins at an occurrence of `BUFR` in a stream.
 #[derive(Clone, Copy)]
 pub(crate) enum Candidate {
-    /// A stray: no message begins, for this reason.
+    /// A stray. The field is the reason why no message begins here.
     Stray(Cause),
     /// A message.
     Frame,
 }
 
-/// Returns the length of what begins here: the declared length of a message, or the 4 octets of a
-/// stray.
+/// Returns the length of a candidate in octets. A message has its declared length, and a stray is 4
+/// octets long.
 fn candidate_len(here: Candidate, stated_length: usize) -> usize
     ensures { result ≡ len_at here stated_length }
 {
@@ -312,27 +321,30 @@ fn candidate_len(here: Candidate, stated_length: usize) -> usize
     }
 }
 
-/// What a search in the remaining octets found. `place` is an index into these, counted from 0.
-/// `stated_length` is the length declared there, or 0 if there are fewer than eight octets.
+/// The result of a search in the remaining octets. `place` is an index in the remaining octets,
+/// counted from 0. `stated_length` is the length declared at `place`, or 0 if fewer than eight
+/// octets remain from `place` on.
 #[derive(Clone, Copy)]
 pub(crate) enum SearchResult {
-    /// The next event: where its `BUFR` is, and what begins there.
+    /// The next event. The event's `BUFR` is at `place`, and `here` is the message or stray that
+    /// begins there.
     Found {
         place: usize,
         here: Candidate,
         stated_length: usize,
     },
-    /// No event begins before `place`, and more octets are needed to decide what begins there.
+    /// No event begins before `place`, and more octets are needed to decide what begins at `place`.
     NeedsMore {
         place: usize,
         stated_length: usize,
     },
-    /// There are no more events.
+    /// No further events follow.
     End,
 }
 
-/// Returns what begins at the start of `m`, which must begin with `BUFR`, if no octets follow `m`.
-/// The first case that applies counts.
+/// Returns whether `m` begins with a message or a stray, assuming that no octets follow `m`. `m`
+/// must begin with `BUFR`. If a stray has several causes, the one that is checked first is
+/// returned.
 #[inline(always)]
 // rule: stray-cut, stray-short-length, stray-no-end, input-ends-early, order-of-causes
 pub(crate) fn classify(m: &[u8]) -> Candidate
@@ -355,8 +367,9 @@ pub(crate) fn classify(m: &[u8]) -> Candidate
     Candidate::Frame
 }
 
-/// Returns the index of the first `BUFR`, or `None` if there is none. `word` is the searcher for
-/// it. Not inlined, so that its callers, which often find a `BUFR` nearby, stay small.
+/// Returns the index of the first `BUFR` in `rest`, or `None` if `rest` contains no `BUFR`. `word`
+/// must be a searcher for `BUFR`. This function is not inlined, so that its callers, which often
+/// find a nearby `BUFR` themselves, stay small.
 #[inline(never)]
 fn find_far(word: &memmem::Finder<'_>, rest: &[u8]) -> Option<usize>
     requires { word.now ≡ codes "BUFR" }
@@ -365,8 +378,8 @@ fn find_far(word: &memmem::Finder<'_>, rest: &[u8]) -> Option<usize>
     word.find(rest)
 }
 
-/// Returns the index of the first `BUFR`, as [`find_far`] does, but compares the first octets one
-/// by one.
+/// Returns the same index as [`find_far`], but checks the first few indices one by one before a
+/// full search.
 #[inline(always)]
 fn find_word(word: &memmem::Finder<'_>, rest: &[u8]) -> Option<usize>
     requires { word.now ≡ codes "BUFR" }
@@ -383,8 +396,8 @@ fn find_word(word: &memmem::Finder<'_>, rest: &[u8]) -> Option<usize>
     Some(near + place)
 }
 
-/// Searches `rest` for the next event. More octets may follow `rest`, unless `ended`. `word` is the
-/// searcher for `BUFR`.
+/// Searches `rest` for the next event. If `ended` is false, more octets may follow `rest`. `word`
+/// must be a searcher for `BUFR`.
 #[inline(always)]
 // rule: first-bufr, output-waits
 pub(crate) fn find_event(word: &memmem::Finder<'_>, rest: &[u8], ended: bool) -> SearchResult
@@ -395,7 +408,7 @@ pub(crate) fn find_event(word: &memmem::Finder<'_>, rest: &[u8], ended: bool) ->
         if ended {
             return SearchResult::End;
         }
-        // The last three octets may be the start of a `BUFR`.
+        // The last three octets may contain the start of a `BUFR`.
         return SearchResult::NeedsMore {
             place: rest.len() - rest.len().min(3),
             stated_length: 0,

@@ -1,4 +1,4 @@
-//! Reading an input, either step by step into a buffer or to its end.
+//! Reading an input, either step by step into a buffer or as a whole.
 ghost use Rattle.std.specs.Prelude.{◌≡◌, ◌≢◌, ◌⊎◌, ◌≤◌, ◌<◌, ◌+◌, ◌-◌, ◌*◌, ◌^◌, ℕ, List, ◌++◌, take, length, drop, slice_range, Ok, Err, IsOk, IfOk, IfErr, vec_len, vec_capacity, [], ◌∷◌, true, false, max, nat_le, if◌then◌else◌};
 ghost use Rattle.bufr_bits.specs.Prelude.{counted};
 ghost use Rattle.bufr_frame.specs.Input.{read_failures_after, max_reads, ReadsOnce, ReadsInput, AddsReads, InputModel, FillsInput, SlidesOver, asked_by, new_input};
@@ -9,18 +9,18 @@ use std::alloc::Global;
 use std::marker::Model;
 use std::mem::replace;
 
-/// The maximum number of reads of one input, 2^32.
+/// The maximum number of reads from one input, which is 2^32.
 const MAX_READS: u64 = 1 << 32;
 
 /// The number of octets that each read requests when an input is read to its end.
 const CHUNK: usize = 65536;
 
-/// A buffer for the octets of an input that were read and not yet skipped. [`crate::Finder`] uses
-/// it to read a stream, and readers of lines use it to read text. To read a whole input, use
-/// [`read_to_end`].
+/// A buffer for the octets of an input that have been read but not yet skipped. [`crate::Finder`]
+/// uses this buffer to read a stream, and line readers use it to read text. To read a whole input,
+/// use [`read_to_end`].
 ///
-/// The octets are moved to the start of the buffer only if at least as many were skipped. So on
-/// average, each octet is moved at most once.
+/// The buffered octets are moved to the start of the buffer only if they do not outnumber the
+/// skipped octets. On average, each octet is therefore moved at most once.
 ///
 /// ```
 /// let mut input = InputBuffer::new(rt.alloc());
@@ -30,13 +30,14 @@ const CHUNK: usize = 65536;
 /// ```
 #[derive(Drop)]
 pub struct InputBuffer {
-    /// The octets from `start` to `filled` are buffered: they were read and not yet skipped.
+    /// The memory of the buffer. The octets at the indices `start..filled` have been read but not
+    /// yet skipped.
     octets: Vec<u8>,
     start: usize,
     filled: usize,
-    /// The number of reads made, at most 2^32.
+    /// The number of reads made so far, which is at most 2^32.
     reads: u64,
-    /// Whether a read found the end of the input.
+    /// Whether a read has found the end of the input.
     ended: bool,
 }
 
@@ -58,7 +59,8 @@ impl Model for InputBuffer {
 }
 
 impl InputBuffer {
-    /// Creates a buffer for an input that has not been read. It does not allocate.
+    /// Creates an empty buffer for an input that has not been read yet. This function does not
+    /// allocate.
     pub fn new(alloc: Global) -> InputBuffer
         ensures { result ≡ new_input }
     {
@@ -71,14 +73,14 @@ impl InputBuffer {
         }
     }
 
-    /// Returns the octets that were read and not yet skipped.
+    /// Returns the buffered octets, which have been read but not yet skipped.
     pub fn held(&self) -> &[u8]
         ensures { result.now ≡ self.now.held }
     {
         &self.octets[self.start..self.filled]
     }
 
-    /// Returns whether a read found the end of the input.
+    /// Returns whether a read has found the end of the input.
     pub fn ended(&self) -> bool
         ensures { result ≡ self.now.ended }
     {
@@ -94,8 +96,8 @@ impl InputBuffer {
         self.start += n;
     }
 
-    /// Appends an octet to those buffered. There must be free space for it; the read that finds the
-    /// end of the input always leaves some.
+    /// Appends an octet to the buffered octets. The buffer must have free space. After the read
+    /// that finds the end of the input, the buffer always has free space for at least one octet.
     pub fn push(&mut self, octet: u8)
         requires { 0 < self.old.free }
         ensures { self.new
@@ -105,16 +107,16 @@ impl InputBuffer {
         self.filled += 1;
     }
 
-    /// Reads once and appends at most `most` octets to those buffered. If there is no free space,
-    /// the buffer grows to `room` octets, which must be at least twice the number of buffered
-    /// octets, and at least 1. `most` must be 1 to 2^24, and the end of the input must not have
-    /// been found.
+    /// Makes one read, and appends at most `most` octets to the buffered octets. If there is no
+    /// free space, the capacity of the buffer grows to `room` octets. `room` must be at least 1 and
+    /// at least twice the number of buffered octets. `most` must be 1 to 2^24. The end of the input
+    /// must not have been found yet.
     ///
     /// # Errors
     ///
-    /// [`RunFault::Read`] if the read failed. [`RunFault::InputTooLong`] if 2^32 reads were already
-    /// made, or [`RunFault::Memory`] if the buffer cannot grow; in these two cases, no read is
-    /// made. The buffered octets are left unchanged.
+    /// [`RunFault::Read`] if the read fails. [`RunFault::InputTooLong`] if 2^32 reads have already
+    /// been made. [`RunFault::Memory`] if the buffer cannot grow. If the fault is not
+    /// [`RunFault::Read`], no read has been made. A fault leaves the buffered octets unchanged.
     pub fn fill<R: Source>(&mut self, r: &mut R, most: usize, room: usize) -> Result<(), RunFault>
         requires some { 0 < most }
         requires small { most ≤ 2 ^ 24 }
@@ -127,13 +129,14 @@ impl InputBuffer {
         ensures grows { (self.new.room ≡ self.old.room) ⊎ (room ≤ self.new.room) }
         ensures most { self.new.room ≤ max self.old.room room }
         ensures free { self.new.ended ≡ true → 0 < self.new.free }
-        // The capacity consists of the gap, the buffered octets and the free space.
+        // The capacity consists of the gap of skipped octets, the buffered octets and the free
+        // space.
         ensures whole { self.new.room ≡ self.new.gap + length self.new.held + self.new.free }
         ensures slides { SlidesOver self.old self.new }
         ensures sure { R.waits r.old ≡ false → result ≢ Err RunFault.Read }
         ensures failed { R.failures r.new ≡ read_failures_after (R.failures r.old) result }
         ensures counts { AddsReads (R.reads r.old) (R.reads r.new) self.old.reads self.new.reads }
-        // A read requests as many octets as fit, up to `most`.
+        // The read requests as many octets as fit in the free space, but at most `most`.
         ensures asked { R.asked r.new ≡ counted (R.asked r.old) (asked_by most self.old self.new) }
     {
         if self.reads == MAX_READS {
@@ -151,8 +154,9 @@ impl InputBuffer {
     }
 }
 
-/// Makes space for at least one octet after those from `start` to `filled`. Returns how far these
-/// were moved towards the start.
+/// Makes free space for at least one octet after the buffered octets, which are at the indices
+/// `start..filled`. Returns the distance by which the buffered octets were moved towards the start
+/// of the buffer.
 #[inline(always)]
 fn make_room(
     octets: &mut Vec<u8>,
@@ -194,7 +198,8 @@ fn make_room(
     Ok(0)
 }
 
-/// Appends zeros to a buffer until it has `len` octets. Its capacity must be at least `len`.
+/// Appends zeros to a buffer until its length is `len`. The capacity of the buffer must be at least
+/// `len`.
 fn fill_up(octets: &mut Vec<u8>, len: usize)
     requires order { vec_len octets.old ≤ len }
     requires room { len ≤ vec_capacity octets.old }
@@ -203,7 +208,7 @@ fn fill_up(octets: &mut Vec<u8>, len: usize)
     ensures capacity { vec_capacity octets.new ≡ vec_capacity octets.old }
 {
     let alloc = *octets.allocator();
-    // For a local vector, the loop compiles to a single `memset`.
+    // With a local vector, this loop compiles to a single `memset`.
     let mut grown = replace(octets, Vec::new(alloc));
     'places: while grown.len() < len {
         grown.push_reserved(0);
@@ -211,8 +216,7 @@ fn fill_up(octets: &mut Vec<u8>, len: usize)
     *octets = grown;
 }
 
-/// Reads once into a buffer, from index `filled` up to (but not including) index `to`. Returns the
-/// number of octets read.
+/// Makes one read into `buffer[filled..to]`. Returns the number of octets read.
 #[inline(always)]
 fn read_after<R: Source>(
     r: &mut R,
@@ -238,15 +242,16 @@ fn read_after<R: Source>(
     }
 }
 
-/// Reads an input to its end, and appends its octets to `octets`. Use it for an input that is
-/// needed as a whole, such as a table, and [`crate::Finder`] for a stream of messages. `reads`
-/// counts the reads of the input and must be at most 2^32.
+/// Reads an input to its end and appends all octets read to `octets`. Use this function for an
+/// input that is needed as a whole, such as a table. For a stream of messages, use
+/// [`crate::Finder`]. `reads` is the number of reads already made from the input and must be at
+/// most 2^32. Each further read adds 1 to `reads`.
 ///
 /// # Errors
 ///
-/// [`RunFault::Read`] if a read failed. [`RunFault::InputTooLong`] if 2^32 reads did not find the
-/// end of the input. [`RunFault::Memory`] if `octets` cannot grow. The octets that were read until
-/// then are in `octets`.
+/// [`RunFault::Read`] if a read fails. [`RunFault::InputTooLong`] if the end of the input is not
+/// found within 2^32 reads. [`RunFault::Memory`] if `octets` cannot grow. After a fault, `octets`
+/// contains all octets that were read before the fault.
 pub fn read_to_end<R: Source>(
     r: &mut R,
     octets: &mut Vec<u8>,
@@ -261,7 +266,8 @@ pub fn read_to_end<R: Source>(
     // Each read except the last returned at least one octet.
     ensures each { reads.new - reads.old ≤ length octets.new.items - length octets.old.items + 1 }
     ensures asked { R.asked r.new ≡ counted (R.asked r.old) (65536 * (reads.new - reads.old)) }
-    // If the capacity grows, it becomes at most twice the number of octets plus 65,536.
+    // If the capacity of `octets` grows, the new capacity is at most twice the final number of
+    // octets plus 65,536.
     ensures capacity { vec_capacity octets.new
         ≤ max (vec_capacity octets.old) (2 * length octets.new.items + 65536) }
 {

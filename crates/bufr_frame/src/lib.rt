@@ -1,5 +1,5 @@
-//! The framing of FM 94 BUFR: finds the messages of a stream, splits a message into its sections,
-//! and writes a message from its parts.
+//! The framing of FM 94 BUFR. This crate finds the messages in a stream, splits messages into
+//! sections, and writes messages from their parts.
 #![tactic(auto)]
 
 mod fault;

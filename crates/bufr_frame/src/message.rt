@@ -15,7 +15,7 @@ use crate::section1::{
 use bufr_bits::BitSlice;
 use std::marker::Model;
 
-/// An edition 3 or 4 message, split into its sections. It borrows its octets.
+/// An edition 3 or 4 message, split into its sections. This type borrows the message's octets.
 ///
 /// ```
 /// if let Event::Frame(offset, octets) = finder.next(&mut input)? {
@@ -125,23 +125,24 @@ fn section2_of(m: &[u8], first: usize, second: usize) -> Option<&[u8]>
 }
 
 impl<'a> Message<'a> {
-    /// Splits a message, which must have at least 12 octets, into its sections. It reads octet 8
-    /// and the octets from 9 up to the last four. The remaining octets, 1 to 7 and the last four,
-    /// are not checked. This does not allocate.
+    /// Splits a message into its sections. The message must have at least 12 octets. Octets 1 to 7
+    /// and the last four octets are neither read nor checked. This function does not allocate.
     ///
     /// # Errors
     ///
-    /// The first of these that applies:
+    /// The first of the following faults that applies:
     ///
-    /// - [`SectionFault::Edition`] if the edition is neither 3 nor 4;
-    /// - for sections 1, 2 (if bit 1 of the flags of section 1 is set), 3 and 4 in turn:
-    ///   [`SectionFault::SectionPast`] if its three length octets extend into the last four octets
-    ///   of the message; [`SectionFault::SectionShort`] if its length is less than 22 (17 in
-    ///   edition 3), 4, 7 or 4; [`SectionFault::SectionPast`] if the section extends into the last
-    ///   four octets;
-    /// - [`SectionFault::SectionsEnd`] if section 4 does not end where the last four octets begin;
-    /// - [`SectionFault::Edition3Long`] if, in edition 3, section 3 or 4 has an odd length and the
-    ///   message has more than 16,777,213 octets.
+    /// - [`SectionFault::Edition`] if the edition is neither 3 nor 4.
+    /// - For each of sections 1 to 4 in turn, the fault is [`SectionFault::SectionPast`] if the
+    ///   three length octets of the section extend into the last four octets of the message,
+    ///   [`SectionFault::SectionShort`] if the length is less than 22 (17 in edition 3) for section
+    ///   1, less than 4 for section 2 or 4, or less than 7 for section 3, or
+    ///   [`SectionFault::SectionPast`] if the section extends into the last four octets of the
+    ///   message. Section 2 is checked only if bit 1 of the flags in section 1 is set.
+    /// - [`SectionFault::SectionsEnd`] if section 4 does not end directly before the last four
+    ///   octets.
+    /// - [`SectionFault::Edition3Long`] if, in edition 3, the length of section 3 or 4 is odd and
+    ///   the message is longer than 16,777,213 octets.
     #[tactic(auto, unfolding(crate::specs::Sections::sections_of))]
     // rule: edition-first, sections-in-order, section-4-end, local-use, section-3, section-4
     // rule: reserved-ignored, edition-3-length, order-of-sections
@@ -186,23 +187,24 @@ impl<'a> Message<'a> {
         self.head
     }
 
-    /// Returns the octets of section 1 for local use, which begin with octet 23 (octet 18 in
-    /// edition 3).
+    /// Returns the part of section 1 that is reserved for local use, which begins at octet 23
+    /// (octet 18 in edition 3).
     pub fn local1(&self) -> &'a [u8]
         ensures { result.now ≡ self.now.local1 }
     {
         self.local1
     }
 
-    /// Returns section 2 from octet 5 on, or `None` if there is no section 2.
+    /// Returns section 2 from octet 5 on, or `None` if the message has no section 2.
     pub fn section2(&self) -> Option<&'a [u8]>
         ensures { option_map (λ s. s.now) result ≡ self.now.section2 }
     {
         self.section2
     }
 
-    /// Returns descriptor `i` of section 3 as a number of two octets, or `None` if there is none.
-    /// Descriptors are counted from 0. A single octet after the last whole descriptor is ignored.
+    /// Returns descriptor `i` of section 3 as a 16-bit number, or `None` if section 3 has no such
+    /// descriptor. Descriptors are counted from 0. A single octet after the last complete
+    /// descriptor is ignored.
     pub fn descriptor(&self, i: usize) -> Option<u16>
         ensures { result ≡ slice_get self.now.descriptors i }
     {
@@ -212,8 +214,8 @@ impl<'a> Message<'a> {
         Some(u16_at(self.descriptors, 2 * i))
     }
 
-    /// Returns an iterator over the descriptors of section 3, in order, as numbers of two octets
-    /// each.
+    /// Returns an iterator over the descriptors of section 3. The iterator yields the descriptors
+    /// in order, as 16-bit numbers.
     pub fn descriptors(&self) -> Words<'a>
         ensures { words_left result ≡ self.now.descriptors }
     {
@@ -222,29 +224,29 @@ impl<'a> Message<'a> {
         }
     }
 
-    /// Returns the number of subsets: octets 5 and 6 of section 3.
+    /// Returns the number of subsets (octets 5 and 6 of section 3).
     pub fn subsets(&self) -> u16
         ensures { result ≡ self.now.subsets }
     {
         self.subsets
     }
 
-    /// Returns whether the data are observed: bit 1 of octet 7 of section 3.
+    /// Returns whether the message contains observed data (bit 1 of octet 7 in section 3).
     pub fn observed(&self) -> bool
         ensures { result ≡ self.now.observed }
     {
         self.observed
     }
 
-    /// Returns whether the data are compressed: bit 2 of octet 7 of section 3.
+    /// Returns whether the data are compressed (bit 2 of octet 7 in section 3).
     pub fn compressed(&self) -> bool
         ensures { result ≡ self.now.compressed }
     {
         self.compressed
     }
 
-    /// Returns the data and their padding: section 4 from octet 5 on, which is less than 2^24
-    /// octets.
+    /// Returns the octets of section 4 from octet 5 on, which contain the data and padding. Fewer
+    /// than 2^24 octets are returned.
     pub fn payload(&self) -> BitSlice<'a>
         ensures value { octets_of result ≡ self.now.payload }
         ensures short { length self.now.payload < 2 ^ 24 }
@@ -260,8 +262,8 @@ impl<'a> Message<'a> {
     }
 }
 
-/// An iterator over numbers of two octets each (words), most significant octet first. A single
-/// octet at the end is ignored.
+/// An iterator over the words in a slice of octets. Each word is a 16-bit number, stored with the
+/// most significant octet first. If the number of octets is odd, the last one is ignored.
 #[derive(Debug, Drop)]
 pub struct Words<'a> {
     octets: &'a [u8],
@@ -275,7 +277,7 @@ impl<'a> Words<'a> {
         self.octets.len() / 2
     }
 
-    /// Returns whether there are no more words.
+    /// Returns whether no words remain.
     pub fn is_empty(&self) -> bool
         ensures { IsTrue result ↔ (words_left self.now ≡ []) }
     {
@@ -303,8 +305,8 @@ impl<'a> Iterator for Words<'a> {
     }
 }
 
-/// Returns the index after section `k`, which begins at index `p` and must have at least `least`
-/// octets.
+/// Returns the index just after section `k`. The section begins at index `p` and must have at least
+/// `least` octets.
 #[tactic(auto, unfolding(crate::specs::Sections::section_end))]
 // rule: odd-sections-read, length-past-end, length-under-least, section-past-end
 // rule: order-of-sections
@@ -339,8 +341,8 @@ fn has_second(m: &[u8]) -> bool
     flags >= 128
 }
 
-/// Returns the index after section 2, or `first`, the index after section 1, if there is no
-/// section 2.
+/// Returns the index just after section 2. If the message has no section 2, returns `first`, which
+/// is the index just after section 1.
 fn second_end(m: &[u8], first: usize) -> Result<usize, SectionFault>
     requires long { 18 ≤ length m.now }
     requires near { first < 2 ^ 31 }
@@ -358,5 +360,5 @@ fn second_end(m: &[u8], first: usize) -> Result<usize, SectionFault>
     }
 }
 
-/// The greatest length of an edition 3 message to which two padding octets can be added.
+/// The maximum length, in octets, of an edition 3 message to which two padding octets can be added.
 const MOST_ODD: usize = 16_777_213;

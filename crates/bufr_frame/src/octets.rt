@@ -1,8 +1,9 @@
-//! Numbers in two and three octets, most significant octet first.
+//! Conversion between numbers and the two or three octets that store them, most significant octet
+//! first.
 ghost use Rattle.std.specs.Prelude.{◌≡◌, ◌≤◌, ◌<◌, ◌+◌, ◌/◌, ◌%◌, ◌^◌, length};
 ghost use Rattle.bufr_frame.specs.Octets.{u16_at, u24_at};
 
-/// Returns the number in the two octets from index `p` on.
+/// Returns the 16-bit number that is stored in the two octets at index `p`.
 pub(crate) fn u16_at(m: &[u8], p: usize) -> u16
     requires { p + 2 ≤ length m.now }
     ensures { result ≡ u16_at m.now p }
@@ -10,7 +11,7 @@ pub(crate) fn u16_at(m: &[u8], p: usize) -> u16
     256 * u16::from(m[p]) + u16::from(m[p + 1])
 }
 
-/// Returns the number in the three octets from index `p` on.
+/// Returns the 24-bit number that is stored in the three octets at index `p`.
 pub(crate) fn u24_at(m: &[u8], p: usize) -> usize
     requires { p + 3 ≤ length m.now }
     ensures value { result ≡ u24_at m.now p }
@@ -19,14 +20,14 @@ pub(crate) fn u24_at(m: &[u8], p: usize) -> usize
     65536 * (m[p] as usize) + 256 * (m[p + 1] as usize) + m[p + 2] as usize
 }
 
-/// Returns the first of the two octets of a number.
+/// Returns the more significant octet of a 16-bit number.
 pub(crate) fn high_octet(number: u16) -> u8
     ensures { result ≡ number / 256 }
 {
     (number / 256) as u8
 }
 
-/// Returns the last of the two octets of a number.
+/// Returns the less significant octet of a 16-bit number.
 pub(crate) fn low_octet(number: u16) -> u8
     ensures { result ≡ number % 256 }
 {

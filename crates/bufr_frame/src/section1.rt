@@ -5,51 +5,54 @@ ghost use Rattle.bufr_frame.specs.Layout.{even_size};
 ghost use Rattle.bufr_frame.specs.Section1.{min_section_1};
 ghost use Rattle.bufr_frame.specs.Sections.{is_padded};
 
-/// The edition (octet 8 of section 0) and the values of section 1, as they are in a message.
+/// The edition (octet 8 of section 0) and the values of section 1, exactly as stored in a message.
 ///
-/// The values are not checked: a month of 14 is accepted. In edition 3, the centre, sub-centre and
-/// year have one octet each, and `local_subcategory` and `second`, which it lacks, are 0.
-/// (WMO-No. 306, Volume I.2, FM 94: section 1)
+/// The values are not checked. For example, a month of 14 is accepted. In edition 3, the centre,
+/// the sub-centre and the year occupy one octet each. Edition 3 has no octets for
+/// `local_subcategory` and `second`, so both are 0. (WMO-No. 306, Volume I.2, FM 94: section 1)
 #[derive(Clone, Copy, Debug, PartialEq, Eq)]
 pub struct Head {
-    /// The edition of FM 94, octet 8 of section 0.
+    /// The edition of FM 94 (octet 8 of section 0).
     pub edition: u8,
-    /// The master table, octet 4.
+    /// The master table (octet 4).
     pub master: u8,
-    /// The originating centre, octets 5 and 6; in edition 3 octet 6.
+    /// The originating centre (octets 5 and 6, or octet 6 in edition 3).
     pub centre: u16,
-    /// The originating sub-centre, octets 7 and 8; in edition 3 octet 5.
+    /// The originating sub-centre (octets 7 and 8, or octet 5 in edition 3).
     pub subcentre: u16,
-    /// The update sequence number, octet 9; in edition 3 octet 7.
+    /// The update sequence number (octet 9, or octet 7 in edition 3).
     pub update: u8,
-    /// The data category, octet 11; in edition 3 octet 9.
+    /// The data category (octet 11, or octet 9 in edition 3).
     pub category: u8,
-    /// The international data sub-category, octet 12; in edition 3 the data sub-category, octet 10.
+    /// The international data sub-category (octet 12). In edition 3, this field is the data
+    /// sub-category (octet 10).
     pub subcategory: u8,
-    /// The local data sub-category, octet 13.
+    /// The local data sub-category (octet 13).
     pub local_subcategory: u8,
-    /// The version of the master table, octet 14; in edition 3 octet 11.
+    /// The version of the master table (octet 14, or octet 11 in edition 3).
     pub master_version: u8,
-    /// The version of the local tables, octet 15; in edition 3 octet 12.
+    /// The version of the local tables (octet 15, or octet 12 in edition 3).
     pub local_version: u8,
-    /// The year, four digits, octets 16 and 17; in edition 3 the year of the century, octet 13.
+    /// The four-digit year (octets 16 and 17). In edition 3, this field is the year of the century
+    /// (octet 13).
     pub year: u16,
-    /// The month, octet 18; in edition 3 octet 14.
+    /// The month (octet 18, or octet 14 in edition 3).
     pub month: u8,
-    /// The day, octet 19; in edition 3 octet 15.
+    /// The day (octet 19, or octet 15 in edition 3).
     pub day: u8,
-    /// The hour, octet 20; in edition 3 octet 16.
+    /// The hour (octet 20, or octet 16 in edition 3).
     pub hour: u8,
-    /// The minute, octet 21; in edition 3 octet 17.
+    /// The minute (octet 21, or octet 17 in edition 3).
     pub minute: u8,
-    /// The second, octet 22.
+    /// The second (octet 22).
     pub second: u8,
 }
 
 /// The length of section 0, in octets.
 pub(crate) const SECTION_0: usize = 8;
 
-/// Returns the length of section 1 in an edition, without octets for local use.
+/// Returns the length, in octets, of section 1 in the given edition, excluding octets for local
+/// use.
 #[tactic(auto, unfolding(crate::specs::Section1::min_section_1))]
 // rule: length-under-least
 pub(crate) fn min_section_1(edition: u8) -> usize
@@ -59,19 +62,20 @@ pub(crate) fn min_section_1(edition: u8) -> usize
     if edition == 3 { 17 } else { 22 }
 }
 
-/// The length of section 2, if there is one, without its content.
+/// The length of section 2 without its content, in octets. A message need not contain section 2.
 pub(crate) const SECTION_2: usize = 4;
 
-/// The length of section 3 without descriptors.
+/// The length of section 3 without descriptors, in octets.
 pub(crate) const SECTION_3: usize = 7;
 
-/// The length of section 4 without data.
+/// The length of section 4 without data, in octets.
 pub(crate) const SECTION_4: usize = 4;
 
-/// The length of section 5.
+/// The length of section 5, in octets.
 pub(crate) const SECTION_5: usize = 4;
 
-/// Returns whether a section 3 or 4 of `len` octets is padded with a zero octet when it is written.
+/// Returns whether a zero octet is added to section 3 or 4 when it is written. `len` is the length
+/// of the section before padding, in octets.
 // rule: least-lengths
 pub(crate) fn is_padded(edition: u8, len: usize) -> bool
     ensures { result ≡ is_padded edition len }
@@ -79,7 +83,7 @@ pub(crate) fn is_padded(edition: u8, len: usize) -> bool
     edition == 3 && len % 2 == 1
 }
 
-/// Returns the length of a section 3 or 4 when it is written, including its padding.
+/// Returns the padded length of section 3 or 4, in octets. `len` is the length before padding.
 // rule: least-lengths
 pub(crate) fn even_len(edition: u8, len: usize) -> usize
     requires { len < 2 ^ 64 - 1 }

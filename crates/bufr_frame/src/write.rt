@@ -10,10 +10,11 @@ use crate::section1::{
 };
 use std::alloc::{AllocError, Global};
 
-/// The greatest length of a message in octets, since three octets declare it.
+/// The maximum length of a message, in octets. A message declares its length in three octets.
 const MAX_OCTETS: usize = 16_777_215;
 
-/// Returns the length of the message in octets, or `None` if it is too long.
+/// Returns the length, in octets, of a message that is written from the given parts. Returns `None`
+/// if the message would be too long.
 #[tactic(auto, unfolding(crate::specs::Section1::min_section_1))]
 // rule: greatest-length
 fn size_of(
@@ -51,7 +52,8 @@ fn push_three(octets: &mut Vec<u8>, n: usize) -> Result<(), AllocError>
     octets.extend_from_slice(&[(n / 65536) as u8, (n / 256 % 256) as u8, (n % 256) as u8])
 }
 
-/// Returns section 1 of edition 3 from octet 4 up to its octets for local use.
+/// Returns octets 4 to 17 of section 1 in edition 3. The octets for local use follow the returned
+/// octets.
 // rule: section-1-of-edition-3, year-of-the-century
 fn head_octets_3(head: &Head, optional: bool) -> [u8; 14]
     requires centre { head.now.centre ≤ 255 }
@@ -77,7 +79,8 @@ fn head_octets_3(head: &Head, optional: bool) -> [u8; 14]
     ]
 }
 
-/// Returns section 1 of edition 4 from octet 4 up to its octets for local use.
+/// Returns octets 4 to 22 of section 1 in edition 4. The octets for local use follow the returned
+/// octets.
 // rule: section-1-of-edition-4
 fn head_octets_4(head: &Head, optional: bool) -> [u8; 19]
     ensures { result ≡ octets_4 head.now (if optional then 128 else 0) }
@@ -105,7 +108,7 @@ fn head_octets_4(head: &Head, optional: bool) -> [u8; 19]
     ]
 }
 
-/// Appends section 1 from octet 4 up to its octets for local use.
+/// Appends section 1 from octet 4 up to, but not including, the octets for local use.
 fn push_head(octets: &mut Vec<u8>, head: &Head, optional: bool) -> Result<(), AllocError>
     requires { IsTrue (is_writable head.now) }
     ensures { OnOk result (octets.new.items ≡ octets.old.items ++ head_octets head.now optional) }
@@ -127,8 +130,8 @@ fn push_padding(octets: &mut Vec<u8>, pads: bool) -> Result<(), AllocError>
     Ok(())
 }
 
-/// Appends a section 2 or 4: its length, a reserved octet, its content and, if `pads`, a zero
-/// octet.
+/// Appends section 2 or 4. The section consists of its length, a reserved octet and its content. If
+/// `pads` is true, a zero octet follows the content.
 fn push_plain(octets: &mut Vec<u8>, content: &[u8], pads: bool) -> Result<(), AllocError>
     requires { 4 + length (with_pad_octet pads content.now) < 2 ^ 24 }
     ensures { OnOk result
@@ -182,16 +185,16 @@ fn push_section3(
     push_padding(octets, is_padded(edition, len))
 }
 
-/// Writes an edition 3 or 4 message from its parts. It begins with `BUFR`, has its length in
-/// octets 5 to 7, and ends with `7777`. Each section is as short as its parts allow, and reserved
-/// octets and bits are zero. `local1` begins at octet 23 of section 1 (octet 18 in edition 3).
-/// `section2` and `payload` begin at octet 5 of sections 2 and 4. In edition 3, sections 3 and 4
-/// have even lengths: a zero octet follows the descriptors, and another one follows a payload of
-/// odd length.
+/// Writes an edition 3 or 4 message from its parts. The message begins with `BUFR`, declares its
+/// length in octets 5 to 7, and ends with `7777`. Each section is as short as its parts allow, and
+/// reserved octets and bits are zero. `local1` begins at octet 23 of section 1 (octet 18 in edition
+/// 3). `section2` begins at octet 5 of section 2, and `payload` begins at octet 5 of section 4. In
+/// edition 3, a zero octet follows the descriptors, and another follows a payload with an odd
+/// number of octets, so that sections 3 and 4 have even lengths.
 ///
-/// `head.edition` must be 3 or 4. In edition 3, the centre, sub-centre and year must each fit into
-/// one octet, and the local sub-category and the second must be 0. (WMO-No. 306, Volume I.2, FM 94:
-/// sections 0 to 5)
+/// `head.edition` must be 3 or 4. In edition 3, the centre, the sub-centre and the year must each
+/// fit in one octet, and the local sub-category and the second must be 0. (WMO-No. 306, Volume I.2,
+/// FM 94: sections 0 to 5)
 ///
 /// ```
 /// let message = Message::parse(octets)?;
@@ -203,7 +206,7 @@ fn push_section3(
 ///
 /// # Errors
 ///
-/// [`WriteFault::TooLong`] if and only if the message would have more than 16,777,215 octets.
+/// [`WriteFault::TooLong`] if and only if the message would be longer than 16,777,215 octets.
 /// [`WriteFault::Memory`] if memory cannot be allocated.
 // rule: reserved-zero, section-0, section-4, section-5, sections-1-and-2-as-given
 pub fn write_message(
@@ -221,8 +224,8 @@ pub fn write_message(
     ensures layout { IfOk result (λ octets. octets.items ≡ message_octets head.now
         (parts_of local1.now (option_map (λ s. s.now) section2.entry) descriptors.now subsets
         observed compressed payload.now)) }
-    // Parsing these octets gives the parts again. In edition 3, the payload may then end with a
-    // padding octet.
+    // Parsing the written message returns the same parts, except that a payload in edition 3 may
+    // then end with an additional padding octet.
     ensures read_back { IfOk result (λ octets. sections_of octets.items ≡ Ok (sections_from head.now
         (parts_of local1.now (option_map (λ s. s.now) section2.entry) descriptors.now subsets
         observed compressed payload.now))) }

@@ -1,5 +1,6 @@
--- The template of a descriptor list, or the first fault. (WMO-No. 306, Volume I.2, FM 94: section
--- 3, replications, Tables C and D; the faults, their order and the limits are our choice)
+-- The template for a descriptor list, or the first fault in the list. (WMO-No. 306, Volume I.2, FM
+-- 94: section 3, replications, Tables C and D; the faults, their order and the limits are our
+-- choice)
 -- Cited by public contracts.
 use Rattle.std.specs.Prelude.{ℕ, zero, suc, ◌+◌, ◌==◌, nat_lt, nat_le, not, ◌||◌, Bool, true, false, List, [], ◌∷◌, length, take, Option, Some, None, Result, Ok, Err, ok_or, is_some, ◌≡◌, ◌≤◌, ◌⊎◌, ◌++◌, ◌<◌, ◌≢◌, IfOk, IfErr, slice_index, if◌then◌else◌}
 use Rattle.bufr_tables.specs.Records.{◌>>=◌}
@@ -12,34 +13,34 @@ use Rattle.bufr_tables.specs.TableD.{Sequence, members_of}
 use Rattle.bufr_tables.specs.declared.fault.TemplateFault.TheVariants as template
 use Rattle.bufr_tables.specs.declared.fault.TemplateFault.TheVariants.{Memory}
 
--- what expansion needs of the tables: whether Table B has an element, and the members of each
--- sequence
+-- the parts of the tables that expansion uses: whether Table B contains an element, and the members
+-- of each sequence in Table D
 pub record Tables : Type 0 where
   pub known : ℕ → Bool
   pub members : ℕ → Option (List ℕ)
 
--- the maximum number of nested groups and sequences
+-- the maximum nesting depth of groups and sequences
 abbrev pub max_open : ℕ
 max_open = 32
 
--- the fault `why`, unless the test passes
+-- success if the test passes; otherwise, the fault `why`
 abbrev pub unless : Bool → TemplateFault → Result (Unit {0}) TemplateFault
 unless true why = Ok tt
 unless false why = Err why
 
--- the fault of descriptor d if `more` places after the first `places` would make more than 65,535
+-- success if `places + more` is at most 65,535; otherwise, a fault that names descriptor d
 -- rule: fault-27
 abbrev pub with_places : (places more d : ℕ) → Result (Unit {0}) TemplateFault
 with_places places more d = unless (nat_le (places + more) 65535) (template.TemplateSize d)
 
--- How a descriptor list is expanded if `places` places of the template come before it. In what
--- follows, an argument `Option Expansion` says how to expand the list inside a group or sequence;
--- it is `None` if no more of them may be nested. `inner_of` defines it.
+-- A function that expands a descriptor list; `places` is the number of template places already in
+-- use. Below, an argument of type `Option Expansion` is the function that expands the list inside a
+-- group or sequence, or `None` at the maximum nesting depth. `inner_of` defines this argument.
 abbrev pub Expansion : Type 0
 Expansion = (places : ℕ) → List ℕ → Result Tree TemplateFault
 
--- the nodes of one descriptor, and how many descriptors after it belong to it (the factor and body
--- of a replication)
+-- the nodes for one descriptor, and the number of subsequent descriptors that belong to it (the
+-- factor and the body of a replication)
 pub record ExpandedPart : Type 0 where
   pub tree : Tree
   pub taken : ℕ
@@ -52,7 +53,7 @@ abbrev pub begins_with_element : List ℕ → Bool
 begins_with_element [] = false
 begins_with_element (d ∷ after) = f_of d == 0
 
--- an element: Table B has it, or 2 06 Y before it gives its width
+-- the node for an element, which must be in Table B unless a preceding 2 06 Y sets its data width
 -- rule: 2-06-y-unknown-element, fault-20, order-at-an-element
 abbrev pub element_part : Tables → Bool → ℕ → ℕ → Result ExpandedPart TemplateFault
 element_part tables width_given places d = do
@@ -60,7 +61,7 @@ element_part tables width_given places d = do
   _ ← with_places places 1 d
   Ok (part (element d bare) 0)
 
--- an operator; after 2 06 Y an element must follow in the same list (own)
+-- the node for an operator; an element must directly follow 2 06 Y in the same list (own)
 -- rule: 2-06-y-before-an-element, fault-22, fault-28, order-at-an-operator
 abbrev pub operator_part : ℕ → ℕ → List ℕ → Result ExpandedPart TemplateFault
 operator_part places d after = do
@@ -69,9 +70,10 @@ operator_part places d after = do
   _ ← with_places places 1 d
   Ok (part (operator d bare) 0)
 
--- The body of group d: the first X descriptors of `after`, which must all be in the same list
--- (own). Fails if too many groups and sequences are nested. `own_places` is the number of places of
--- the group without its body (see `size`). Some node of the body must take bits of the data (own).
+-- The body of the group that begins with replication d, expanded from the first X descriptors of
+-- `after`. `after` must contain at least X descriptors (own), the maximum nesting depth must not be
+-- exceeded, and at least one node of the body must occupy data bits (own). `own_places` is the
+-- number of places that the group takes in addition to its body (see `size`).
 -- rule: replication-before-expansion, replication-nested, replication-in-one-list, fault-23
 -- rule: fault-26, order-at-a-replication
 abbrev pub body_of : Option Expansion → (places own_places d : ℕ) → List ℕ
@@ -84,14 +86,15 @@ body_of inner places own_places d after = do
   _ ← unless (consumes body) (template.EmptyGroup d)
   Ok body
 
--- a replication with a count: Y passes of the next X descriptors
+-- the node for a fixed replication, which repeats the next X descriptors Y times
 -- rule: fixed-replication
 abbrev pub fixed_part : Option Expansion → ℕ → ℕ → List ℕ → Result ExpandedPart TemplateFault
 fixed_part inner places d after = do
   body ← body_of inner places 2 d after
   Ok (part (fixed (y_of d) body bare) (x_of d))
 
--- a delayed replication: a factor, and then the X descriptors that it repeats
+-- the node for a delayed replication, which is followed by its factor and then by the X descriptors
+-- that it repeats
 -- rule: delayed-replication, fault-24, order-at-a-replication
 abbrev pub delayed_part : Tables → Option Expansion → ℕ → ℕ → List ℕ
     → Result ExpandedPart TemplateFault
@@ -102,7 +105,8 @@ delayed_part tables inner places d (factor ∷ after) = do
   body ← body_of inner places 3 d after
   Ok (part (delayed factor body bare) (1 + x_of d))
 
--- a replication of X descriptors: with a count Y, or delayed if Y is 0
+-- the node for a replication of X descriptors, which is delayed if Y is 0 and otherwise has the
+-- fixed count Y
 -- rule: fault-23, order-at-a-replication
 abbrev pub group_part : Tables → Option Expansion → ℕ → ℕ → List ℕ
     → Result ExpandedPart TemplateFault
@@ -110,7 +114,7 @@ group_part tables inner places d after = do
   _ ← unless (nat_lt 0 (x_of d)) (template.GroupShape d)
   if y_of d == 0 then delayed_part tables inner places d after else fixed_part inner places d after
 
--- a sequence: its members take its place, unless too many groups and sequences are nested
+-- the nodes into which a sequence expands; the maximum nesting depth must not be exceeded
 -- rule: fault-21, fault-26, order-at-a-sequence
 abbrev pub sequence_part : Tables → Option Expansion → ℕ → ℕ → Result ExpandedPart TemplateFault
 sequence_part tables inner places d = do
@@ -119,8 +123,8 @@ sequence_part tables inner places d = do
   tree ← expand places members
   Ok (part tree 0)
 
--- the nodes of one descriptor, which depend on its F; `width_given` means that 2 06 Y comes
--- directly before it
+-- the nodes for one descriptor, depending on its F; `width_given` means that 2 06 Y directly
+-- precedes it
 -- rule: descriptor-kinds
 unfoldable pub part_of : Tables → Option Expansion → Bool → ℕ → ℕ → List ℕ
     → Result ExpandedPart TemplateFault
@@ -130,9 +134,9 @@ part_of tables inner width_given places d after =
     else if f_of d == 2 then operator_part places d after
     else sequence_part tables inner places d
 
--- The nodes of a list from left to right, or the leftmost fault. The first `skip` descriptors are
--- part of a replication before them; `width_given` means that 2 06 Y comes directly before the
--- list.
+-- The nodes for a descriptor list, from left to right, or the leftmost fault. The first `skip`
+-- descriptors are skipped because they belong to the preceding replication. `width_given` means
+-- that 2 06 Y directly precedes the list.
 -- rule: first-descriptor-decides
 unfoldable pub level : Tables → Option Expansion → (width_given : Bool) → (skip places : ℕ)
     → List ℕ → Result Tree TemplateFault
@@ -144,14 +148,14 @@ level tables inner width_given zero places (d ∷ after) = do
   rest ← level tables inner (gives_width d) first.taken (places + size first.tree) after
   Ok (join first.tree rest)
 
--- how to expand an inner list if `room` more groups and sequences may be nested
+-- the function that expands the list inside a group or sequence if `room` more levels may be nested
 unfoldable pub inner_of : Tables → ℕ → Option Expansion
 inner_of tables zero = None
 inner_of tables (suc room) = Some (level tables (inner_of tables room) false 0)
 
--- The template of the descriptor list of section 3. One place is counted before all others, for the
--- end of the template. Some node must take bits of the data (own); otherwise the fault names the
--- first descriptor, or 000000 if the list is empty.
+-- The template for the descriptor list in section 3. The count of places starts at 1, because the
+-- end of the template takes one place. At least one node must occupy data bits (own); otherwise,
+-- the fault names the first descriptor, or 000000 if the list is empty.
 -- rule: groups-take-bits, fault-25
 unfoldable pub tree_of : Tables → List ℕ → Result Tree TemplateFault
 tree_of tables list = do
@@ -161,20 +165,19 @@ tree_of tables list = do
 
 -- ---- The tables that expansion uses.
 
--- what expansion needs of Tables B and D
+-- the parts of Tables B and D that expansion uses
 abbrev pub tables_of : List Row → List Sequence → Tables
 tables_of b d = record { known = λ fxy. is_some (entry_of b fxy); members = members_of d }
 
--- ---- The kinds of the descriptors in a template. (WMO-No. 306, Volume I.2, FM 94: section 3,
--- Table C)
+-- ---- The kinds of descriptors in a template. (WMO-No. 306, Volume I.2, FM 94: section 3, Table C)
 
--- whether the first node is an element
+-- whether the first node of a tree is an element
 abbrev pub is_element_first : Tree → Bool
 is_element_first (element fxy rest) = true
 is_element_first _ = false
 
--- Each node has a descriptor of its kind: an element, a factor of a delayed replication, or a
--- supported operator. An element follows 2 06 Y.
+-- The descriptor of each node is an element, a replication factor or a supported operator,
+-- depending on the node's kind. An element directly follows each 2 06 Y.
 abbrev pub IsLegal : Tree → Type 0
 IsLegal bare = Unit {0}
 IsLegal (element fxy rest) = (f_of fxy ≡ 0) × IsLegal rest
@@ -184,8 +187,8 @@ IsLegal (operator fxy rest) =
 IsLegal (fixed count body rest) = IsLegal body × IsLegal rest
 IsLegal (delayed factor body rest) = (is_factor factor ≡ true) × (IsLegal body × IsLegal rest)
 
--- ---- The elements and operators of a list whose sequences are replaced by their members. (WMO-No.
--- 306, Volume I.2, FM 94: Table D)
+-- ---- The elements and operators in a list after each sequence has been replaced by its members.
+-- (WMO-No. 306, Volume I.2, FM 94: Table D)
 
 -- the elements, operators and factors of a tree, in order
 abbrev pub leaves : Tree → List ℕ
@@ -195,8 +198,8 @@ leaves (operator fxy rest) = fxy ∷ leaves rest
 leaves (fixed count body rest) = leaves body ++ leaves rest
 leaves (delayed factor body rest) = factor ∷ (leaves body ++ leaves rest)
 
--- These are the leaves of a list, in order: each element and operator, and for each sequence the
--- leaves of its members. A replication adds none.
+-- The second list contains the leaves of the first, in order. Each element and operator is itself a
+-- leaf, a replication adds no leaves, and a sequence adds the leaves of its members.
 pub data ListsLeaves (members : ℕ → Option (List ℕ)) : List ℕ → List ℕ → Type 0 where
   says_nothing : ListsLeaves members [] []
   says_itself : (d : ℕ) (after said : List ℕ) → (f_of d ≡ 0) ⊎ (f_of d ≡ 2)
@@ -207,9 +210,9 @@ pub data ListsLeaves (members : ℕ → Option (List ℕ)) : List ℕ → List �
       → ListsLeaves members inner inside → ListsLeaves members after said
       → ListsLeaves members (d ∷ after) (inside ++ said)
 
--- ---- Each group of a template, and the template as a whole, takes bits of the data. (own)
+-- ---- Each group of a template, and the template as a whole, occupies data bits. (own)
 
--- In the body of each group, some node takes bits of the data. Each fixed count is above 0.
+-- Each group's body contains a node that occupies data bits, and no fixed replication count is 0.
 abbrev pub EveryGroupConsumes : Tree → Type 0
 EveryGroupConsumes bare = Unit {0}
 EveryGroupConsumes (element fxy rest) = EveryGroupConsumes rest
@@ -219,15 +222,15 @@ EveryGroupConsumes (fixed count body rest) =
 EveryGroupConsumes (delayed factor body rest) =
     (consumes body ≡ true) × (EveryGroupConsumes body × EveryGroupConsumes rest)
 
--- Each group of a template takes bits of the data, and so does the template as a whole.
+-- Each group of a template occupies data bits, and so does the template as a whole.
 abbrev pub IsSound : Tree → Type 0
 IsSound tree = EveryGroupConsumes tree × (consumes tree ≡ true)
 
--- ---- Table B has the elements that a template needs. (WMO-No. 306, Volume I.2, FM 94: Tables B
--- and C)
+-- ---- Table B contains the elements that a template needs. (WMO-No. 306, Volume I.2, FM 94: Tables
+-- B and C)
 
--- Table B has each factor, and each element except for one whose width 2 06 Y gives; `width_given`
--- means that 2 06 Y comes directly before the nodes.
+-- Table B contains every factor, and every element that does not directly follow 2 06 Y.
+-- `width_given` means that 2 06 Y directly precedes the first node.
 abbrev pub IsKnownAfter : (known : ℕ → Bool) → (width_given : Bool) → Tree → Type 0
 IsKnownAfter known width_given bare = Unit {0}
 IsKnownAfter known width_given (element fxy rest) =
@@ -238,6 +241,6 @@ IsKnownAfter known width_given (fixed count body rest) =
 IsKnownAfter known width_given (delayed factor body rest) =
     (known factor ≡ true) × (IsKnownAfter known false body × IsKnownAfter known false rest)
 
--- Table B has each factor and element of the template, except for elements after 2 06 Y.
+-- Table B contains every factor, and every element that does not directly follow 2 06 Y.
 abbrev pub IsKnown : (known : ℕ → Bool) → Tree → Type 0
 IsKnown known tree = IsKnownAfter known false tree

@@ -1,44 +1,47 @@
--- A descriptor as a number of 16 bits: F (2 bits), X (6) and Y (8); and as six digits: one for F,
--- two for X and three for Y. (WMO-No. 306, Volume I.2, FM 94: section 3, descriptors)
+-- A descriptor, either as a 16-bit number (2 bits for F, 6 for X and 8 for Y) or as a string of six
+-- digits (one for F, two for X and three for Y). (WMO-No. 306, Volume I.2, FM 94: section 3,
+-- descriptors)
 -- Cited by public contracts.
 use Rattle.std.specs.Prelude.{ℕ, ◌+◌, ◌-◌, ◌*◌, ◌/◌, ◌%◌, ◌==◌, ◌&&◌, Bool, nat_le, if◌then◌else◌, List, [], ◌∷◌, length, slice_index, Option, Some, None, ◌≡◌, suc, ◌<◌, ◌≤◌, nat_eq, vec_capacity, option_and_then, option_map}
 use Rattle.std.specs.Char.{is_ascii_digit}
 use Rattle.std.specs.List.{list_all, AllByRecursion, IsDistinct}
 use Rattle.bufr_tables.specs.declared.index.FxyIndex.TheInside.{Inside}
 
--- F: the kind of descriptor
+-- a descriptor's F, which determines its kind
 abbrev pub f_of : ℕ → ℕ
 f_of word = word / 16384
 
--- X: the class, the number of descriptors of a replication, or the kind of an operator
+-- a descriptor's X: the class of an element, the category of a sequence, the number of descriptors
+-- that a replication repeats, or the kind of an operator
 abbrev pub x_of : ℕ → ℕ
 x_of word = word / 256 % 64
 
--- Y: the number in the class, the count of a replication, or the operand of an operator
+-- a descriptor's Y: the number of an element or sequence within its class or category, the count of
+-- a replication, or the operand of an operator
 abbrev pub y_of : ℕ → ℕ
 y_of word = word % 256
 
--- X and Y as one number, which identifies a descriptor among those with the same F
+-- a descriptor's X and Y as one number, which is unique among descriptors with the same F
 abbrev pub key_of : ℕ → ℕ
 key_of word = word % 16384
 
--- whether a descriptor is a factor of a delayed replication: 0 31 000, 0 31 001 or 0 31 002. The
--- repetition factors 0 31 011 and 0 31 012 are not supported (own).
+-- Whether a descriptor is a replication factor (0 31 000, 0 31 001 or 0 31 002). The repetition
+-- factors 0 31 011 and 0 31 012 are not supported (own).
 abbrev pub is_factor : ℕ → Bool
 is_factor word = f_of word == 0 && (x_of word == 31 && nat_le (y_of word) 2)
 
--- the six digits, in ASCII
+-- the six digits of a descriptor, in ASCII
 -- rule: descriptor-fxy
 abbrev pub fxy_text : ℕ → List ℕ
 fxy_text word =
     (48 + f_of word) ∷ (48 + x_of word / 10) ∷ (48 + x_of word % 10)
     ∷ (48 + y_of word / 100) ∷ (48 + y_of word / 10 % 10) ∷ (48 + y_of word % 10) ∷ []
 
--- the value of the digit at an index of a text
+-- the value of the digit at the given index in a string
 abbrev pub number_at : List ℕ → ℕ → ℕ
 number_at text place = slice_index text place - 48
 
--- F, X and Y of a text of six digits
+-- F, X and Y in a six-digit string
 abbrev pub f_in : List ℕ → ℕ
 f_in text = number_at text 0
 
@@ -48,14 +51,14 @@ x_in text = 10 * number_at text 1 + number_at text 2
 abbrev pub y_in : List ℕ → ℕ
 y_in text = 100 * number_at text 3 + 10 * number_at text 4 + number_at text 5
 
--- whether a text is six digits whose F, X and Y fit into 2, 6 and 8 bits
+-- whether a string is a six-digit descriptor whose F, X and Y fit in 2, 6 and 8 bits, respectively
 -- rule: reading-descriptor
 abbrev pub is_fxy : List ℕ → Bool
 is_fxy text =
     (length text == 6) && list_all is_ascii_digit text && nat_le (f_in text) 3
     && nat_le (x_in text) 63 && nat_le (y_in text) 255
 
--- the descriptor that a text represents, if any
+-- the descriptor that a string represents, if any
 -- rule: descriptor-fxy
 abbrev pub fxy_of : List ℕ → Option ℕ
 fxy_of text = if is_fxy text then Some (16384 * f_in text + 256 * x_in text + y_in text) else None
@@ -67,24 +70,25 @@ infixl 10 ◌>>=◌
 abbrev pub ◌>>=◌ : {A B : Type 0} → Option A → (A → Option B) → Option B
 o >>= f = option_and_then f o
 
--- x if the test passes, or else `None`
+-- x if the test passes; otherwise, `None`
 abbrev pub only_if : {A : Type 0} → Bool → A → Option A
 only_if test x = if test then Some x else None
 
--- ---- The position of a number in a list. Only contracts of private functions cite it.
+-- ---- The position of a number in a list (used only by contracts of private functions).
 
--- the position of the first occurrence of a number in a list, counted from 0, if there is one
+-- the position (counted from 0) at which a number first occurs in a list, or `None` if it does not
+-- occur
 abbrev pub place_of : List ℕ → ℕ → Option ℕ
 place_of [] n = None
 place_of (first ∷ rest) n = if first == n then Some 0 else option_map suc (place_of rest n)
 
--- the mark of a position: the position plus 1, or 0 if there is none
+-- the mark that stores a position: the position plus 1, or 0 for `None`
 abbrev pub mark_of : Option ℕ → ℕ
 mark_of None = 0
 mark_of (Some place) = place + 1
 
--- The index has a mark for each key, which is that of the key's position in the list. The list
--- contains no key twice, and has room for all keys.
+-- For each possible key, the index contains the mark of the key's position in the list of keys. No
+-- key occurs twice in the list of keys, which has room for all possible keys.
 pub record IsDirectory (a : Inside) : Type 0 where
   pub room : 16384 ≤ vec_capacity a.keys
   pub size : length a.marks.items ≡ 16384

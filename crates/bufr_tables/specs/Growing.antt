@@ -1,4 +1,4 @@
--- Only contracts need this file. The model of a template that is being built.
+-- Only contracts need this file. The model of a `TemplateBuilder`.
 use Rattle.bufr_tables.specs.declared.expand.TemplateBuilder.{TemplateBuilder}
 use Rattle.bufr_tables.specs.Growth.{BuilderModel, growth}
 

@@ -1,5 +1,4 @@
--- Only contracts need this file. A template that is being built, and what an expander appends to
--- it.
+-- Only contracts need this file. A template being built, and what an expander appends to it.
 use Rattle.std.specs.Prelude.{ℕ, ◌+◌, ◌-◌, ◌≡◌, ◌≢◌, max, Bool, false, ◌||◌, List, [], ◌∷◌, ◌++◌, length, slice_set, Result, Ok, Err, Option}
 use Rattle.bufr_tables.specs.declared.template.Cell.{Cell}
 use Rattle.bufr_tables.specs.declared.template.Cell.TheVariants as cell
@@ -13,28 +12,30 @@ use Rattle.bufr_tables.specs.Expansion.{ExpandedPart, part, with_places, Tables,
 use Rattle.bufr_tables.specs.declared.expand.Passes.TheVariants as passes
 use Rattle.bufr_tables.specs.declared.expand.Expander.{Expander}
 
--- the number of places of a group in addition to those of its body
+-- the number of places that a group takes in addition to those of its body
 abbrev pub own_places : Passes → ℕ
 own_places (passes.Fixed count) = 2
 own_places (passes.Delayed factor) = 3
 
--- a group with this body
+-- the node for a group with the given body
 abbrev pub group_of : Passes → Tree → Tree
 group_of (passes.Fixed count) body = fixed count body bare
 group_of (passes.Delayed factor) body = delayed factor body bare
 
--- the first cell of a group; `after` is the place after the end of the group
+-- the first cell of a group; `after` is the place that follows the group
 abbrev pub first_cell : Passes → ℕ → Cell
 first_cell (passes.Fixed count) after = cell.Fixed count after
 first_cell (passes.Delayed factor) after = cell.Delayed after
 
--- the cells between the first cell of a group and its body: the factor, if there is one
+-- the cells between the first cell of a group and its body: one cell with the factor if the group
+-- is delayed; otherwise, none
 abbrev pub factor_cells : Passes → List Cell
 factor_cells (passes.Fixed count) = []
 factor_cells (passes.Delayed factor) = cell.Factor factor ∷ []
 
--- a template that is being built: its cells, the number of groups open after them, the greatest
--- number that were open at the same time, and whether the innermost one takes bits of the data
+-- A template that is being built, represented by its cells, the number of groups that are still
+-- open, the maximum number of groups that have been open at the same time, and whether the
+-- innermost open group (or the template, if no group is open) occupies data bits.
 pub record BuilderModel : Type 0 where
   pub cells : List Cell
   pub groups : ℕ
@@ -44,40 +45,41 @@ pub record BuilderModel : Type 0 where
 abbrev pub growth : List Cell → (groups deep : ℕ) → Bool → BuilderModel
 growth cells groups deep full = record { cells = cells; groups = groups; deep = deep; full = full }
 
--- the number of places so far, including those of the ends that are still to be added: one for each
--- open group, and one for the template
+-- the number of places so far, including one for the missing end of each open group and one for the
+-- end of the template
 abbrev pub places_so_far : BuilderModel → ℕ
 places_so_far g = length g.cells + g.groups + 1
 
--- the builder after the cells of a tree were appended
+-- the builder after appending the cells of a tree
 abbrev pub push_tree : BuilderModel → Tree → BuilderModel
 push_tree g tree =
     growth (g.cells ++ cells_of tree (length g.cells) []) g.groups
     (max g.deep (g.groups + depth tree))
     (g.full || consumes tree)
 
--- the builder after an element or operator was appended, or the fault of descriptor d if no place
--- is left for it
+-- the builder after appending an element or operator, or a fault that names descriptor d if no
+-- place is left
 abbrev pub with_cell : BuilderModel → ℕ → Tree → Result BuilderModel TemplateFault
 with_cell g d node = with_places (places_so_far g) 1 d >>= λ _. Ok (push_tree g node)
 
--- the builder after a group was begun; the place after the group is not known yet
+-- the builder after opening a group; the place that follows the group is not known yet, so 0 is
+-- stored instead
 abbrev pub with_open_group : BuilderModel → Passes → BuilderModel
 with_open_group g passes =
     growth (g.cells ++ first_cell passes 0 ∷ factor_cells passes) (g.groups + 1)
     (max g.deep (g.groups + 1)) false
 
--- the builder after the innermost group, whose first cell is at `place`, was ended
+-- the builder after closing the innermost group, whose first cell is at `place`
 abbrev pub with_closed_group : BuilderModel → ℕ → Passes → BuilderModel
 with_closed_group g place passes =
     growth (slice_set (g.cells ++ cell.PassEnd ∷ []) place (first_cell passes (length g.cells + 1)))
     (g.groups - 1) g.deep g.full
 
--- The fault is that of the defined result, or memory ran out.
+-- The result `defined` is the fault `why`, unless memory ran out.
 abbrev pub IsFaultOrMemory : {A : Type 0} → Result A TemplateFault → TemplateFault → Type 0
 IsFaultOrMemory defined why = why ≢ template.Memory → defined ≡ Err why
 
--- The cells of the tree in the defined result were appended.
+-- The cells of the tree in the result `defined` were appended.
 pub record PushesTree (old : BuilderModel) (defined : Result Tree TemplateFault)
     (new : BuilderModel) : Type 0 where
   pub tree : Tree
@@ -89,8 +91,8 @@ abbrev pub PushesTreeUnlessMemory : BuilderModel → Result Tree TemplateFault
 PushesTreeUnlessMemory old defined (Ok done) new = PushesTree old defined new
 PushesTreeUnlessMemory old defined (Err why) new = IsFaultOrMemory defined why
 
--- The cells of the part in the defined result were appended; `taken` of the descriptors after its
--- own belong to it.
+-- The cells of the part in the result `defined` were appended. The next `taken` descriptors in the
+-- list belong to this part.
 pub record PushesPart (old : BuilderModel) (defined : Result ExpandedPart TemplateFault) (taken : ℕ)
     (new : BuilderModel) : Type 0 where
   pub tree : Tree
@@ -102,14 +104,14 @@ abbrev pub GivesPart : BuilderModel → Result ExpandedPart TemplateFault → Re
 GivesPart old defined (Ok taken) new = PushesPart old defined taken new
 GivesPart old defined (Err why) new = IsFaultOrMemory defined why
 
--- The builder is the defined result. If the call fails, the definition has the same fault, or
--- memory ran out.
+-- If the call succeeded, `defined` contains the builder `new`. If it failed, `defined` is the fault
+-- that it returned, unless memory ran out.
 abbrev pub GivesGrowth : Result BuilderModel TemplateFault
     → Result (Unit {0}) TemplateFault → BuilderModel → Type 0
 GivesGrowth defined (Ok done) new = defined ≡ Ok new
 GivesGrowth defined (Err why) new = IsFaultOrMemory defined why
 
--- A group was begun, for which enough places were left. Its first cell is at `place`.
+-- A group was opened, and enough places were left for it. The group's first cell is at `place`.
 pub record OpensGroup (old : BuilderModel) (passes : Passes) (d place : ℕ)
     (new : BuilderModel) : Type 0 where
   pub is_left : with_places (places_so_far old) (own_places passes) d ≡ Ok tt
@@ -124,15 +126,16 @@ GivesPlace old passes d (Err why) new =
 abbrev pub tables_in : Expander → Tables
 tables_in expander = tables_of expander.table_b.now expander.table_d.now
 
--- how an expander expands the list inside a group or sequence
+-- the function that an expander uses to expand the list inside a group or sequence
 abbrev pub inner_in : Expander → Option Expansion
 inner_in expander = inner_of (tables_in expander) expander.room
 
--- how an expander expands a list
+-- the function that an expander uses to expand a list
 abbrev pub list_in : Expander → Expansion
 list_in expander = level (tables_in expander) (inner_in expander) false 0
 
--- group d with these passes, or its first fault; `after` is the list after d and its factor
+-- the group that results from expanding replication d, or the first fault; `after` contains the
+-- descriptors that follow d and its factor, if any
 abbrev pub group_in : Expander → Passes → (places d : ℕ) → List ℕ → Result Tree TemplateFault
 group_in expander passes places d after =
     body_of (inner_in expander) places (own_places passes) d after >>= λ body.

@@ -10,5 +10,5 @@ pub mod Expansion
 pub mod Growth
 pub mod Tree
 pub mod FaultNumber
--- the names that proofs and other crates cite, re-exported
+-- re-exports of the names that proofs and other crates use
 pub mod Prelude

@@ -1,6 +1,6 @@
--- The records of the text of a table, and the numbers in their fields. `records` is the definition
--- of CSV in the crate `csv`: a record has any number of fields, and spaces are not removed. The
--- header is record 1. (own)
+-- The records of a table file, and the numbers in their fields (own). `records`, which is defined
+-- in the crate `csv`, allows any number of fields in a record and does not trim spaces. The header
+-- is record 1.
 -- Cited by public contracts.
 use Rattle.std.specs.Prelude.{ℕ, ◌+◌, ◌^◌, ◌==◌, ◌&&◌, Bool, nat_lt, if◌then◌else◌, ℤ, pos, negsuc, neg_ℤ, List, [], ◌∷◌, length, drop, slice_index, Option, Some, None, option_and_then, option_map, unwrap_or, ◌≡◌, ◌≢◌, Result, Ok, Err, true, false, ◌<◌, map, IsSome}
 use Rattle.std.specs.Char.{is_ascii_digit}
@@ -20,38 +20,39 @@ use Rattle.csv.specs.declared.reader.Reader.{Reader}
 use Rattle.bufr_tables.specs.declared.rows.RecordReader.{RecordReader}
 use Rattle.csv.specs.declared.reader.Trim.TheVariants as trim
 
--- ---- Whole numbers: an optional `-` and one or more digits. (own)
+-- ---- Whole numbers, written as an optional `-` and one or more digits. (own)
 
--- the number that a text of one or more digits represents
+-- the number represented by a string of one or more digits, or `None` for any other string
 unfoldable pub natural_of : List ℕ → Option ℕ
 natural_of text =
     only_if (nat_lt 0 (length text) && list_all is_ascii_digit text) (digits_value 10 text)
 
--- the number that a text represents: an optional `-` and one or more digits
+-- the number represented by an optional `-` and one or more digits, or `None` for any other string
 unfoldable pub integer_of : List ℕ → Option ℤ
 integer_of text =
     if slice_index text 0 == 45 then option_map (λ n. neg_ℤ (pos n)) (natural_of (drop 1 text))
     else option_map pos (natural_of text)
 
--- whether a number fits into `i64`
+-- whether a number fits in an `i64`
 abbrev pub fits_i64 : ℤ → Bool
 fits_i64 (pos n) = nat_lt n (2 ^ 63)
 fits_i64 (negsuc n) = nat_lt n (2 ^ 63)
 
--- the number that a text represents, if it fits into `i64`
+-- the number that a string represents, if it fits in an `i64`
 unfoldable pub i64_of : List ℕ → Option ℤ
 i64_of text = option_and_then (λ z. only_if (fits_i64 z) z) (integer_of text)
 
--- a record: the texts of its fields
+-- a record, represented as the list of its fields
 abbrev pub Record : Type 0
 Record = List (List ℕ)
 
--- The records of a text; a byte order mark at its beginning is ignored. Empty lines are no records,
--- and a quoted field that is not closed extends to the end of the text.
+-- The records in a file that consists of the given octets. A byte order mark at the beginning is
+-- ignored, empty lines are skipped, and a quoted field without a closing quote extends to the end
+-- of the file.
 abbrev pub records_of : List ℕ → List Record
 records_of text = records default_config (strip_bom text)
 
--- field `place` of a record, from 0; empty if there is none
+-- a record's field at index `place` (counted from 0), or an empty string if there is no such field
 abbrev pub field_of : Record → ℕ → List ℕ
 field_of record' place = unwrap_or (field_at record' place) []
 
@@ -63,21 +64,21 @@ abbrev pub ◌>>=◌ : {E A B : Type 0} → Result A E → (A → Result B E) �
 (Ok x) >>= next = next x
 (Err fault) >>= next = Err fault
 
--- A call returns this result, unless memory runs out.
+-- A call returned the expected result, unless memory ran out.
 abbrev pub ReturnsUnlessMemory : {A : Type 0} → Result A TableFault → Result A TableFault → Type 0
 ReturnsUnlessMemory expected (Ok x) = expected ≡ Ok x
 ReturnsUnlessMemory expected (Err fault) = fault ≢ Memory → expected ≡ Err fault
 
--- ---- A table: its first record is the header, and each of the others is a row. (own)
+-- ---- Tables, in which the first record is the header and every other record is a row. (own)
 
--- whether the first record is this header
+-- whether the first record is the given header
 -- rule: fault-40
 abbrev pub has_header : List (List ℕ) → List Record → Bool
 has_header header [] = false
 has_header header (first ∷ rest) = pointwise bytes_eq first header
 
--- The table that comes from `table` by adding the given records one by one, or the first fault. The
--- first of the records has number n; `with_record` adds one.
+-- The table after adding the given records one by one, or the first fault. `with_record` adds a
+-- single record, and n is the number of the first record.
 -- rule: first-record-decides
 unfoldable pub table_from : {A : Type 0} → (with_record : ℕ → A → Record → Result A TableFault) → ℕ
     → A → List Record → Result A TableFault
@@ -85,8 +86,8 @@ table_from with_record n table [] = Ok table
 table_from with_record n table (r ∷ rs) =
     with_record n table r >>= λ more. table_from with_record (n + 1) more rs
 
--- the table of all records, or the first fault: the header comes first, then rows are added to the
--- empty table `none`
+-- The table that the records contain, or the first fault. The header is checked first, and then the
+-- rows are added to the empty table `none`.
 unfoldable pub table_of : {A : Type 0} → (header : List (List ℕ)) → (with_record : ℕ → A → Record
     → Result A TableFault) → (none : A) → List Record → Result A TableFault
 table_of header with_record none records =
@@ -94,11 +95,12 @@ table_of header with_record none records =
 
 -- ---- The records that a reader has not returned yet.
 
--- the octets after the records that were read
+-- the octets after the records read so far
 abbrev pub text_left : Reader (Bor (List ℕ)) → Option (List ℕ)
 text_left reader = source_of (λ s. Some s.now) reader
 
--- the records in these octets, if they are known, for a reader in this state
+-- the records that a reader in `state` finds in its remaining octets, or none if the octets are
+-- unknown
 abbrev pub records_after : State → Option (List ℕ) → List Record
 records_after state None = []
 records_after state (Some text) = records_from default_config (length text + 1) state text
@@ -106,7 +108,7 @@ records_after state (Some text) = records_from default_config (length text + 1) 
 abbrev pub records_left : RecordReader → List Record
 records_left r = records_after (reader_state r.reader) (text_left r.reader)
 
--- the number of octets; 0 if they are not known
+-- the number of octets in a list, or 0 if the list is unknown
 abbrev pub count_of : Option (List ℕ) → ℕ
 count_of None = 0
 count_of (Some text) = length text
@@ -128,7 +130,7 @@ pub record IsBetween (r : RecordReader) : Type 0 where
 abbrev pub record_given : RecordReader → Record
 record_given r = fields_of r.row
 
--- The reader read the next record and counted it, or there are no more records.
+-- The reader read and counted the next record, or no records were left.
 pub record GivesNext (old new : RecordReader) (found : Bool) : Type 0 where
   pub next : records_left old ≡ (if found then record_given new ∷ records_left new else [])
   pub number : found ≡ true → new.number ≡ old.number + 1
@@ -143,6 +145,6 @@ pub record IsOpened (names : List (List ℕ)) (records : List Record)
   pub header : has_header names records ≡ true
   pub rest : records_left r ≡ drop 1 records
 
--- the texts behind references
+-- the strings to which the references in a list refer
 abbrev pub field_texts : List (Bor (List ℕ)) → List (List ℕ)
 field_texts texts = map (λ text. text.now) texts

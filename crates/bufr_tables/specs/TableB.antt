@@ -1,5 +1,5 @@
--- Table B: its rows and their limits, and the kind of an element. (WMO-No. 306, Volume I.2, FM 94:
--- Table B; the format of the file, the limits, the faults and the kinds are our choice)
+-- The rows of Table B and their limits, and the kind of an element. (WMO-No. 306, Volume I.2, FM
+-- 94: Table B; the format of the file, the limits, the faults and the kinds are our choice)
 -- Cited by public contracts.
 use Rattle.std.specs.Prelude.{ℕ, Bool, if◌then◌else◌, ◌||◌, List, length, take, codes, ◌≡◌, ◌%◌, ◌==◌, ◌&&◌, true, false, not, nat_le, ℤ, [], ◌∷◌, ◌++◌, map, nat_eq, Option, Some, None, is_some, Result, Ok, Err, ◌+◌, ◌-◌, ◌≤◌, slice_range, ◌<◌}
 use Rattle.std.specs.Str.{str_eq_ignore_ascii_case}
@@ -15,13 +15,13 @@ use Rattle.bufr_tables.specs.declared.table_b.Stored.{Stored}
 use Rattle.bufr_tables.specs.declared.table_b.ParsedRow.{ParsedRow}
 use Rattle.bufr_tables.specs.declared.table_b.TableB.TheInside.{Inside}
 
--- ---- The kind of values that a unit indicates; ASCII case is ignored. (own)
+-- ---- The kind of an element, which depends on its unit. Letter case is ignored. (own)
 
--- whether a text begins with these words, in upper or lower case
+-- whether a string begins with the given words, ignoring ASCII case
 unfoldable pub begins_with : List ℕ → List ℕ → Bool
 begins_with text words = str_eq_ignore_ascii_case (take (length words) text) words
 
--- the kind of an element, which its unit determines
+-- the kind of an element with the given unit
 -- rule: kind-by-unit
 unfoldable pub kind_of : List ℕ → Kind
 kind_of unit =
@@ -29,7 +29,7 @@ kind_of unit =
     else if begins_with unit (codes "Code table") || begins_with unit (codes "Common code table")
     || begins_with unit (codes "Flag table") then Coded else Numeric
 
--- a row of Table B, which defines one element; the width is in bits
+-- a row of Table B, which describes one element; the data width is in bits
 pub record Row : Type 0 where
   pub fxy : ℕ
   pub name : List ℕ
@@ -39,51 +39,53 @@ pub record Row : Type 0 where
   pub reference : ℤ
   pub width : ℕ
 
--- the start of an item's line: the six digits of the descriptor and a space
+-- the six-digit descriptor and the space at the start of an item's line in a dump
 abbrev pub row_line_start : Row → List ℕ
 row_line_start row = fxy_text row.fxy ++ codes " "
 
--- the comment at the end of an item's line: `  # NAME [UNIT]` and a line feed
+-- the comment at the end of an item's line in a dump: `  # NAME [UNIT]` and a line feed
 abbrev pub row_comment : Row → List ℕ
 row_comment row = codes "  # " ++ row.name ++ codes " [" ++ row.unit ++ codes "]\n"
 
--- the header of the file
+-- the header of a Table B file
 -- rule: fault-40
 abbrev pub columns_b : List (List ℕ)
 columns_b =
     codes "fxy" ∷ codes "name" ∷ codes "unit" ∷ codes "scale" ∷ codes "reference"
     ∷ codes "width" ∷ []
 
--- the descriptor of an element that a text represents
+-- the descriptor that a string represents, if it is an element descriptor
 unfoldable pub element_of : List ℕ → Option ℕ
 element_of text = fxy_of text >>= λ fxy. only_if (f_of fxy == 0) fxy
 
--- whether an octet is not a control character of ASCII
+-- whether an octet is not an ASCII control character
 abbrev pub is_printed : ℕ → Bool
 is_printed octet = nat_le 32 octet && not (octet == 127)
 
--- whether a text may be a name or a unit: at most 512 octets without control characters
+-- whether a string may be a name or unit; it may contain at most 512 octets, and no control
+-- characters
 abbrev pub is_name : List ℕ → Bool
 is_name text = nat_le (length text) 512 && list_all is_printed text
 
 unfoldable pub plain_of : List ℕ → Option (List ℕ)
 plain_of text = only_if (is_name text) text
 
--- the scale that a text represents, from -127 to 127
+-- the scale that a string represents, if it is in the range -127 to 127
 unfoldable pub scale_of : List ℕ → Option ℤ
 scale_of text = i64_of text >>= λ scale. only_if (nat_le (unsigned_abs scale) 127) scale
 
--- The widths in bits that an element may have (own). Text has whole octets, at most 2,040 bits: 255
--- octets, the most that 2 08 Y can set. Other elements have 1 to 63 bits.
+-- Whether a data width in bits is valid for elements of the given kind (own). A text element is 1
+-- to 255 whole octets wide, since 2 08 Y can set a width of at most 255 octets. Other elements are
+-- 1 to 63 bits wide.
 abbrev pub allows_width : Kind → ℕ → Bool
 allows_width Character width = nat_le 8 width && nat_le width 2040 && (width % 8 == 0)
 allows_width _ width = nat_le 1 width && nat_le width 63
 
--- the width that a text represents, if the kind allows it
+-- the data width that a string represents, if it is valid for elements of the given kind
 unfoldable pub width_of : Kind → List ℕ → Option ℕ
 width_of kind text = natural_of text >>= λ width. only_if (allows_width kind width) width
 
--- the width of a replication factor; `None` for other elements
+-- the data width that a replication factor must have, or `None` for other elements
 abbrev pub factor_width : ℕ → Option ℕ
 factor_width fxy =
     if is_factor fxy then Some (if y_of fxy == 0 then 1 else if y_of fxy == 1 then 8 else 16)
@@ -93,15 +95,15 @@ abbrev pub is_character : Kind → Bool
 is_character Character = true
 is_character _ = false
 
--- whether a row is valid, given its `factor_width`: the row of a factor must have this width, scale
--- 0 and reference 0, and must not be text
+-- Whether a row is valid, given the `factor_width` of its element. The row of a replication factor
+-- must have the given data width, scale 0 and reference value 0, and must not describe text.
 abbrev pub is_valid_factor : Option ℕ → Row → Bool
 is_valid_factor None row = true
 is_valid_factor (Some width) row =
     (row.width == width) && (unsigned_abs row.scale == 0) && (unsigned_abs row.reference == 0)
     && not (is_character row.kind)
 
--- the row of a record, if each of its fields is valid
+-- the row that a record contains, if all of its fields are valid
 -- rule: fault-41-of-table-b
 unfoldable pub row_of : Record → Option Row
 row_of r = do
@@ -123,8 +125,9 @@ row_of r = do
       }
   only_if (is_valid_factor (factor_width fxy) row) row
 
--- A row is within the limits: its name, unit and scale are valid, and so is its width for the kind
--- that its unit determines. A factor of delayed replications meets further conditions.
+-- The row is valid. The row's unit determines its kind, and its data width is valid for that kind.
+-- If the row's element is a replication factor, the row also meets the conditions of
+-- `is_valid_factor`.
 pub record IsRow (row : Row) : Type 0 where
   pub name : is_name row.name ≡ true
   pub unit : is_name row.unit ≡ true
@@ -133,39 +136,39 @@ pub record IsRow (row : Row) : Type 0 where
   pub width : allows_width row.kind row.width ≡ true
   pub factor : is_valid_factor (factor_width row.fxy) row ≡ true
 
--- the row of an element, if the table has one
+-- the row for an element, if the table has one
 abbrev pub entry_of : List Row → ℕ → Option Row
 entry_of rows fxy = find (λ row. row.fxy == fxy) rows
 
--- the rows so far with the row of record n, or the fault of this record: it has no valid row, or an
--- earlier row has its element
+-- The rows so far, followed by the row in record n. If record n contains no valid row, or if an
+-- earlier row describes the same element, the result is a fault instead.
 -- rule: fault-42
 abbrev pub with_row : ℕ → List Row → Option Row → Result (List Row) TableFault
 with_row n rows None = Err (table.Row n)
 with_row n rows (Some row) =
     if is_some (entry_of rows row.fxy) then Err (table.Duplicate row.fxy) else Ok (rows ++ row ∷ [])
 
--- the rows so far with the row of record n, which must have six fields
+-- the rows so far and the row in record n, or the fault in that record, which must have six fields
 -- rule: fault-45, order-in-a-record
 unfoldable pub with_record_b : ℕ → List Row → Record → Result (List Row) TableFault
 with_record_b n rows r = if length r == 6 then with_row n rows (row_of r) else Err table.Csv
 
--- Table B of these records, or the first fault
+-- the Table B that the records contain, or the first fault
 abbrev pub table_b_of : List Record → Result (List Row) TableFault
 table_b_of records = table_of columns_b with_record_b [] records
 
--- These are the rows of a Table B: those of the records after the header, in order, without a
--- second row of an element.
+-- The table contains the rows in the records after the header, in order, and no two rows describe
+-- the same element.
 pub record AreRows (records : List Record) (table : List Row) : Type 0 where
   pub rest : List Record
   pub split : records ≡ columns_b ∷ rest
   pub rows : map row_of rest ≡ map Some table
   pub distinct : IsDistinct nat_eq (map (λ row. row.fxy) table)
 
--- ---- How Table B is stored: the texts of its rows, one after another, in one block of octets.
+-- ---- How Table B is stored. A single block of octets contains the names and units of all rows.
 
--- the row of a stored element: `FXXYYY   # ` comes before its name, and its unit is between ` [`
--- and `]`
+-- The row of a stored element. In the block, the element's name comes after `FXXYYY   # `, and its
+-- unit is between ` [` and `]`.
 abbrev pub row_kept : List ℕ → Stored → Row
 row_kept octets s =
     record {
@@ -178,8 +181,8 @@ row_kept octets s =
       width = s.width;
     }
 
--- The indices of a stored element are in order and inside the block, which has the start of a line
--- and the comment of its row there.
+-- The indices of a stored element are in order and within the block. Between those indices, the
+-- block contains the start of the element's line and the comment at the end of the line.
 pub record IsRowKept (octets : List ℕ) (s : Stored) : Type 0 where
   pub name : s.start + 11 ≤ s.middle
   pub unit : s.middle + 4 ≤ s.end
@@ -187,7 +190,7 @@ pub record IsRowKept (octets : List ℕ) (s : Stored) : Type 0 where
   pub line_start : slice_range octets s.start (s.start + 7) ≡ row_line_start (row_kept octets s)
   pub comment : slice_range octets (s.start + 7) s.end ≡ row_comment (row_kept octets s)
 
--- the row that was parsed from a record
+-- the row that was parsed from a record of the file
 abbrev pub row_parsed : ParsedRow → Row
 row_parsed r =
     record {
@@ -203,16 +206,17 @@ row_parsed r =
 abbrev pub rows_kept : List ℕ → List Stored → List Row
 rows_kept octets stored = map (row_kept octets) stored
 
--- The new block is the old one, possibly with more octets after it.
+-- The new block is the old one, possibly with more octets appended.
 abbrev pub ExtendsBlock : List ℕ → List ℕ → Type 0
 ExtendsBlock old new = (more : List ℕ) × (new ≡ old ++ more)
 
--- This element stores the parsed row in the block.
+-- The parsed row is stored in the block as the given element.
 pub record IsStored (octets : List ℕ) (row : ParsedRow) (s : Stored) : Type 0 where
   pub same : row_kept octets s ≡ row_parsed row
   pub kept : IsRowKept octets s
 
--- Every element is stored in the block and within the limits, and the index has their descriptors.
+-- Every element is stored in the block and has a valid row, and the index contains the descriptors
+-- of all elements.
 pub record IsTableB (a : Inside) : Type 0 where
   pub kept : AllByRecursion (IsRowKept a.octets.items) a.stored.items
   pub elements : AllByRecursion (λ s. s.fxy < 16384) a.stored.items

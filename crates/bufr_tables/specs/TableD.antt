@@ -1,5 +1,5 @@
--- Table D: its sequences, and chains of sequences that contain each other. (WMO-No. 306, Volume
--- I.2, FM 94: Table D; the format of the file, the limits and the faults are our choice)
+-- The sequences of Table D, and chains in which each sequence contains the next. (WMO-No. 306,
+-- Volume I.2, FM 94: Table D; the format of the file, the limits and the faults are our choice)
 -- Cited by public contracts.
 use Rattle.std.specs.Prelude.{◌≡◌, ◌≢◌, ℕ, ◌-◌, ◌==◌, ◌&&◌, Bool, true, false, not, nat_le, if◌then◌else◌, List, [], ◌∷◌, ◌++◌, length, map, codes, Option, Some, None, is_some, option_map, unwrap_or, Result, Ok, Err, IsSome, Contains, All, ⊤, ◌≤◌, ◌<◌, slice_range, ◌+◌, ◌⊎◌, slice_index, slice_index_or}
 use Rattle.std.specs.List.{find, AllByRecursion}
@@ -11,12 +11,12 @@ use Rattle.bufr_tables.specs.Records.{Record, field_of, table_of}
 use Rattle.bufr_tables.specs.declared.table_d.MemberRange.{MemberRange}
 use Rattle.bufr_tables.specs.declared.table_d.TableD.TheInside.{Inside}
 
--- a sequence: its descriptor, and its members in order
+-- a sequence, represented by its descriptor and its members in order
 pub record Sequence : Type 0 where
   pub fxy : ℕ
   pub members : List ℕ
 
--- a row of the file: a sequence, and one of its members
+-- a row of a Table D file: a sequence and one of its members
 pub record Member : Type 0 where
   pub sequence : ℕ
   pub fxy : ℕ
@@ -25,11 +25,11 @@ pub record Member : Type 0 where
 abbrev pub columns_d : List (List ℕ)
 columns_d = codes "fxy" ∷ codes "member" ∷ []
 
--- the descriptor of a sequence that a text represents
+-- the descriptor that a string represents, if it is a sequence descriptor
 unfoldable pub sequence_of : List ℕ → Option ℕ
 sequence_of text = fxy_of text >>= λ fxy. only_if (f_of fxy == 3) fxy
 
--- the row of a record, if both of its fields are valid
+-- the row that a record contains, if both of its fields are valid
 -- rule: fault-41-of-table-d
 unfoldable pub member_of : Record → Option Member
 member_of r = do
@@ -37,43 +37,43 @@ member_of r = do
   fxy ← fxy_of (field_of r 1)
   Some (record { sequence = sequence; fxy = fxy })
 
--- the descriptors of the sequences, in the order of the file
+-- the descriptors of the sequences, in file order
 abbrev pub fxys_of : List Sequence → List ℕ
 fxys_of table = map (λ s. s.fxy) table
 
--- the members of a sequence, if the table has it
+-- the members of a sequence, if the table contains it
 abbrev pub members_of : List Sequence → ℕ → Option (List ℕ)
 members_of table fxy = option_map (λ s. s.members) (find (λ s. s.fxy == fxy) table)
 
--- the members of a sequence; none if the table does not have it
+-- the members of a sequence, or an empty list if the table does not contain it
 abbrev pub members_or_none : List Sequence → ℕ → List ℕ
 members_or_none table fxy = unwrap_or (members_of table fxy) []
 
--- whether the last sequence so far has this descriptor
+-- whether the last sequence so far has the given descriptor
 abbrev pub is_last : List Sequence → ℕ → Bool
 is_last [] fxy = false
 is_last (s ∷ []) fxy = s.fxy == fxy
 is_last (s ∷ t ∷ rest) fxy = is_last (t ∷ rest) fxy
 
--- the sequences with one more member of the last one
+-- the sequences after appending a member to the last one
 abbrev pub extended : List Sequence → ℕ → List Sequence
 extended [] member = []
 extended (s ∷ []) member = record { fxy = s.fxy; members = s.members ++ member ∷ [] } ∷ []
 extended (s ∷ t ∷ rest) member = s ∷ extended (t ∷ rest) member
 
--- the sequences with one more row, which is a member of the last sequence or begins a new one
+-- the sequences after adding one more row, which extends the last sequence or begins a new one
 unfoldable pub added : List Sequence → Member → List Sequence
 added table row =
     if is_last table row.sequence then extended table row.fxy
     else table ++ record { fxy = row.sequence; members = row.fxy ∷ [] } ∷ []
 
--- whether a row belongs to an earlier sequence, but not to the last one
+-- whether a row belongs to a sequence that precedes the last one
 -- rule: fault-42
 abbrev pub begins_again : List Sequence → Member → Bool
 begins_again table row = not (is_last table row.sequence) && is_some (members_of table row.sequence)
 
--- The sequences so far with the row of record n, or the fault of this record. n - 2 rows come
--- before it, since the header is record 1; a table has at most 65,536 rows.
+-- The sequences after adding the row in record n, or the fault in that record. Since record 1 is
+-- the header, n - 2 rows precede record n. A table has at most 65,536 rows.
 -- rule: fault-44, order-in-a-record
 abbrev pub with_member : ℕ → List Sequence → Option Member → Result (List Sequence) TableFault
 with_member n sequences None = Err (table.Row n)
@@ -81,24 +81,25 @@ with_member n sequences (Some row) =
     if begins_again sequences row then Err (table.Duplicate row.sequence)
     else if nat_le 65536 (n - 2) then Err table.TableSize else Ok (added sequences row)
 
--- the sequences so far with the row of record n, which must have two fields
+-- the sequences after adding the row in record n, or the fault in that record, which must have two
+-- fields
 -- rule: fault-45, order-in-a-record
 unfoldable pub with_record_d : ℕ → List Sequence → Record → Result (List Sequence) TableFault
 with_record_d n sequences r =
     if length r == 2 then with_member n sequences (member_of r) else Err table.Csv
 
--- Table D of these records, or the first fault; cycles are not checked here
+-- the Table D that the records contain, or the first fault; cycles are detected later
 abbrev pub table_d_of : List Record → Result (List Sequence) TableFault
 table_d_of records = table_of columns_d with_record_d [] records
 
--- the members that rows give to a sequence, in order
+-- the members listed for a sequence in the rows, in order
 abbrev pub members_in : List Member → ℕ → List ℕ
 members_in [] fxy = []
 members_in (row ∷ rows) fxy =
     if row.sequence == fxy then row.fxy ∷ members_in rows fxy else members_in rows fxy
 
--- Each sequence of the table has the members that the records after the header give to it, in
--- order.
+-- Each sequence of the table has the members that are listed for it in the records after the
+-- header, in order.
 pub record AreSequences (records : List Record) (table : List Sequence) : Type 0 where
   pub rest : List Record
   pub split : records ≡ columns_d ∷ rest
@@ -106,10 +107,10 @@ pub record AreSequences (records : List Record) (table : List Sequence) : Type 0
   pub written : map member_of rest ≡ map Some rows
   pub members : (fxy : ℕ) → members_or_none table fxy ≡ members_in rows fxy
 
--- ---- Chains of members: a sequence that contains itself cannot be expanded. (WMO-No. 306, Volume
+-- ---- Chains of members. A sequence that contains itself cannot be expanded. (WMO-No. 306, Volume
 -- I.2, FM 94: Table D; the fault is our choice)
 
--- Sequence `from` has the member `to`, which is also a sequence of the table.
+-- Sequence `from` has the member `to`, which is also a sequence in the table.
 pub record Leads (table : List Sequence) (from to : ℕ) : Type 0 where
   pub members : List ℕ
   pub has : members_of table from ≡ Some members
@@ -125,7 +126,7 @@ pub data Chain (table : List Sequence) : ℕ → ℕ → Type 0 where
 abbrev pub ReachesItself : List Sequence → ℕ → Type 0
 ReachesItself table fxy = Chain table fxy fxy
 
--- This is the first sequence of the file that contains itself.
+-- In file order, the given sequence is the first one that contains itself.
 -- rule: fault-43
 pub record IsFirstCycle (table : List Sequence) (fxy : ℕ) : Type 0 where
   pub before : List Sequence
@@ -136,8 +137,8 @@ pub record IsFirstCycle (table : List Sequence) (fxy : ℕ) : Type 0 where
   pub reaches : ReachesItself table fxy
   pub first : All (λ s. ¬ ReachesItself table s.fxy) before
 
--- What reading Table D returns: the table, if no sequence contains itself, or the first fault. A
--- cycle is reported only if the records have no fault.
+-- Reading Table D returns the table or the first fault. A sequence that contains itself is also a
+-- fault, but it is reported only if the records contain no other fault.
 -- rule: fault-43-last
 abbrev pub ReadsTableD : List Record → Result (List Sequence) TableFault → Type 0
 ReadsTableD records (Ok table) =
@@ -146,10 +147,10 @@ ReadsTableD records (Err (Cycle fxy)) =
     (table : List Sequence) × (table_d_of records ≡ Ok table) × IsFirstCycle table fxy
 ReadsTableD records (Err fault) = fault ≢ Memory → table_d_of records ≡ Err fault
 
--- ---- How Table D is stored: the members of all sequences, one after another, and the range of
--- each sequence in them.
+-- ---- How Table D is stored. One list contains the members of all sequences, and each sequence has
+-- a range in that list.
 
--- the sequence whose members are in this range
+-- the sequence whose members are in the given range
 abbrev pub sequence_kept : List ℕ → MemberRange → Sequence
 sequence_kept members run =
     record { fxy = run.fxy; members = slice_range members run.start run.end }
@@ -157,22 +158,22 @@ sequence_kept members run =
 abbrev pub sequences_kept : List ℕ → List MemberRange → List Sequence
 sequences_kept members runs = map (sequence_kept members) runs
 
--- The range is inside the list of all members, and it is not empty.
+-- The range is not empty and lies within the list of all members.
 abbrev pub IsMemberRange : ℕ → MemberRange → Type 0
 IsMemberRange size run = (run.start < run.end) × (run.end ≤ size)
 
--- X and Y of a sequence, as one number
+-- a sequence's X and Y, as one number
 abbrev pub run_key : MemberRange → ℕ
 run_key run = key_of run.fxy
 
--- The last range extends to the end of the members.
+-- The last range extends to the end of the list of members.
 abbrev pub LastEnds : ℕ → List MemberRange → Type 0
 LastEnds size [] = ⊤
 LastEnds size (run ∷ []) = run.end ≡ size
 LastEnds size (run ∷ next ∷ rest) = LastEnds size (next ∷ rest)
 
--- Every range is inside the members and belongs to a sequence, the last one extends to their end,
--- and the index has X and Y of the sequences.
+-- Every range is within the list of members and belongs to a sequence. The last range extends to
+-- the end of the list, and the index contains the X and Y of each sequence.
 pub record IsTableD (a : Inside) : Type 0 where
   pub inside : AllByRecursion (IsMemberRange (length a.members.items)) a.runs.items
   pub sequences : AllByRecursion (λ run. (49152 ≤ run.fxy) × (run.fxy < 65536)) a.runs.items
@@ -182,22 +183,22 @@ pub record IsTableD (a : Inside) : Type 0 where
 abbrev pub table_d_rows : Inside → List Sequence
 table_d_rows a = sequences_kept a.members.items a.runs.items
 
--- ---- The state of a search for a cycle. Each descriptor has a flag, at the index that is its
--- number.
+-- ---- The state of the search for cycles. Each descriptor has a flag, whose index is the
+-- descriptor's number.
 
--- the rank of a sequence, which is at the index given by X and Y
+-- the rank of a sequence, which is stored at the index formed by the sequence's X and Y
 abbrev pub rank_of : List ℕ → ℕ → ℕ
 rank_of ranks fxy = slice_index ranks (key_of fxy)
 
--- `limit` is above the rank of each member of a sequence that is itself a sequence.
+-- Each member of the given sequence that is itself a sequence has a rank below `limit`.
 abbrev pub IsAbove : List Sequence → List ℕ → ℕ → ℕ → Type 0
 IsAbove table ranks fxy limit = (to : ℕ) → Leads table fxy to → rank_of ranks to < limit
 
--- No sequence has a lower rank than one of its members.
+-- No member of a sequence has a higher rank than the sequence itself.
 abbrev pub Falls : List Sequence → List ℕ → Type 0
 Falls table ranks = (fxy : ℕ) → IsAbove table ranks fxy (rank_of ranks fxy + 1)
 
--- The flag of a descriptor is set.
+-- The given descriptor's flag is set.
 abbrev pub IsSet : List Bool → ℕ → Type 0
 IsSet flags fxy = slice_index_or flags fxy false ≡ true
 
@@ -206,8 +207,8 @@ abbrev pub unset : List Bool → ℕ
 unset [] = 0
 unset (flag ∷ flags) = (if flag then 0 else 1) + unset flags
 
--- The first `count` members of a sequence were visited: those that are sequences are flagged as
--- seen, and those that were not seen before were appended to the queue.
+-- The first `count` members of a sequence were visited. Members that are sequences were flagged as
+-- seen, and those that had not been flagged before were appended to the queue.
 pub record IsVisited (table : List Sequence) (fxy count : ℕ) (old : List Bool) (queue : List ℕ)
     (new : List Bool) (longer : List ℕ) : Type 0 where
   pub more : List ℕ

@@ -1,5 +1,5 @@
-//! The expansion of descriptor lists, depth first, from left to right, into the cells of templates.
-//! Only a few descriptors are examined for each place, so malicious lists are rejected early.
+//! The expansion of descriptor lists into templates, depth first and from left to right. Only a few
+//! descriptors are examined for each place in the template, so malicious lists are rejected early.
 ghost use Rattle.std.specs.Prelude.{◌≡◌, ◌≢◌, is_some, ◌+◌, ◌*◌, max, vec_capacity, ◌<◌, ◌≤◌, ◌++◌, ◌∷◌, [], length, Ok, Err, MatchResult, OnOk, OnErr, IfErr, IfOk};
 ghost use Rattle.bufr_tables.specs.Fxy.{x_of};
 ghost use Rattle.bufr_tables.specs.TableB.{entry_of};
@@ -15,18 +15,20 @@ use crate::table_d::TableD;
 use crate::template::{Cell, Template};
 use std::alloc::Global;
 
-/// The greatest number of groups and sequences that may be open at the same time.
+/// The maximum nesting depth of groups and sequences.
 const MAX_OPEN: u32 = 32;
 
-/// The minimum initial capacity for cells. Most templates fit into it.
+/// The minimum initial capacity of a template, in cells. This capacity is enough for most
+/// templates.
 const MIN_ROOM: usize = 128;
 
 impl Template {
-    /// Expands a descriptor list, depth first, from left to right, and flattens the tree to cells.
+    /// Expands a descriptor list into a tree, and stores the tree as a flat list of cells. The list
+    /// is expanded depth first and from left to right.
     ///
-    /// At most 32 groups and sequences may be open at the same time, and a template may have at
-    /// most 65,535 places (see [`Template::places`]). A list that would expand to more is rejected
-    /// as soon as it exceeds this limit.
+    /// Groups and sequences may be nested at most 32 levels deep, and a template may have at most
+    /// 65,535 places (see [`Template::places`]). A list that would need more than 65,535 places is
+    /// rejected as soon as the expansion exceeds this limit.
     ///
     /// ```
     /// let descriptors = [Fxy::from_word(0x0101)]; // 0 01 001
@@ -36,26 +38,27 @@ impl Template {
     ///
     /// # Errors
     ///
-    /// The first fault found:
+    /// The first of the following faults that is found:
     ///
-    /// - at a replication 1 X Y: [`TemplateFault::GroupShape`] if X is 0;
+    /// - At a replication 1 X Y, the fault is [`TemplateFault::GroupShape`] if X is 0,
     ///   [`TemplateFault::NoFactor`] if Y is 0 and no factor (0 31 000, 0 31 001 or 0 31 002)
-    ///   follows; [`TemplateFault::UnknownElement`] with the factor if Table B does not contain it;
-    ///   [`TemplateFault::GroupShape`] if fewer than X descriptors follow in the same list, not
-    ///   counting the factor; then [`TemplateFault::Depth`], [`TemplateFault::TemplateSize`], the
-    ///   faults of its body, and [`TemplateFault::EmptyGroup`] if no node of the body takes bits of
-    ///   the data;
-    /// - at a sequence: [`TemplateFault::UnknownSequence`] if Table D does not contain it; then
-    ///   [`TemplateFault::Depth`]; then the faults of its members;
-    /// - at an element: [`TemplateFault::UnknownElement`] if Table B does not contain it, unless it
-    ///   follows 2 06 Y; then [`TemplateFault::TemplateSize`];
-    /// - at an operator: [`TemplateFault::Operator`] if a template may not contain it, or not with
-    ///   this operand; [`TemplateFault::LocalShape`] if 2 06 Y is not followed by an element in the
-    ///   same list; then [`TemplateFault::TemplateSize`];
-    /// - at the end: [`TemplateFault::EmptyGroup`] with the first descriptor (000000 if the list is
-    ///   empty) if no node takes bits of the data.
+    ///   follows, [`TemplateFault::UnknownElement`] with the factor if Table B does not contain it,
+    ///   or [`TemplateFault::GroupShape`] if fewer than X descriptors follow in the same list, not
+    ///   counting the factor. The next checks, in order, are for [`TemplateFault::Depth`],
+    ///   [`TemplateFault::TemplateSize`], faults in the body, and [`TemplateFault::EmptyGroup`] if
+    ///   no node in the body occupies data bits.
+    /// - At a sequence, the fault is [`TemplateFault::UnknownSequence`] if Table D does not contain
+    ///   it. The next checks, in order, are for [`TemplateFault::Depth`] and for faults in the
+    ///   members.
+    /// - At an element, the fault is [`TemplateFault::UnknownElement`] if Table B does not contain
+    ///   it, unless it follows 2 06 Y. The next check is for [`TemplateFault::TemplateSize`].
+    /// - At an operator, the fault is [`TemplateFault::Operator`] if the operator is not supported
+    ///   or does not allow this operand, or [`TemplateFault::LocalShape`] if 2 06 Y is not followed
+    ///   by an element in the same list. The next check is for [`TemplateFault::TemplateSize`].
+    /// - At the end, the fault is [`TemplateFault::EmptyGroup`] with the first descriptor (000000
+    ///   if the list is empty) if no node in the whole list occupies data bits.
     ///
-    /// [`TemplateFault::Memory`] if memory cannot be allocated, which can happen at any time.
+    /// [`TemplateFault::Memory`] if memory cannot be allocated. This fault can occur at any point.
     // rule: groups-take-bits
     pub fn build(
         alloc: Global,
@@ -70,7 +73,7 @@ impl Template {
             (λ why. why ≢ TemplateFault.Memory
             → tree_of (tables_of table_b.now table_d.now) descriptors.now ≡ Err why) }
 
-        // No element, operator or factor of the list is lost, added or moved.
+        // The expansion does not lose, add or move any element, operator or factor of the list.
         ensures leaves { IfOk result
             (λ template. ListsLeaves (members_of table_d.now) descriptors.now (leaves template)) }
 
@@ -112,7 +115,8 @@ impl Template {
     }
 }
 
-/// The two tables that an expansion uses, and how many more groups and sequences may be open.
+/// The two tables that an expansion uses, and the number of nesting levels still available for
+/// groups and sequences.
 #[derive(Clone, Copy)]
 pub(crate) struct Expander<'a> {
     pub(crate) table_b: &'a TableB,
@@ -129,7 +133,7 @@ impl Expander<'_> {
         self.table_b.get(fxy).is_some()
     }
 
-    /// Expands a list, and appends its cells to `growing`.
+    /// Expands a descriptor list and appends the resulting cells to `growing`.
     #[cycle(expansion)]
     pub(crate) fn list(
         &self,
@@ -150,7 +154,8 @@ impl Expander<'_> {
         Ok(())
     }
 
-    /// Expands one descriptor. Returns how many of the descriptors after it belong to it.
+    /// Expands one descriptor. If the descriptor is a replication, returns the number of
+    /// descriptors in `after` that belong to the replication. Otherwise, returns 0.
     #[cycle(expansion)]
     // rule: descriptor-kinds, 2-06-y-unknown-element, 2-06-y-before-an-element
     // rule: order-at-an-element, order-at-an-operator, order-at-a-sequence
@@ -203,8 +208,9 @@ impl Expander<'_> {
         }
     }
 
-    /// Expands a replication: a group with Y passes or, if Y is 0, with as many as the value of the
-    /// factor, which comes first. Returns how many of the descriptors after it belong to it.
+    /// Expands a replication into a group. The group has Y passes or, if Y is 0, the number of
+    /// passes given by its factor in the data. Returns the number of descriptors in `after` that
+    /// belong to the replication, which is X, or X + 1 if there is a factor.
     #[cycle(expansion)]
     // rule: fixed-replication, delayed-replication, order-at-a-replication
     fn group(
@@ -241,8 +247,8 @@ impl Expander<'_> {
         Ok(1 + usize::from(fxy.x()))
     }
 
-    /// Expands a group whose body is the next X descriptors. Some node of the body must take bits
-    /// of the data.
+    /// Expands a group. The body of the group consists of the next X descriptors, and at least one
+    /// node in the body must occupy data bits.
     #[cycle(expansion)]
     // rule: replication-before-expansion, replication-nested, replication-in-one-list
     // rule: groups-take-bits, order-at-a-replication
@@ -285,17 +291,17 @@ fn begins_with_element(list: &[Fxy]) -> bool
     list.first().is_some_and(|fxy| fxy.f() == 0)
 }
 
-/// The number of passes of a group.
+/// The number of passes through a group.
 #[derive(Clone, Copy)]
 pub(crate) enum Passes {
     /// A fixed number of passes.
     Fixed(u8),
-    /// As many passes as the value of this factor in the data.
+    /// The data contain the number of passes as the value of this factor.
     Delayed(Fxy),
 }
 
 impl Passes {
-    /// Returns the number of places of the group in addition to those of its body.
+    /// Returns the number of places that a group takes in addition to those of its body.
     fn places(&self) -> u32
         ensures { result ≡ own_places self.now }
     {
@@ -305,7 +311,7 @@ impl Passes {
         }
     }
 
-    /// Returns the first cell of the group. `after` is the place after the end of the group.
+    /// Returns the first cell of a group. `after` is the place after the end of the group.
     fn first_cell(&self, after: u32) -> Cell
         ensures { result ≡ first_cell self.now after }
     {
@@ -316,28 +322,28 @@ impl Passes {
     }
 }
 
-/// The greatest number of places in a template.
+/// The maximum number of places in a template.
 pub(crate) const MAX_PLACES: u32 = 65_535;
 
 /// A template that is being built from a descriptor list.
 #[derive(Drop)]
 pub(crate) struct TemplateBuilder {
-    /// The cells so far.
+    /// The cells added so far.
     pub(crate) cells: Vec<Cell>,
-    /// The number of open groups, whose ends are still to be added.
+    /// The number of open groups, whose ends have not been added yet.
     pub(crate) open_groups: u32,
-    /// The greatest number of groups that were open at the same time so far.
+    /// The maximum number of groups that have been open at the same time.
     pub(crate) depth: u32,
-    /// Whether some node of the innermost open group, or of the whole list if no group is open,
-    /// takes bits of the data.
+    /// Whether the innermost open group contains a node that occupies data bits. If no group is
+    /// open, the whole list is considered instead.
     pub(crate) consumes: bool,
     pub(crate) ghost within: { length cells.items + open_groups < 65535 },
     pub(crate) ghost around: { open_groups ≤ depth },
     pub(crate) ghost room: { vec_capacity cells ≤ 131072 },
 }
 
-/// Checks that `more` places can be added to `places`. Returns [`TemplateFault::TemplateSize`] with
-/// `fxy` if there would be too many.
+/// Checks that `more` places can be added to the `places` already taken. Returns
+/// [`TemplateFault::TemplateSize`] with `fxy` if the template would have too many places.
 fn check_places(places: u32, more: u32, fxy: Fxy) -> Result<(), TemplateFault>
     requires within { places ≤ 65535 }
     requires few { more ≤ 3 }
@@ -351,7 +357,7 @@ fn check_places(places: u32, more: u32, fxy: Fxy) -> Result<(), TemplateFault>
     Ok(())
 }
 
-/// Appends a cell. If the vector is full, its capacity doubles.
+/// Appends a cell to `cells`. If `cells` is full, its capacity doubles.
 pub(crate) fn push_cell(cells: &mut Vec<Cell>, cell: Cell) -> Result<(), TemplateFault>
     ensures room { vec_capacity cells.new
         ≤ max (vec_capacity cells.old) (2 * length cells.old.items + 1) }
@@ -369,7 +375,8 @@ pub(crate) fn push_cell(cells: &mut Vec<Cell>, cell: Cell) -> Result<(), Templat
     Ok(())
 }
 
-/// Appends the cells between the first cell of a group and its body: the factor, if there is one.
+/// Appends the cell that contains the factor of a group. If the number of passes is fixed, the
+/// group has no factor, and nothing is appended.
 fn push_factor(cells: &mut Vec<Cell>, passes: &Passes) -> Result<(), TemplateFault>
     ensures room { vec_capacity cells.new
         ≤ max (vec_capacity cells.old) (2 * length cells.old.items + 1) }
@@ -389,7 +396,8 @@ impl TemplateBuilder {
     ghost use Rattle.bufr_tables.specs.Growth.{places_so_far, with_cell, with_closed_group, GivesGrowth, GivesPlace};
     ghost use Rattle.bufr_tables.specs.Growing.{builder_model};
 
-    /// Returns the number of places so far, including those of the ends that are still to be added.
+    /// Returns the number of places taken so far. The number includes the ends of the open groups
+    /// and of the template, whose cells have not been added yet.
     fn places(&self) -> u32
         ensures value { result ≡ places_so_far (builder_model self.now) }
         ensures most { result ≤ 65535 }
@@ -417,7 +425,7 @@ impl TemplateBuilder {
         Ok(())
     }
 
-    /// Begins a group. Returns the place of its first cell.
+    /// Opens a group and returns the place of its first cell.
     pub(crate) fn open(&mut self, fxy: Fxy, passes: &Passes) -> Result<usize, TemplateFault>
         ensures { GivesPlace (builder_model self.old) passes.now fxy result
             (builder_model self.new) }
@@ -433,8 +441,8 @@ impl TemplateBuilder {
         Ok(place)
     }
 
-    /// Ends the innermost group, whose first cell is at `place`, and stores the place after the
-    /// group in this cell.
+    /// Closes the innermost open group. The place after the group is stored in the group's first
+    /// cell, which is at `place`.
     pub(crate) fn close(&mut self, place: usize, passes: &Passes) -> Result<(), TemplateFault>
         requires inside { place < length self.old.cells.items }
         requires around { 0 < self.old.open_groups }

@@ -1,4 +1,5 @@
-//! The faults of tables, and of descriptor lists that cannot be expanded to a template.
+//! Faults in tables that cannot be read, and in descriptor lists that cannot be expanded into
+//! templates.
 ghost use Rattle.std.specs.Prelude.{◌≡◌};
 ghost use Rattle.bufr_tables.specs.declared.fault.TableFault.TheVariants.{Memory};
 ghost use Rattle.bufr_tables.specs.FaultNumber.{table_report, template_report};
@@ -9,13 +10,13 @@ use thiserror::Error;
 
 /// The reason why a table cannot be read.
 ///
-/// The first invalid record determines the fault. If several faults apply to it, the first of
-/// [`TableFault::Csv`], [`TableFault::Row`], [`TableFault::Duplicate`] and
+/// The first invalid record determines the fault. If several faults apply to that record, the first
+/// of [`TableFault::Csv`], [`TableFault::Row`], [`TableFault::Duplicate`] and
 /// [`TableFault::TableSize`] is reported. [`TableFault::Cycle`] is reported only if all records are
 /// valid.
 #[derive(Clone, Copy, Debug, PartialEq, Eq, Drop, Error)]
 pub enum TableFault {
-    /// There are no records, or the first one is not the header of the table.
+    /// The file contains no records, or the first record is not the header of the table.
     #[error("header")]
     Header,
     /// The record with this number is not a valid row. The header is record 1, and empty lines are
@@ -26,14 +27,14 @@ pub enum TableFault {
     /// Table D are not contiguous.
     #[error("duplicate {0}")]
     Duplicate(Fxy),
-    /// This sequence contains itself, directly or through other sequences. It is the first such
-    /// sequence in the file.
+    /// This is the first sequence in the file that contains itself, directly or through other
+    /// sequences.
     #[error("cycle {0}")]
     Cycle(Fxy),
     /// Table D has more than 65,536 rows.
     #[error("table size")]
     TableSize,
-    /// A record and the header have different numbers of fields.
+    /// A record does not have the same number of fields as the header.
     #[error("csv")]
     Csv,
     /// Memory could not be allocated.
@@ -42,7 +43,7 @@ pub enum TableFault {
 }
 
 impl TableFault {
-    /// Returns the number of this fault: 40 to 45, or 73.
+    /// Returns the number of this fault (40 to 45, or 73).
     pub fn number(self) -> u8
         ensures { result ≡ (table_report self).0 }
     {
@@ -58,8 +59,8 @@ impl TableFault {
     }
 }
 
-/// The reason why a descriptor list cannot be expanded to a template: the first fault found when
-/// the list is expanded depth first, from left to right.
+/// The reason why a descriptor list cannot be expanded into a template. The reason is the first
+/// fault found when the list is expanded depth first and from left to right.
 #[derive(Clone, Copy, Debug, PartialEq, Eq, Drop, Error)]
 pub enum TemplateFault {
     /// Table B does not contain this element or replication factor.
@@ -68,26 +69,27 @@ pub enum TemplateFault {
     /// Table D does not contain this sequence.
     #[error("unknown sequence {0}")]
     UnknownSequence(Fxy),
-    /// This operator is not supported, or not with this operand (Table C).
+    /// This operator (Table C) is not supported or does not allow this operand.
     #[error("operator {0}")]
     Operator(Fxy),
-    /// This replication has no descriptors to repeat, or more than follow it in its list.
+    /// This replication repeats no descriptors, or more descriptors than follow it in the list.
     #[error("group shape {0}")]
     GroupShape(Fxy),
     /// This delayed replication is not followed by a factor (0 31 000, 0 31 001 or 0 31 002).
     #[error("no factor {0}")]
     NoFactor(Fxy),
-    /// No node in the body of this replication takes bits of the data. If no node of the whole list
-    /// does, the descriptor is the first one of the list, or 000000 if the list is empty.
+    /// No node in the body of this replication occupies data bits. If no node in the whole list
+    /// occupies data bits, the variant contains the first descriptor of the list, or 000000 if the
+    /// list is empty.
     #[error("empty group {0}")]
     EmptyGroup(Fxy),
-    /// This replication or sequence is inside 32 others, which is the limit.
+    /// This replication or sequence is nested inside 32 others, but only 32 levels are allowed.
     #[error("depth {0}")]
     Depth(Fxy),
     /// With this element, operator or replication, the template would have more than 65,535 places.
     #[error("template size {0}")]
     TemplateSize(Fxy),
-    /// This operator 2 06 Y is not followed by an element in its list.
+    /// This 2 06 Y operator is not followed by an element in its descriptor list.
     #[error("local shape {0}")]
     LocalShape(Fxy),
     /// Memory could not be allocated.
@@ -96,7 +98,7 @@ pub enum TemplateFault {
 }
 
 impl TemplateFault {
-    /// Returns the number of this fault: 20 to 28, or 73.
+    /// Returns the number of this fault (20 to 28, or 73).
     pub fn number(self) -> u8
         ensures { result ≡ (template_report self).0 }
     {

@@ -1,4 +1,4 @@
-//! Descriptors, as they occur in section 3 of a message, in templates and in the tables.
+//! Descriptors, which occur in section 3 of a message, in templates and in the tables.
 ghost use Rattle.std.specs.Prelude.{◌≡◌, ◌<◌, ◌≤◌, IsTrue, Some, length, ℕ};
 ghost use Rattle.std.specs.Char.{is_ascii_digit};
 ghost use Rattle.std.specs.List.{list_all};
@@ -8,10 +8,11 @@ ghost use Rattle.bufr_tables.specs.Tree.{gives_width, is_legal_operator};
 use std::fmt;
 use std::marker::Model;
 
-/// A descriptor F X Y of section 3: two, six and eight bits (WMO-No. 306, Volume I.2, FM 94).
+/// A descriptor F X Y, as defined for section 3 of a message. F has two bits, X has six and Y has
+/// eight (WMO-No. 306, Volume I.2, FM 94).
 ///
 /// F is 0 for an element of Table B, 1 for a replication, 2 for an operator and 3 for a sequence of
-/// Table D. In contracts, a descriptor is the unsigned number in its 16 bits.
+/// Table D. Contracts treat a descriptor as an unsigned 16-bit number.
 ///
 /// ```
 /// let temperature = Fxy::from_word(0x0c65);
@@ -32,21 +33,21 @@ impl Model for Fxy {
 }
 
 impl Fxy {
-    /// Creates the descriptor with these 16 bits.
+    /// Creates a descriptor from the 16-bit number that encodes it.
     pub const fn from_word(word: u16) -> Fxy
         ensures { result ≡ word }
     {
         Fxy { word }
     }
 
-    /// Returns the 16 bits.
+    /// Returns the 16-bit number that encodes the descriptor.
     pub const fn word(self) -> u16
         ensures { result ≡ self }
     {
         self.word
     }
 
-    /// Returns F, from 0 to 3.
+    /// Returns F, which is 0 to 3.
     pub const fn f(self) -> u8
         ensures value { result ≡ f_of self }
         ensures most { result ≤ 3 }
@@ -54,8 +55,8 @@ impl Fxy {
         (self.word / 16384) as u8
     }
 
-    /// Returns X, from 0 to 63: the class of an element or sequence, the number of descriptors that
-    /// a replication repeats, or the kind of an operator.
+    /// Returns X, which is 0 to 63. X is the class of an element, the category of a sequence, the
+    /// number of descriptors that a replication repeats, or the kind of an operator.
     pub const fn x(self) -> u8
         ensures value { result ≡ x_of self }
         ensures most { result ≤ 63 }
@@ -63,29 +64,31 @@ impl Fxy {
         (self.word / 256 % 64) as u8
     }
 
-    /// Returns Y, from 0 to 255: the number of an element or sequence in its class, the count of a
-    /// replication, or the operand of an operator.
+    /// Returns Y, which is 0 to 255. Y is the number of an element within its class, the number of
+    /// a sequence within its category, the repetition count of a replication, or the operand of an
+    /// operator.
     pub const fn y(self) -> u8
         ensures { result ≡ y_of self }
     {
         (self.word % 256) as u8
     }
 
-    /// Returns whether this is a factor of delayed replications: 0 31 000, 0 31 001 or 0 31 002.
+    /// Returns whether this is a replication factor (0 31 000, 0 31 001 or 0 31 002).
     pub const fn is_factor(self) -> bool
         ensures { result ≡ is_factor self }
     {
         self.f() == 0 && self.x() == 31 && self.y() <= 2
     }
 
-    /// Returns whether this is the operator 2 06 Y, which gives the width of the next descriptor.
+    /// Returns whether this is the operator 2 06 Y, which specifies the data width of the next
+    /// descriptor.
     pub(crate) const fn gives_width(self) -> bool
         ensures { result ≡ gives_width self }
     {
         self.f() == 2 && self.x() == 6
     }
 
-    /// Returns whether a template may contain this operator of Table C with its operand.
+    /// Returns whether a template may contain this operator (Table C) with this operand.
     // rule: operators-known
     pub(crate) const fn is_legal_operator(self) -> bool
         ensures { result ≡ is_legal_operator self }
@@ -100,7 +103,8 @@ impl Fxy {
         }
     }
 
-    /// Returns X and Y as one number: the index of this descriptor among those with the same F.
+    /// Returns X and Y combined into one number, which is the index of this descriptor among all
+    /// descriptors with the same F.
     pub(crate) const fn key(self) -> usize
         ensures value { result ≡ key_of self }
         ensures most { result < 16384 }
@@ -125,9 +129,10 @@ impl Fxy {
         ]
     }
 
-    /// Parses six digits `FXXYYY`: one for F, two for X and three for Y. Returns `None` if the text
-    /// is not six digits, or if F exceeds 3, X exceeds 63 or Y exceeds 255, since these would not
-    /// fit into two, six and eight bits.
+    /// Parses a descriptor of the form `FXXYYY`, which has one digit for F, two for X and three for
+    /// Y. Returns `None` if `text` does not consist of six digits, or if F exceeds 3, X exceeds 63
+    /// or Y exceeds 255. The limits for F, X and Y are the greatest values that fit in two, six and
+    /// eight bits, respectively.
     ///
     /// ```
     /// assert_eq!(rt; Fxy::read(b"012101"), Some(Fxy::from_word(0x0c65)));
@@ -152,14 +157,14 @@ impl Fxy {
     }
 }
 
-/// Writes the six digits.
+/// Formats a descriptor as six digits, for example `012101`.
 impl fmt::Display for Fxy {
     fn fmt<W: fmt::Write>(&self, f: &mut fmt::Formatter<W>) -> fmt::Result {
         write!(f, "{}{:02}{:03}", self.f(), self.x(), self.y())
     }
 }
 
-/// Returns the value of the digit at an index of a text of digits.
+/// Returns the value of the digit at index `place`. All octets of `text` must be digits.
 fn digit_at(text: &[u8], place: usize) -> u16
     requires digits { IsTrue (list_all is_ascii_digit text.now) }
     requires inside { place < length text.now }

@@ -1,20 +1,21 @@
-//! An index that finds a descriptor by its X and Y in one step.
+//! An index that finds a descriptor by its X and Y in constant time.
 ghost use Rattle.std.specs.Prelude.{◌≡◌, ◌<◌, [], ◌∷◌, ◌++◌, length, None, IfOk, IfSome, List, ℕ};
 ghost use Rattle.bufr_tables.specs.Fxy.{place_of, IsDirectory};
 
 use std::alloc::{AllocError, Global};
 use std::marker::Model;
 
-/// The number of combinations of X and Y.
+/// The number of possible combinations of X and Y.
 pub(crate) const KEYS: usize = 16384;
 
-/// A list of keys, each of which is the 14 bits of X and Y, with an index that finds the position
-/// of a key in the list. Contracts see the list.
+/// A list of keys, with an index that finds the position of a key in the list. A key is the 14-bit
+/// number that X and Y form. Contracts treat the index as the list of its keys.
 #[derive(Drop)]
 pub(crate) struct FxyIndex {
-    /// The list, with room for all keys.
+    /// The list of keys, with enough capacity for all possible keys.
     keys: Vec<u16>,
-    /// For each key, 0 if the list does not contain it, or its position plus 1.
+    /// For each possible key, one more than the key's position in the list, or 0 if the list does
+    /// not contain the key.
     marks: Vec<u16>,
 }
 
@@ -27,7 +28,7 @@ impl Model for FxyIndex {
 }
 
 impl FxyIndex {
-    /// Creates an empty list.
+    /// Creates an index with an empty list of keys.
     pub(crate) fn new(alloc: Global) -> Result<FxyIndex, AllocError>
         ensures { IfOk result (λ d. d ≡ []) }
     {
@@ -39,7 +40,7 @@ impl FxyIndex {
     }
 
     /// Returns the position of a key in the list, counted from 0, or `None` if the list does not
-    /// contain it.
+    /// contain the key.
     #[inline(always)]
     pub(crate) fn place(&self, key: usize) -> Option<usize>
         requires { key < 16384 }
@@ -52,7 +53,7 @@ impl FxyIndex {
         }
     }
 
-    /// Appends a key. The list must not contain it yet.
+    /// Appends a key to the list. The list must not already contain the key.
     pub(crate) fn add(&mut self, key: usize)
         requires small { key < 16384 }
         requires absent { place_of self.old key ≡ None }

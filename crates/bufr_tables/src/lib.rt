@@ -1,8 +1,8 @@
-//! The tables of FM 94 BUFR: descriptors, and Tables B and D read from CSV.
+//! This crate contains the descriptors of FM 94 BUFR and reads Tables B and D from CSV files.
 //!
 //! A descriptor ([`Fxy`]) is looked up in [`TableB`] if it is an element, or in [`TableD`] if it is
-//! a sequence. A descriptor list is expanded to a [`Template`], the tree that describes the data of
-//! a message.
+//! a sequence. A descriptor list is expanded into a [`Template`], the tree that describes the data
+//! of a message.
 #![tactic(auto)]
 
 mod expand;

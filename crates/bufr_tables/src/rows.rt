@@ -1,4 +1,4 @@
-//! Reading the CSV records of a table, and the whole numbers in their fields.
+//! Reading the CSV records of a table and parsing the integers in their fields.
 ghost use Rattle.std.specs.Prelude.{◌≡◌, ◌≢◌, ◌-◌, ◌^◌, ◌<◌, ◌==◌, IfOk, IfErr, false, min, option_map, slice_index};
 ghost use Rattle.bufr_tables.specs.Records.{i64_of, natural_of, GivesNext, IsBetween, IsOpened, field_texts, field_of, records_of, has_header};
 ghost use Rattle.std.specs.Str.{bytes_eq};
@@ -11,18 +11,19 @@ use crate::fxy::are_digits;
 use csv::{ByteRecord, Reader, ReaderBuilder};
 use std::alloc::Global;
 
-/// A reader of the records of a text, which counts them from 1.
+/// A reader for CSV records. Records are numbered from 1.
 #[derive(Drop)]
 pub(crate) struct RecordReader<'a> {
     reader: Reader<&'a [u8]>,
-    /// The record that was read last.
+    /// The most recently read record.
     pub(crate) row: ByteRecord,
     /// The number of records read so far.
     pub(crate) number: u64,
 }
 
 impl<'a> RecordReader<'a> {
-    /// Creates a reader and reads the header: the first record must have exactly these fields.
+    /// Creates a reader and reads the header. The first record must consist of exactly the fields
+    /// in `header`.
     pub(crate) fn open(
         alloc: Global,
         text: &'a [u8],
@@ -60,14 +61,15 @@ impl<'a> RecordReader<'a> {
                 self.number += 1;
                 Ok(true)
             }
-            // This error can only mean that memory ran out: reading from a slice does not fail, and
-            // records may have any number of fields.
+            // The only possible cause of an error here is a failed allocation: reading from a slice
+            // never fails, and records may have any number of fields.
             Err(_) => Err(TableFault::Memory),
         }
     }
 }
 
-/// Returns a field of a record, counted from 0. It is empty if the record has no such field.
+/// Returns the field at index `place`. Indices are counted from 0. The result is empty if the
+/// record has no such field.
 pub(crate) fn field(fields: &ByteRecord, place: usize) -> &[u8]
     ensures { result.now ≡ field_of (fields_of fields.now) place }
 {
@@ -89,8 +91,8 @@ fn has_fields(fields: &ByteRecord, names: &[&[u8]]) -> bool
     true
 }
 
-/// Parses an optional `-` and one or more digits. Returns `None` if the text does not have this
-/// form or the number does not fit into an `i64`.
+/// Parses an integer, which consists of an optional `-` followed by one or more digits. Returns
+/// `None` if `text` is not an integer or if the integer does not fit in an `i64`.
 #[tactic(auto, unfolding(crate::specs::Records::i64_of, crate::specs::Records::integer_of))]
 pub(crate) fn integer(text: &[u8]) -> Option<i64>
     ensures { result ≡ i64_of text.now }
@@ -103,17 +105,17 @@ pub(crate) fn integer(text: &[u8]) -> Option<i64>
     0i64.checked_add_unsigned(size)
 }
 
-/// Returns whether a text begins with `-`. (With a call of `strip_prefix` here, the compiler no
-/// longer inlined `strip_prefix` where lines of dumps are read, and encoding reports took 3 % more
-/// instructions.)
+/// Returns whether `text` begins with `-`. (This function does not call `strip_prefix`, because the
+/// compiler would then no longer inline `strip_prefix` in the code that reads the lines of dumps,
+/// and encoding reports would take 3% more instructions.)
 fn is_negative(text: &[u8]) -> bool
     ensures { result ≡ (slice_index text.now 0 == 45) }
 {
     !text.is_empty() && text[0] == b'-'
 }
 
-/// Parses one or more digits. The result is capped at `u64::MAX`. Returns `None` if the text does
-/// not have this form.
+/// Parses an unsigned integer, which consists of one or more digits. The result is capped at
+/// `u64::MAX`. Returns `None` if `digits` is not an unsigned integer.
 #[tactic(auto, unfolding(crate::specs::Records::natural_of))]
 pub(crate) fn magnitude(digits: &[u8]) -> Option<u64>
     ensures { result ≡ option_map (λ n. min n (2 ^ 64 - 1)) (natural_of digits.now) }

@@ -1,5 +1,5 @@
-//! Table B, which defines the elements, read from CSV; and the kind of an element, which its unit
-//! determines.
+//! Table B, which defines the elements and is read from a CSV file. The unit of an element
+//! determines the kind of its values.
 ghost use Rattle.std.specs.Prelude.{◌≡◌, ◌≢◌, ◌<◌, [], ◌∷◌, ◌++◌, None, length, OnOk, IfErr, IfOk, IfSome, option_map, Ok, Err};
 ghost use Rattle.std.specs.List.{list_all};
 ghost use Rattle.csv.specs.Records.{fields_of};
@@ -16,11 +16,11 @@ use std::alloc::{AllocError, Global};
 use std::fmt;
 use std::marker::Model;
 
-/// The fields of the header.
+/// The fields that the header must contain.
 const HEADER: [&[u8]; 6] = [b"fxy", b"name", b"unit", b"scale", b"reference", b"width"];
 
-/// An element as the table stores it. Its octets, `FXXYYY   # NAME [UNIT]` and a line feed, extend
-/// from `start` to `end`. Its name ends at `middle`.
+/// An element as stored in the table. The octets at the indices `start..end` are `FXXYYY   # NAME
+/// [UNIT]` and a line feed. The name ends just before index `middle`.
 #[derive(Clone, Copy)]
 struct Stored {
     fxy: Fxy,
@@ -35,12 +35,13 @@ struct Stored {
 
 /// The row of an element in Table B, borrowed from the table.
 ///
-/// The entries that [`TableB::get`] returns are within the limits given for each method. The
-/// factors of delayed replications (031000, 031001 and 031002) are not text; they have 1, 8 and 16
-/// bits, scale 0 and reference value 0. Two entries are equal if their rows are equal.
+/// Every entry that [`TableB::get`] returns is within the limits that are stated for the methods
+/// below. The replication factors 031000, 031001 and 031002 are not text, are 1, 8 and 16 bits
+/// wide, respectively, and have scale 0 and reference value 0. Two entries are equal if their rows
+/// are equal.
 #[derive(Clone, Copy)]
 pub struct Entry<'a> {
-    /// The octets of all rows.
+    /// The octets of all rows in the table.
     octets: &'a [u8],
     stored: &'a Stored,
     ghost kept: { IsRowKept octets.now stored.now },
@@ -51,7 +52,7 @@ impl<'a> Entry<'a> {
     ghost use Rattle.bufr_tables.specs.Entry.{row_of_entry};
     ghost use Rattle.bufr_tables.specs.TableB.{row_comment, row_line_start};
 
-    /// Returns the descriptor of the element.
+    /// Returns the element's descriptor.
     #[inline(always)]
     pub fn fxy(&self) -> Fxy
         ensures { result ≡ (row_of_entry self.now).fxy }
@@ -59,8 +60,8 @@ impl<'a> Entry<'a> {
         self.stored.fxy
     }
 
-    /// Returns the name: at most 512 octets, none of which is an ASCII control character. It need
-    /// not be valid UTF-8.
+    /// Returns the element's name. The name has at most 512 octets and contains no ASCII control
+    /// characters. The name is not necessarily valid UTF-8.
     #[inline(always)]
     pub fn name(&self) -> &'a [u8]
         ensures { result.now ≡ (row_of_entry self.now).name }
@@ -69,7 +70,8 @@ impl<'a> Entry<'a> {
         &self.octets[stored.start + 11..stored.middle]
     }
 
-    /// Returns the unit: at most 512 octets, none of which is an ASCII control character.
+    /// Returns the element's unit. The unit has at most 512 octets and contains no ASCII control
+    /// characters.
     #[inline(always)]
     pub fn unit(&self) -> &'a [u8]
         ensures { result.now ≡ (row_of_entry self.now).unit }
@@ -78,7 +80,8 @@ impl<'a> Entry<'a> {
         &self.octets[stored.middle + 2..stored.end - 2]
     }
 
-    /// Returns the start of an item's line: the six digits of the descriptor and a space.
+    /// Returns the start of the line that represents an item in a dump: the six digits of the
+    /// descriptor and a space.
     #[inline(always)]
     pub fn line_start(&self) -> &'a [u8]
         ensures { result.now ≡ row_line_start (row_of_entry self.now) }
@@ -87,7 +90,8 @@ impl<'a> Entry<'a> {
         &self.octets[start..start + 7]
     }
 
-    /// Returns the comment at the end of an item's line: `  # NAME [UNIT]` and a line feed.
+    /// Returns the comment at the end of the line that represents an item in a dump:
+    /// `  # NAME [UNIT]` and a line feed.
     #[inline(always)]
     pub fn comment(&self) -> &'a [u8]
         ensures { result.now ≡ row_comment (row_of_entry self.now) }
@@ -96,9 +100,10 @@ impl<'a> Entry<'a> {
         &self.octets[stored.start + 7..stored.end]
     }
 
-    /// Returns the octets of the table from the start of an item's line on, and the length of its
-    /// comment, which begins at index 7. The octets may extend past the comment, so that callers
-    /// can copy blocks of a fixed size from them.
+    /// Returns the octets of the table, beginning with the [`Entry::line_start`] of this element,
+    /// and the length of the element's [`Entry::comment`]. The comment begins at index 7 of the
+    /// returned octets. The returned octets may extend past the comment, so that callers can copy
+    /// blocks of a fixed size.
     #[inline(always)]
     pub fn line_on(&self) -> (&'a [u8], usize)
         ensures within { 7 + result.1 ≤ length result.0.now }
@@ -113,7 +118,7 @@ impl<'a> Entry<'a> {
         )
     }
 
-    /// Returns the kind of the values, which the unit determines.
+    /// Returns the kind of the element's values, as determined by the unit.
     #[inline(always)]
     pub fn kind(&self) -> Kind
         ensures { result ≡ (row_of_entry self.now).kind }
@@ -121,7 +126,8 @@ impl<'a> Entry<'a> {
         self.stored.kind
     }
 
-    /// Returns the scale, from -127 to 127. A value is (raw + reference) / 10^scale.
+    /// Returns the scale, which is -127 to 127. The value of an item is
+    /// `(raw + reference) / 10^scale`, where `raw` is the number in the data.
     #[inline(always)]
     pub fn scale(&self) -> i16
         ensures { result ≡ (row_of_entry self.now).scale }
@@ -137,7 +143,8 @@ impl<'a> Entry<'a> {
         self.stored.reference
     }
 
-    /// Returns the width in bits: 1 to 63, or for text 8 to 2,040 in whole octets.
+    /// Returns the data width in bits. Text is 8 to 2,040 bits wide, in multiples of 8. All other
+    /// elements are 1 to 63 bits wide.
     #[inline(always)]
     pub fn width(&self) -> u32
         ensures { result ≡ (row_of_entry self.now).width }
@@ -186,8 +193,8 @@ impl<'a> fmt::Debug for Entry<'a> {
     }
 }
 
-/// Returns the text if it can be a name or a unit: at most 512 octets without ASCII control
-/// characters.
+/// Returns `text` if it is valid as a name or a unit, that is, if it has at most 512 octets and
+/// contains no ASCII control characters. Otherwise, returns `None`.
 #[tactic(auto, unfolding(crate::specs::TableB::plain_of))]
 fn read_plain(text: &[u8]) -> Option<&[u8]>
     ensures { option_map (λ s. s.now) result ≡ plain_of text.now }
@@ -204,8 +211,8 @@ fn is_printable_text(text: &[u8]) -> bool
     text.iter().all(|octet| *octet >= 32 && *octet != 127)
 }
 
-/// Parses the width in bits of an element of this kind. Returns `None` if the kind does not allow
-/// it.
+/// Parses the data width, in bits, of an element. Returns `None` if `text` is not a number or if
+/// the width is invalid for an element of this kind.
 #[tactic(auto, unfolding(crate::specs::TableB::width_of))]
 fn read_width(kind: Kind, text: &[u8]) -> Option<u32>
     ensures { result ≡ width_of kind text.now }
@@ -225,7 +232,7 @@ fn read_width(kind: Kind, text: &[u8]) -> Option<u32>
     Some(width)
 }
 
-/// A row of the table, parsed from a record.
+/// A row of Table B, parsed from a record.
 #[derive(Clone, Copy)]
 struct ParsedRow<'a> {
     fxy: Fxy,
@@ -237,8 +244,8 @@ struct ParsedRow<'a> {
     width: u32,
 }
 
-/// Returns whether a row meets the additional conditions for factors of delayed replications. For
-/// all other elements, the result is `true`.
+/// Returns whether a row meets the additional conditions for replication factors. For elements that
+/// are not replication factors, the result is `true`.
 fn is_valid_factor(row: &ParsedRow) -> bool
     ensures { result ≡ is_valid_factor (factor_width row.now.fxy) (row_parsed row.now) }
 {
@@ -253,7 +260,7 @@ fn is_valid_factor(row: &ParsedRow) -> bool
     row.width == width && row.scale == 0 && row.reference == 0 && row.kind != Kind::Character
 }
 
-/// Parses a record. Returns `None` if it is not a valid row.
+/// Parses a record as a row of Table B. Returns `None` if the record is not a valid row.
 #[tactic(auto, unfolding(crate::specs::TableB::row_of, crate::specs::TableB::element_of, crate::specs::TableB::scale_of))]
 // rule: fault-41-of-table-b
 fn parse_row(fields: &ByteRecord) -> Option<ParsedRow<'_>>
@@ -288,9 +295,9 @@ fn parse_row(fields: &ByteRecord) -> Option<ParsedRow<'_>>
     Some(row)
 }
 
-/// Table B: the elements, which can be looked up by their descriptors.
+/// Table B, in which an element is looked up by its descriptor.
 ///
-/// Contracts see the table as the list of its rows, in the order of the file.
+/// Contracts treat the table as the list of its rows, in file order.
 ///
 /// ```
 /// let text = b"fxy,name,unit,scale,reference,width\n012101,AIR TEMPERATURE,K,2,0,16\n";
@@ -300,10 +307,10 @@ fn parse_row(fields: &ByteRecord) -> Option<ParsedRow<'_>>
 /// ```
 #[derive(Drop)]
 pub struct TableB {
-    /// The octets of the elements, one after another.
+    /// The octets of all elements, stored contiguously.
     octets: Vec<u8>,
     stored: Vec<Stored>,
-    /// The descriptors of the elements in `stored`, as an index.
+    /// An index that finds an element in `stored` by its descriptor.
     directory: FxyIndex,
 }
 
@@ -323,19 +330,20 @@ impl Model for TableB {
 impl TableB {
     ghost use Rattle.bufr_tables.specs.Entry.{row_of_entry};
 
-    /// Reads Table B from the octets of a CSV file.
+    /// Reads Table B from the contents of a CSV file.
     ///
     /// The header must be `fxy,name,unit,scale,reference,width`. Each further record defines one
-    /// element. `fxy` is its descriptor, as six digits. Name and unit have at most 512 octets and
-    /// no ASCII control characters. The other fields are whole numbers within the limits that
-    /// [`Entry`] states. The factors of delayed replications (031000, 031001 and 031002) must not
-    /// be text, and must have 1, 8 and 16 bits, scale 0 and reference value 0.
+    /// element. `fxy` is the element's descriptor, written as six digits. The name and the unit may
+    /// have at most 512 octets each and must not contain ASCII control characters. The other fields
+    /// are integers within the limits that are stated for [`Entry`]. The replication factors
+    /// 031000, 031001 and 031002 must not be text, must be 1, 8 and 16 bits wide, respectively, and
+    /// must have scale 0 and reference value 0.
     ///
     /// # Errors
     ///
-    /// [`TableFault::Header`] if the first record is not the header. The first invalid record, if
-    /// there is one, determines the fault: the first of [`TableFault::Csv`], [`TableFault::Row`]
-    /// and [`TableFault::Duplicate`] that applies to it. [`TableFault::Memory`] if memory cannot be
+    /// [`TableFault::Header`] if the first record is not the header. If a later record is invalid,
+    /// the first of [`TableFault::Csv`], [`TableFault::Row`] and [`TableFault::Duplicate`] that
+    /// applies to the first such record is returned. [`TableFault::Memory`] if memory cannot be
     /// allocated.
     // rule: first-record-decides
     pub fn read(alloc: Global, text: &[u8]) -> Result<TableB, TableFault>
@@ -354,8 +362,8 @@ impl TableB {
         Ok(table)
     }
 
-    /// Returns the entry of an element, or `None` if the table does not contain it. The entry is
-    /// within the limits that [`Entry`] states.
+    /// Returns an element's entry, or `None` if the table does not contain the element. The entry
+    /// is within the limits that are stated for [`Entry`].
     #[inline(always)]
     pub fn get(&self, fxy: Fxy) -> Option<Entry<'_>>
         ensures value { option_map row_of_entry result ≡ entry_of self.now fxy }
@@ -371,7 +379,7 @@ impl TableB {
         Some(Entry { octets, stored })
     }
 
-    /// Adds the element of record `number`.
+    /// Parses record `number` and adds the resulting element to the table.
     #[tactic(auto, unfolding(crate::specs::TableB::with_record_b))]
     // rule: fault-42, fault-45, order-in-a-record
     fn add(&mut self, number: u64, fields: &ByteRecord) -> Result<(), TableFault>
@@ -406,7 +414,7 @@ impl TableB {
     }
 }
 
-/// Appends the octets of a row to a block of octets, and returns the element as it is stored there.
+/// Appends the octets of a row to `octets`, and returns the element as stored in the table.
 fn store(octets: &mut Vec<u8>, row: &ParsedRow) -> Result<Stored, AllocError>
     ensures grows { ExtendsBlock octets.old.items octets.new.items }
     ensures ok { IfOk result (λ s. IsStored octets.new.items row.now s) }
@@ -433,19 +441,19 @@ fn store(octets: &mut Vec<u8>, row: &ParsedRow) -> Result<Stored, AllocError>
     })
 }
 
-/// The kind of an element's values, which its unit determines.
+/// The kind of an element's values, as determined by the unit.
 #[derive(Clone, Copy, Debug, PartialEq, Eq)]
 pub enum Kind {
-    /// Text: the unit is `CCITT IA5`.
+    /// Text. The element's unit is `CCITT IA5`.
     Character,
-    /// Entries of a code table, a common code table or a flag table.
+    /// Values that are defined by a code table, a common code table or a flag table.
     Coded,
-    /// Quantities in the unit.
+    /// Quantities, measured in the element's unit.
     Numeric,
 }
 
 impl Kind {
-    /// Returns the kind of elements with this unit. ASCII case is ignored.
+    /// Returns the kind of an element's values, given the element's unit. ASCII case is ignored.
     #[tactic(auto, unfolding(crate::specs::TableB::kind_of))]
     // rule: kind-by-unit
     pub(crate) fn of(unit: &[u8]) -> Kind
@@ -464,7 +472,7 @@ impl Kind {
     }
 }
 
-/// Returns whether a text begins with these words. ASCII case is ignored.
+/// Returns whether `text` begins with `words`. ASCII case is ignored.
 #[tactic(auto, unfolding(crate::specs::TableB::begins_with))]
 fn starts_with(text: &[u8], words: &[u8]) -> bool
     ensures { result ≡ begins_with text.now words.now }

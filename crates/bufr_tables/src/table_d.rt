@@ -1,5 +1,5 @@
-//! Table D, which defines the sequences, read from CSV. It is rejected if a sequence contains
-//! itself, directly or through other sequences.
+//! Table D, which defines the sequences and is read from a CSV file. The table is rejected if a
+//! sequence contains itself, directly or through other sequences.
 ghost use Rattle.std.specs.Prelude.{◌≡◌, ◌≢◌, ◌≤◌, ◌<◌, [], ◌∷◌, ◌++◌, None, length, slice_index, OnOk, IfErr, IfOk, IfSome, is_some, option_map, Ok, Err, IsTrue, MatchOption, ◌↔◌, List, ℕ};
 ghost use Rattle.csv.specs.Records.{fields_of};
 ghost use Rattle.bufr_tables.specs.declared.fault.TableFault.TheVariants.{Memory};
@@ -14,14 +14,14 @@ use csv::ByteRecord;
 use std::alloc::{AllocError, Global};
 use std::marker::Model;
 
-/// The fields of the header.
+/// The fields that the header must contain.
 const HEADER: [&[u8]; 2] = [b"fxy", b"member"];
 
-/// The greatest number of rows in the table.
+/// The maximum number of rows in Table D.
 const ROWS: u64 = 65536;
 
-/// Parses a record. Returns the sequence and its member, or `None` if the record is not a valid
-/// row.
+/// Parses a record as a row of Table D. Returns the sequence and one of its members, or `None` if
+/// the record is not a valid row.
 #[tactic(auto, unfolding(crate::specs::TableD::member_of, crate::specs::TableD::sequence_of))]
 // rule: fault-41-of-table-d
 fn row(fields: &ByteRecord) -> Option<(Fxy, Fxy)>
@@ -37,7 +37,7 @@ fn row(fields: &ByteRecord) -> Option<(Fxy, Fxy)>
     Some((sequence, member))
 }
 
-/// A sequence, whose members extend from `start` to `end` in the members of all sequences.
+/// A sequence and the index range `start..end` of its members in the list of all members.
 #[derive(Clone, Copy)]
 struct MemberRange {
     fxy: Fxy,
@@ -45,9 +45,9 @@ struct MemberRange {
     end: usize,
 }
 
-/// Table D: the sequences, which can be looked up by their descriptors.
+/// Table D, in which a sequence is looked up by its descriptor.
 ///
-/// Contracts see the table as the list of its sequences, in the order of the file.
+/// Contracts treat the table as the list of its sequences, in file order.
 ///
 /// ```
 /// let text = b"fxy,member\n360192,001001\n360192,012101\n";
@@ -57,10 +57,10 @@ struct MemberRange {
 /// ```
 #[derive(Drop)]
 pub struct TableD {
-    /// The members of all sequences, one sequence after another.
+    /// The members of all sequences. The members of each sequence are contiguous.
     members: Vec<Fxy>,
     runs: Vec<MemberRange>,
-    /// X and Y of the sequences in `runs`, as an index.
+    /// An index that finds a sequence in `runs` by the X and Y of its descriptor.
     directory: FxyIndex,
 }
 
@@ -73,19 +73,19 @@ impl Model for TableD {
 }
 
 impl TableD {
-    /// Reads Table D from the octets of a CSV file.
+    /// Reads Table D from the contents of a CSV file.
     ///
-    /// The header must be `fxy,member`. Each further record is one member of a sequence: `fxy` is
-    /// the descriptor of the sequence, and `member` is any descriptor, each as six digits. The rows
-    /// of a sequence must be contiguous, in the order of its members. There may be at most 65,536
-    /// rows.
+    /// The header must be `fxy,member`. Each further record defines one member of a sequence. `fxy`
+    /// is the descriptor of the sequence, and `member` is the member, which may be any descriptor.
+    /// Descriptors are written as six digits. The rows of each sequence must be contiguous and in
+    /// the order of its members. The table may have at most 65,536 rows.
     ///
     /// # Errors
     ///
-    /// [`TableFault::Header`] if the first record is not the header. The first invalid record, if
-    /// there is one, determines the fault: the first of [`TableFault::Csv`], [`TableFault::Row`],
-    /// [`TableFault::Duplicate`] and [`TableFault::TableSize`] that applies to it.
-    /// [`TableFault::Cycle`] if all records are valid, but a sequence contains itself, directly or
+    /// [`TableFault::Header`] if the first record is not the header. If a later record is invalid,
+    /// the first of [`TableFault::Csv`], [`TableFault::Row`], [`TableFault::Duplicate`] and
+    /// [`TableFault::TableSize`] that applies to the first such record is returned.
+    /// [`TableFault::Cycle`] if all records are valid but a sequence contains itself, directly or
     /// through other sequences. [`TableFault::Memory`] if memory cannot be allocated.
     // rule: first-record-decides, fault-43-last
     pub fn read(alloc: Global, text: &[u8]) -> Result<TableD, TableFault>
@@ -107,7 +107,8 @@ impl TableD {
         }
     }
 
-    /// Returns the members of a sequence in order, or `None` if the table does not contain it.
+    /// Returns the members of a sequence in order, or `None` if the table does not contain the
+    /// sequence.
     pub fn members(&self, fxy: Fxy) -> Option<&[Fxy]>
         ensures { option_map (λ s. s.now) result ≡ members_of self.now fxy }
     {
@@ -138,7 +139,8 @@ impl TableD {
         self.runs.len()
     }
 
-    /// Returns the descriptor of a sequence by its position in the file, counted from 0.
+    /// Returns the descriptor of the sequence at index `place`. Sequences are counted from 0, in
+    /// file order.
     pub(crate) fn sequence_at(&self, place: usize) -> Fxy
         requires { place < length self.now }
         ensures { result ≡ slice_index (fxys_of self.now) place }
@@ -146,7 +148,7 @@ impl TableD {
         self.runs[place].fxy
     }
 
-    /// Adds the row of record `number`.
+    /// Parses record `number` and adds the resulting row to the table.
     #[tactic(auto, unfolding(crate::specs::TableD::with_record_d, crate::specs::TableD::added))]
     // rule: fault-42, fault-44, fault-45, order-in-a-record
     fn add(&mut self, number: u64, fields: &ByteRecord) -> Result<(), TableFault>
@@ -217,11 +219,12 @@ impl TableD {
     }
 }
 
-/// The number of descriptors.
+/// The number of possible descriptors.
 const WORDS: usize = 65536;
 
 /// Returns the first sequence that contains itself, directly or through other sequences, or `None`
-/// if there is none. Thanks to the ranks, no other sequence has to be searched.
+/// if no sequence contains itself. The ranks show that no earlier sequence contains itself, so only
+/// the returned sequence has to be searched for itself.
 // rule: fault-43
 pub(crate) fn first_cycle(alloc: Global, table: &TableD) -> Result<Option<Fxy>, AllocError>
     ensures { IfOk result (λ o. MatchOption o ((fxy : ℕ) → ¬ ReachesItself table.now fxy)
@@ -241,7 +244,8 @@ pub(crate) fn first_cycle(alloc: Global, table: &TableD) -> Result<Option<Fxy>, 
     Ok(None)
 }
 
-/// Returns whether no sequence has a lower rank than one of its members.
+/// Returns whether no member of a sequence has a greater rank than the sequence itself. Members
+/// that are not sequences are ignored.
 fn falls(table: &TableD, ranks: &[u32]) -> bool
     requires { length ranks.now ≡ 16384 }
     ensures { IsTrue result → Falls table.now ranks.now }
@@ -256,8 +260,8 @@ fn falls(table: &TableD, ranks: &[u32]) -> bool
     true
 }
 
-/// Returns whether `limit` is above the rank of each member of a sequence that is itself a
-/// sequence.
+/// Returns whether all members of `sequence` have ranks less than `limit`. Members that are not
+/// sequences are ignored.
 fn is_above(table: &TableD, ranks: &[u32], sequence: Fxy, limit: u32) -> bool
     requires { length ranks.now ≡ 16384 }
     ensures { IsTrue result → IsAbove table.now ranks.now sequence limit }
@@ -285,8 +289,8 @@ fn reaches_itself(alloc: Global, table: &TableD, sequence: Fxy) -> Result<bool, 
     Ok(seen[usize::from(sequence.word())])
 }
 
-/// Appends those members of a sequence to the queue that are sequences and were not seen before,
-/// and marks them as seen.
+/// Appends to `queue` the members of `sequence` that are sequences themselves and have not been
+/// seen before. Marks the appended members as seen.
 fn visit(
     table: &TableD,
     sequence: Fxy,
@@ -309,22 +313,24 @@ fn visit(
     Ok(())
 }
 
-/// Returns a rank for each sequence of the table, at the index given by X and Y. A member has the
-/// same rank as its sequence if it leads back to it, and a lower rank otherwise. Until its rank is
-/// known, a sequence has a mark, which is above all ranks.
+/// Computes a rank for each sequence in the table, and returns the ranks in a vector that is
+/// indexed by the keys of the descriptors (X and Y combined). A member has the same rank as the
+/// sequence that contains it if that sequence can be reached from the member. Otherwise, the member
+/// has a lower rank. During the computation, a sequence without a rank has a mark instead, which is
+/// greater than all ranks.
 fn ranks_of(alloc: Global, table: &TableD) -> Result<Vec<u32>, AllocError>
     ensures { IfOk result (λ v. length v.items ≡ 16384) }
 {
     let mut ranks = vec![in alloc; 0u32; KEYS]?;
-    // The stack of the depth-first search. Each sequence is pushed at the start, and again to be
-    // completed after its members; each member is pushed once. This makes fewer than 131,072
-    // entries.
+    // The stack of the depth-first search. Each sequence is pushed once at the start and once more
+    // to be completed after its members. Each member is pushed once. In total, there are fewer than
+    // 131,072 entries.
     let mut left = Vec::new(alloc);
     for place in 0..table.count() {
         left.push((table.sequence_at(place), false))?;
     }
-    // Sequences that were completed but have no rank yet. Their marks are the greatest that their
-    // members lead to.
+    // Sequences that have been completed but have no rank yet. The mark of a sequence is the
+    // greatest among the sequence's own mark and the marks of its members.
     let mut marked = Vec::new(alloc);
     let mut rank = 0u32;
     let mut mark = u32::MAX;
@@ -359,7 +365,8 @@ fn ranks_of(alloc: Global, table: &TableD) -> Result<Vec<u32>, AllocError>
         if most > own {
             continue;
         }
-        // This sequence and those that were marked after it lead to one another.
+        // This sequence and the unranked sequences that were marked after it contain one another,
+        // so all of these sequences get the same rank.
         rank = rank.saturating_add(1);
         for _ in 0..marked.len() {
             let Some(last) = marked.pop() else {

@@ -1,4 +1,4 @@
-//! Templates: the trees to which descriptor lists expand, flattened to cells.
+//! A descriptor list expands into a tree, and a template stores this tree as a flat list of cells.
 ghost use Rattle.std.specs.Prelude.{◌≡◌, ◌≤◌, length};
 ghost use Rattle.bufr_tables.specs.Tree.{places as places_of, depth as depth_of, Tree};
 ghost use Rattle.bufr_tables.specs.Cells.{AreCellsOf, tree_code, trees_of_cells, IsTemplate};
@@ -6,38 +6,40 @@ ghost use Rattle.bufr_tables.specs.Cells.{AreCellsOf, tree_code, trees_of_cells,
 use crate::fxy::Fxy;
 use std::marker::Model;
 
-/// An entry in the flat list that stores a template. A walk processes one cell per turn.
+/// An entry in the flat list that stores a template. A walk processes one cell per step.
 ///
-/// The cells of a group are `Fixed`, or `Delayed` and `Factor`; then those of its body; then
-/// `PassEnd`. The last cell of a template is `Finish`. A place is the index of a cell, counted from
-/// 0.
+/// A group begins with `Fixed`, or with `Delayed` and `Factor`, continues with the cells of its
+/// body, and ends with `PassEnd`. The last cell of a template is `Finish`. A place is the index of
+/// a cell, counted from 0.
 #[derive(Clone, Copy, Debug, PartialEq, Eq)]
 pub enum Cell {
-    /// An element of Table B, or the local descriptor after 2 06 Y, which need not be in Table B.
+    /// An element of Table B, or a local descriptor after 2 06 Y. Table B need not contain the
+    /// local descriptor.
     Element(Fxy),
-    /// An operator of Table C, with its operand.
+    /// An operator of Table C with its operand.
     Operator(Fxy),
-    /// The start of a group with a fixed number of passes, 1 to 255, and the place after the
-    /// group's `PassEnd`.
+    /// The start of a group with a fixed number of passes. The fields are the number of passes,
+    /// which is 1 to 255, and the place after the group's `PassEnd`.
     Fixed(u8, u32),
-    /// The start of a group with as many passes as the value of its factor, and the place after the
-    /// group's `PassEnd`.
+    /// The start of a group whose factor specifies the number of passes. The field is the place
+    /// after the group's `PassEnd`.
     Delayed(u32),
-    /// The factor of the group that begins with the `Delayed` before it: 0 31 000, 0 31 001 or
-    /// 0 31 002.
+    /// The factor (0 31 000, 0 31 001 or 0 31 002) of a group that begins with `Delayed`. This cell
+    /// directly follows `Delayed`.
     Factor(Fxy),
-    /// The end of a pass of the innermost open group.
+    /// The end of a pass through the innermost open group.
     PassEnd,
     /// The end of the template.
     Finish,
 }
 
-/// A template: the tree of elements, operators and groups to which a descriptor list expands, with
-/// sequences replaced by their members (WMO-No. 306, Volume I.2, FM 94: section 3, Table D). It is
-/// stored as a flat list of cells. Contracts see it as the tree.
+/// A template is the tree of elements, operators and groups into which a descriptor list expands.
+/// Sequences are replaced by their members (WMO-No. 306, Volume I.2, FM 94: section 3, Table D).
+/// The tree is stored as a flat list of cells. Contracts treat a template as the tree itself.
 ///
-/// At least one node in the body of each group, and at least one in the whole template, takes bits
-/// of the data, so that no pass of a group is free.
+/// At least one node in the body of each group occupies data bits, so every pass through a group
+/// consumes data bits. The template as a whole also contains at least one node that occupies data
+/// bits.
 #[derive(Debug, Drop)]
 pub struct Template {
     pub(crate) cells: Vec<Cell>,
@@ -55,10 +57,9 @@ impl Model for Template {
 }
 
 impl Template {
-    /// Returns the number of places, from 2 to 65,535. The end of the template takes one place, and
-    /// so does each element and operator. In addition to its body, a group takes two places if its
-    /// count is fixed, or three if it is delayed, one of which is for its factor. This does not
-    /// allocate.
+    /// Returns the number of places in the template, which is 2 to 65,535. Each element, each
+    /// operator and the end of the template takes one place. In addition to the places of its body,
+    /// a group takes two places, or three if it has a factor. This function does not allocate.
     pub fn places(&self) -> u32
         ensures value { result ≡ places_of self.now }
         ensures most { result ≤ 65535 }
@@ -66,8 +67,8 @@ impl Template {
         self.cells.len() as u32
     }
 
-    /// Returns the greatest number of groups that are open at one place, from 0 to 32. This does
-    /// not allocate.
+    /// Returns the maximum nesting depth of groups, which is 0 to 32. This function does not
+    /// allocate.
     pub fn depth(&self) -> u32
         ensures value { result ≡ depth_of self.now }
         ensures most { result ≤ 32 }
@@ -75,10 +76,10 @@ impl Template {
         self.depth
     }
 
-    /// Returns the cells in the order of the data, as many as [`Template::places`] returns. The
-    /// cells of a group are [`Cell::Fixed`], or [`Cell::Delayed`] and [`Cell::Factor`]; then those
-    /// of its body; then [`Cell::PassEnd`]. The last cell is [`Cell::Finish`]. This does not
-    /// allocate.
+    /// Returns all cells of the template in the order of the data. The number of cells is
+    /// [`Template::places`]. A group begins with [`Cell::Fixed`], or with [`Cell::Delayed`] and
+    /// [`Cell::Factor`], continues with the cells of its body, and ends with [`Cell::PassEnd`]. The
+    /// last cell is [`Cell::Finish`]. This function does not allocate.
     pub fn cells(&self) -> &[Cell]
         ensures flattened { AreCellsOf result.now self.now }
         ensures count { length result.now ≡ places_of self.now }

@@ -1,5 +1,5 @@
--- Messages that are accepted, canonical or not: what the laws on messages that are encoded again
--- ask for.
+-- Worked examples of accepted messages, for the laws about messages that are encoded again. Some of
+-- these messages are canonical.
 use Rattle.std.proofs.Common.{◌≡◌, ◌∙◌, ℕ, zero, suc, ◌<◌, false, true, List, [], ◌∷◌, ◌++◌, drop, length, None, Ok, Err, refl, ap, arith, codes, pos, ◌&&◌, ◌||◌, ◌-◌, ◌==◌, if◌then◌else◌, nat_lt, not, slice_set}
 use Rattle.std.specs.List.{All, AllByRecursion}
 use Rattle.bufr_bits.specs.Prelude.{bits_of, bits_in}
@@ -12,13 +12,13 @@ use Rattle.bufr_walk.specs.declared.spec.Role.TheVariants as role
 use Rattle.bufr_walk.specs.Prelude.{number, missing, next_item, Values, apart, together}
 use Rattle.bufr_text.specs.Prelude.{IsCanonical, IsAccepted}
 
--- each octet is small
+-- If all octets are below 256, so is the octet at each index.
 all_of : (xs : List ℕ) → AllByRecursion (λ octet. octet < 256) xs → All (λ octet. octet < 256) xs
 all_of [] small k d within = absurd (omega (arith, within))
 all_of (x ∷ xs) small zero d within = small.0
 all_of (x ∷ xs) small (suc k) d within = all_of xs small.1 k d (omega (arith, within))
 
--- a block number and a temperature
+-- a table with a block number and a temperature
 the_table : List Row
 the_table =
     record { fxy = 257; name = codes "WMO BLOCK NUMBER"; unit = codes "Numeric"; kind = kind.Numeric; scale = pos 0; reference = pos 0; width = 7 }
@@ -45,13 +45,13 @@ the_head = record {
   second = 5;
 }
 
--- a message of so many octets, from section 3 on
+-- an edition 4 message of this size, with these octets as sections 3 and 4
 message : (size : ℕ) → List ℕ → List ℕ
 message size sections = codes "BUFR" ++ 0 ∷ 0 ∷ size ∷ 4
     ∷ 0 ∷ 0 ∷ 0x16 ∷ 0 ∷ 0 ∷ 0x62 ∷ 0 ∷ 0 ∷ 0 ∷ 0 ∷ 0 ∷ 0 ∷ 0 ∷ 0x0E ∷ 0 ∷ 0x07 ∷ 0xE8 ∷ 1 ∷ 2 ∷ 3 ∷ 4 ∷ 5
     ∷ sections ++ codes "7777"
 
--- one block number, in seven bits; the eighth is this
+-- a message with a block number in the first seven bits of this payload octet
 one_block_number : (payload : ℕ) → List ℕ
 unfolding message min_section_1
 one_block_number payload = message 48 (0 ∷ 0 ∷ 9 ∷ 0 ∷ 0 ∷ 1 ∷ 0x80 ∷ 1 ∷ 1 ∷ 0 ∷ 0 ∷ 5 ∷ 0 ∷ payload ∷ [])
@@ -66,7 +66,7 @@ block_number = apart ((record {
   content = number 10;
 } ∷ []) ∷ [])
 
--- Seven bits are a reading, whatever the eighth is.
+-- The reading uses seven bits of the payload.
 block_accepted : IsAccepted the_table [] (one_block_number 0x14) (its_sections 0x14) (element 257 bare) block_number 7
 unfolding the_table the_head message one_block_number its_sections block_number sections_of section_end min_section_1 tree_of level part_of inner_of next_item bits_of bits_in
 block_accepted = record {
@@ -100,7 +100,7 @@ block_canonical = record {
   bits = (λ h. h, tt);
 }
 
--- With a bit after its data the message is accepted, and is not as an encoder writes it.
+-- If the bit after the data is 1, the message is accepted, but it is not canonical.
 -- rule: bits-left-over
 bit_after_accepted : IsAccepted the_table [] (one_block_number 0x15) (its_sections 0x15) (element 257 bare) block_number 7
 unfolding the_table the_head message one_block_number its_sections block_number sections_of section_end min_section_1 tree_of level part_of inner_of next_item bits_of bits_in
@@ -117,8 +117,8 @@ bit_after_is_not_canonical : IsCanonical (one_block_number 0x15) (its_sections 0
 unfolding its_sections the_head bits_of min_section_1
 bit_after_is_not_canonical c = let with_bit : List ℕ = 0x15 ∷ [] in let without : List ℕ = 0x14 ∷ [] in let e : with_bit ≡ without = c.least in cc
 
--- a temperature in two subsets, of which the second has none: a base of 16 bits, k = 1, and two
--- increments of one bit
+-- a temperature that is missing in the second of two subsets: a 16-bit base, k = 1, and two 1-bit
+-- increments
 two_temperatures : List ℕ
 unfolding message min_section_1
 two_temperatures = message 50 (0 ∷ 0 ∷ 9 ∷ 0 ∷ 0 ∷ 2 ∷ 0xC0 ∷ 0x0C ∷ 0x65 ∷ 0 ∷ 0 ∷ 7 ∷ 0 ∷ 0x70 ∷ 0x8F ∷ 5 ∷ [])
@@ -165,10 +165,10 @@ temperatures_canonical = record {
   bits = (bits_of (0x70 ∷ 0x8F ∷ 5 ∷ []), [], refl, refl, refl);
 }
 
--- ---- edition 3
+-- ---- Edition 3.
 
--- a block number in sections of an even number of octets: one is left over in section 3, and one is
--- after the data
+-- a block number in an edition 3 message, whose sections have an even number of octets: the last
+-- octet of section 3 is left over, and one octet comes after the data
 edition_3 : (left_over last : ℕ) → List ℕ
 edition_3 left_over last = codes "BUFR" ++ 0 ∷ 0 ∷ 46 ∷ 3
     ∷ 0 ∷ 0 ∷ 0x12 ∷ 0 ∷ 0 ∷ 0x62 ∷ 0 ∷ 0 ∷ 0 ∷ 0 ∷ 0x0E ∷ 0 ∷ 0x18 ∷ 1 ∷ 2 ∷ 3 ∷ 4 ∷ 0
@@ -206,7 +206,7 @@ sections_of_3 last = record {
   size = 46;
 }
 
--- With another octet than zero after the data, and left over in section 3, it is accepted.
+-- The message is accepted even if these two octets are not zero.
 edition_3_accepted : IsAccepted the_table [] (edition_3 1 1) (sections_of_3 1) (element 257 bare) block_number 7
 unfolding the_table edition_3 sections_of_3 block_number sections_of section_end min_section_1 tree_of level part_of inner_of next_item bits_of bits_in
 edition_3_accepted = record {
@@ -240,7 +240,8 @@ edition_3_canonical : IsCanonical (edition_3 0 0) (sections_of_3 0) block_number
 unfolding edition_3 sections_of_3 block_number bits_of bits_in min_section_1
 edition_3_canonical = record { plain = edition_3_plain; least = refl; bits = (λ h. h, tt) }
 
--- The octet that is left over in section 3 is zero, and so is the one after the data.
+-- The octet that is left over in section 3 of a plain message is zero. In a canonical message, so
+-- is the octet after the data.
 -- rule: canonical
 left_over_is_not_plain : IsPlain (edition_3 1 0) → ⊥
 unfolding edition_3 min_section_1
@@ -250,14 +251,15 @@ octet_after_is_not_canonical : IsCanonical (edition_3 0 1) (sections_of_3 1) blo
 unfolding sections_of_3 bits_of min_section_1
 octet_after_is_not_canonical c = let with_one : List ℕ = 0x14 ∷ 1 ∷ [] in let with_zero : List ℕ = 0x14 ∷ 0 ∷ [] in let e : with_one ≡ with_zero = c.least in cc
 
--- An odd section 3 is not plain.
+-- A message is not plain if its section 3 has an odd number of octets.
 odd_is_not_plain : IsPlain (slice_set (edition_3 0 0) 28 9) → ⊥
 unfolding edition_3 min_section_1
 odd_is_not_plain p = let e : suc zero ≡ zero = p.even3 refl in cc
 
--- ---- the greatest length
+-- ---- The maximum length.
 
--- Three octets state it, and so many octets for local use make a message that long.
+-- Three octets can state the maximum length. A message with 16,777,170 octets for local use has
+-- this length.
 greatest_stated : three_octets max_octets ≡ 255 ∷ 255 ∷ 255 ∷ []
 greatest_stated = refl
 
@@ -269,8 +271,9 @@ greatest_written : size_from 4 16777170 None 0 0 ≡ max_octets
 unfolding min_section_1
 greatest_written = refl
 
--- With 16,777,214 octets a message of edition 3 is refused for its odd section 3: made even, it
--- might be longer than can be stated. With one octet less, or even sections, it is not.
+-- An edition 3 message of 16,777,214 octets is rejected if its section 3 is odd, because the
+-- message with even sections might be longer than the maximum. It is not rejected if it is one
+-- octet shorter, or if its sections are even.
 -- rule: edition-3-length
 long_refused : (m : List ℕ) → edition_of m ≡ 3 → length m ≡ 16777214 → parts_if_end_matches m 26 26 35 16777210 ≡ Err Edition3Long
 long_refused m of_3 long =

@@ -1,4 +1,5 @@
--- The lines that all subsets of compressed data have alike: made once, and pushed for each.
+-- The lines that are the same in every subset of compressed data: the code formats them once, and
+-- pushes them for each subset.
 use Rattle.std.proofs.Common.{◌≡◌, ◌≤◌, ◌<◌, ◌+◌, ◌*◌, ◌-◌, ◌⊎◌, ℕ, zero, suc, List, [], ◌∷◌, ◌++◌, length, take, drop, Result, Ok, Err, Option, Some, inl, inr, refl, sym, ap, ◌∙◌, subst, arith, append_assoc, append-nil, length-append, length-take-le, get_or, add-one, Bool, true, if◌then◌else◌}
 use Rattle.std.specs.Io.KnownBytes.{Appends}
 use Rattle.std.proofs.lemmas.List.{drop_all}
@@ -58,15 +59,15 @@ module _ (p : PackedValues) (j from mid to : ℕ) (first : from ≤ mid) (last :
   pub lines-at : lines_between p j from to ≡ lines_between p j from mid ++ lines_between p j mid to
   lines-at = ap (item_lines p.table) items-at ∙ lines-parts p.table (items_between p j from mid) (items_between p j mid to)
 
--- there are none before the index that they begin at
+-- There are no lines from an index to the same index.
 pub lines-none : (p : PackedValues) (j from : ℕ) → from ≤ length p.items → lines_between p j from from ≡ []
 lines-none p j from within =
     let none : drop from (take from p.items) ≡ [] = drop_all from (take from p.items) (omega (arith, length-take-le from p.items within)) in ap (λ items. item_lines p.table (items_of_subset j items))
     none
 
--- ---- Lines that were made before are pushed as the lines of calls.
+-- ---- Pushing lines that were gathered has the effect of the calls that show their items.
 
--- the writer with a text more in its block
+-- the writer with more text in its block
 abbrev holding : LineModel → List ℕ → LineModel
 holding a text = record {
   taken = a.taken;
@@ -80,7 +81,7 @@ holding a text = record {
   sink = a.sink;
 }
 
--- what a push does where no write has failed
+-- the effect of a push if no write has failed
 moves-of : (a b : LineModel) (t : List ℕ) (q : Result Unit RunFault) → q ≡ Ok tt → PushesFrom q a t b → MovesOn a t b
 moves-of a b t (Ok x) is from = from
 moves-of a b t (Err f) is from = absurd (let no : Err f ≡ Ok tt = is in cc)
@@ -93,7 +94,7 @@ prefix-of : (old new : Option (List ℕ)) (text held : List ℕ) (r : Result Uni
 prefix-of old new text held (Ok x) is moves = moves
 prefix-of old new text held (Err f) is moves = absurd (let no : Err f ≡ Ok tt = is in cc)
 
--- a text that is pushed is pushed in parts
+-- If a text was pushed, its second part was pushed after its first part.
 pushed-after : {a b : LineModel} (s t : List ℕ) → a.status ≡ Ok tt → Pushes a (s ++ t) b → Pushes (holding a s) t b
 pushed-after {a = a} {b = b} s t ok pushes =
     let from = moves-of a b (s ++ t) a.status ok pushes.somehow.from in
@@ -103,7 +104,7 @@ pushed-after {a = a} {b = b} s t ok pushes =
       few = subst (λ l. b.whole_writes * gathered_by a.size + 2 * length b.held ≤ a.whole_writes * gathered_by a.size + 2 * length l) (sym (append_assoc a.held s t)) pushes.few;
     }
 
--- whether a write has failed, as a showing answers it
+-- the result of a showing, given the status of the writer
 abbrev answered : Result Unit RunFault → Result Unit (ShowFault RunFault)
 answered (Ok x) = Ok tt
 answered (Err f) = Err (show.Visitor f)
@@ -125,7 +126,7 @@ made-on table i (k ∷ items) a b (Err f) ok pushes is =
       made-on table k items (holding a line) b (Err f) ok (pushed-after line (item_lines table (k ∷ items)) ok pushes) is,
     )
 
--- no lines are those of no items
+-- If there is an item, its line is not empty.
 no-lines : (table : List Row) (i : Item Content) (items : List (Item Content)) → 1 ≤ length (item_lines table (i ∷ items))
 no-lines table i items =
     let line : List ℕ = item_text (view_of table i.spec i.content) in
@@ -141,14 +142,15 @@ pub made-shown : (text : List ℕ) (a b : LineModel) (r : Result Unit RunFault) 
 made-shown text a b r some ok pushes at table [] is = absurd (omega (arith, ap length is, some))
 made-shown text a b r some ok pushes at table (i ∷ items) is = made-on table i items a b r ok (retold pushes is) at
 
--- after calls that were all made no write has failed
+-- If all calls succeeded, no write has failed.
 pub shown-status : (a : LineModel) (calls : List Timed) (b : LineModel) → a.status ≡ Ok tt → Shows PushesCall a calls 0 (Ok tt) b 0 → b.status ≡ Ok tt
 shown-status a [] b ok (same, made) = subst (λ x. x.status ≡ Ok tt) (sym same) ok
 shown-status a (t ∷ calls) b ok (mid, one, more) = shown-status mid calls b (sym one.status) more
 
 -- ---- One subset, stretch by stretch.
 
--- the calls of a subset up to some item, whose stretches are left
+-- The calls for the items of a subset before `index` were made. `rest` are the stretches after
+-- these items.
 pub record SubsetSoFar (p : PackedValues) (text : List ℕ) (j : ℕ) (a b : LineModel) (at : ℕ) (rest : List Stretch) : Type 0 where
   pub index : ℕ
   pub calls : Sofar PushesCall a (range_calls p j 0 (length p.items)) b (range_calls p j index (length p.items))
@@ -198,7 +200,7 @@ next-stretch stretches i s below is = drop-cons stretches i s below ∙ ap (λ x
 
 -- ---- The lines are gathered.
 
--- where nothing is taken and no write has failed, the block holds the text
+-- If the sink has taken nothing and no write has failed, the text was appended to the block.
 pub held-grown : {a b : LineModel} {t : List ℕ} → a.taken ≡ Some [] → b.taken ≡ Some [] → a.status ≡ Ok tt → b.status ≡ Ok tt → Pushes a t b → b.held ≡ a.held ++ t
 held-grown {a = a} {b = b} {t = t} none none' ok ok' pushes =
     let from = moves-of a b t a.status ok pushes.somehow.from in
@@ -206,7 +208,7 @@ held-grown {a = a} {b = b} {t = t} none none' ok ok' pushes =
     let gains : [] ≡ moves.prefix = subst (λ z. Appends (Some []) z moves.prefix) none' (subst (λ z. Appends z b.taken moves.prefix) none moves.gains) in
     sym (moves.parts ∙ ap (λ l. l ++ b.held) (sym gains))
 
--- one more item that all subsets have alike
+-- another item whose line is the same in every subset
 pub alike-more : (p : PackedValues) (from to : ℕ) (a b c : LineModel) → 0 < p.subsets → to < length p.items → PushesAlike p from to a b → IsSameInAll p to
     → Shows PushesCall b (range_calls p 0 to (to + 1)) 0 (Ok tt) c 0 → PushesAlike p from (to + 1) a c
 alike-more p from to a b c some below h same shows =
@@ -229,7 +231,7 @@ alike-none p from a within ok = record {
   alike = λ j less. lines-none p j from within ∙ sym (lines-none p 0 from within);
 }
 
--- what was gathered so far: stretches up to an item and the end of what is held
+-- What was gathered so far: stretches for the items before `index`, and their lines in the block.
 pub record GatheredSoFar (p : PackedValues) (lines : LineModel) (index : ℕ) (stretches : List Stretch) : Type 0 where
   pub taken : lines.taken ≡ Some []
   pub status : lines.status ≡ Ok tt
@@ -247,7 +249,7 @@ gathered-first p lines stretches none ok empty is = record {
   on = λ more back left. rw is (subst (λ n. AreStretches p (lines.held ++ back) 0 n more) (ap length empty) left);
 }
 
--- one stretch more
+-- another stretch
 pub gathered-more : (p : PackedValues) (a b : LineModel) (index from to : ℕ) (stretches : List Stretch) (s : Stretch) → GatheredSoFar p a index stretches → PushesAlike p index from a b
     → b.taken ≡ Some []
     → s ≡ record { end = length b.held; from = from; to = to } → from ≤ to → to ≤ length p.items → (length stretches < 1024) ⊎ (length p.items ≤ to) → index < length p.items
@@ -284,17 +286,17 @@ gathered-more p a b index from to stretches s h alike none is order within few b
     counted (inl fits) (inl short) = inl (omega (arith, length-append stretches (s ∷ []), short))
     counted (inl fits) (inr ended) = inr (omega (arith, length-append stretches (s ∷ []), fits), ended)
 
--- all items are covered
+-- The stretches cover all items.
 pub gathered-all : (p : PackedValues) (lines : LineModel) (index : ℕ) (stretches : List Stretch) (text : List ℕ) → GatheredSoFar p lines index stretches → length p.items ≤ index → text ≡ lines.held
     → AreStretches p text 0 0 stretches
 gathered-all p lines index stretches text h ended is =
     subst (λ t. AreStretches p t 0 0 stretches) (append-nil lines.held ∙ sym is) (subst (λ ss. AreStretches p (lines.held ++ []) 0 0 ss) (append-nil stretches) (h.on [] [] ended))
 
--- what is held was appended to no text
+-- The buffered octets were appended to an empty text.
 pub appended : (all text held back : List ℕ) (done : Bool) → all ≡ (if done then text ++ held else text) → done ≡ true → text ≡ [] → held ≡ back → all ≡ back
 appended all text held back done is ok none same = is ∙ ap (λ b. if b then text ++ held else text) ok ∙ ap (λ t. t ++ held) none ∙ same
 
--- a reading of compressed data has one form in which it is shown
+-- A reading of compressed data is shown in only one way.
 pub same-packed : (p q : PackedValues) (r : Read) → IsPackedOf p r → IsPackedOf q r → p ≡ q
 same-packed p q r a b =
     let both : together p.items ≡ together q.items = sym a.values ∙ b.values in

@@ -1,4 +1,4 @@
--- What a call of a reader of dump texts reports.
+-- What a call of a reader of dump texts reads and reports.
 use Rattle.std.proofs.Common.{◌-◌, ◌*◌, ◌^◌, min, max, inl, inr, ◌⊎◌, ◌≡◌, ℕ, ◌<◌, Bool, true, false, List, [], ◌∷◌, ◌++◌, length, refl, sym, ap, subst, ◌∙◌, arith, append_assoc, append-nil, length-append, ◌+◌, ◌≤◌, Option, Ok, Some, None, Result, Err, IfOk, IfSome}
 use Rattle.std.proofs.Math.Nat.{mul-le-mul_left}
 use Rattle.bufr_bits.specs.Prelude.{counted}
@@ -17,11 +17,11 @@ use Rattle.bufr_text.specs.declared.fault.ReadFault.TheVariants.{Line, Run}
 use Rattle.std.proofs.lemmas.Bool.Decides.{nat_tests}
 use Rattle.std.proofs.lemmas.Grind.{common_steps}
 
--- lines after lines
+-- whole lines, followed by more whole lines
 pub passes-then : (at at' at'' : ℕ) (held rest rest' : List ℕ) → TakesWholeLines at held at' rest → TakesWholeLines at' rest at'' rest' → TakesWholeLines at held at'' rest'
 passes-then at at' at'' held rest rest' h1 h2 = grind (arith, nat_tests, common_steps)
 
--- lines, and then an `end` line
+-- whole lines, followed by lines up to an `end` line
 passes-end : (at at' at'' : ℕ) (held rest rest' : List ℕ) → TakesWholeLines at held at' rest → TakesEndLine at' rest at'' rest' → TakesEndLine at held at'' rest'
 passes-end at at' at'' held rest rest' p q = record {
   line = q.line;
@@ -41,12 +41,12 @@ closes-then left left' old s s' results bs call end ended =
 pub passes-more : (at at' : ℕ) (held rest more : List ℕ) → TakesWholeLines at held at' rest → TakesWholeLines at (held ++ more) at' (rest ++ more)
 passes-more at at' held rest more h1 = grind (arith, nat_tests, common_steps)
 
--- more octets are held at both
+-- Appending the same octets to both buffers does not change the results.
 goes-more : (a b : ReaderPosition) (x : List ParseResult) (bs : List ℕ) (e : Bool) → ContinuesParse a b x → (b.ended ≡ true → (e ≡ true) × (bs ≡ []))
     → ContinuesParse (record a { held = a.held ++ bs }) (record b { held = b.held ++ bs; ended = e }) x
 goes-more a b x bs e h1 h2 = grind (arith, nat_tests, common_steps)
 
--- the line feeds that two parts of a call lack
+-- Two parts of a call are combined. At most one of them adds a missing line feed.
 module _ (left mid left' : Option (List ℕ)) (old s s' : ReaderModel) (results results' : List ParseResult) (bs bs' : List ℕ) (one : ReadsLines left mid old s results bs)
     (two : ReadsLines mid left' s s' results' bs') where
   whole : old.held ++ (bs ++ bs') ≡ (old.held ++ bs) ++ bs'
@@ -58,7 +58,7 @@ module _ (left mid left' : Option (List ℕ)) (old s s' : ReaderModel) (results 
       (goes-further (record { at = old.at; parsing = old.parsing; held = (old.held ++ bs) ++ bs'; ended = old.ended }) (position_after s bs') (position_of s') results results' (λ e. (two.kept e).0)
       (goes-more (position_after old bs) (position_of s) results bs' s.ended one.goes (λ e. (e, (two.kept e).1))) two.goes)
 
-  -- the end was not reached before, or nothing more came
+  -- The first part adds no line feed.
   lines-open : one.lines.0 ≡ [] → (feed : List ℕ) × IsMissingFeed old.ended s'.ended feed × TakesWholeLines old.at ((old.held ++ (bs ++ bs')) ++ feed) s'.at s'.held
   lines-open none =
       let first : TakesWholeLines old.at (old.held ++ bs) s.at s.held = rw (append-nil (old.held ++ bs)) at (rw none at one.lines.2) in
@@ -135,7 +135,7 @@ module _ (left mid left' : Option (List ℕ)) (old s s' : ReaderModel) (results 
 pub call-none : (left : Option (List ℕ)) (s : ReaderModel) → ReadsLines left left s s [] []
 call-none left s = grind (arith, nat_tests, common_steps)
 
--- lines that are taken
+-- Taking buffered lines reads no octets.
 pub takes-call : (left : Option (List ℕ)) (s s' : ReaderModel) (results : List ParseResult) → ParsesHeldLines s s' results → s'.ended ≡ s.ended → s'.reads ≡ s.reads
     → ReadsLines left left s s' results []
 takes-call left s s' results h1 h2 h3 = grind (arith, nat_tests, common_steps)
@@ -144,7 +144,7 @@ module _ (left left' : Option (List ℕ)) (s s' : ReaderModel) (bs : List ℕ) (
   same-hold : (h : List ℕ) (t : List ℕ) → parse_lines s.at s.parsing (lines_of (h ++ t)) ≡ parse_lines s'.at s'.parsing (lines_of (h ++ t))
   same-hold h t = ap (λ (k : ℕ). parse_lines k s.parsing (lines_of (h ++ t))) (sym read.at) ∙ ap (λ (p : Parsing). parse_lines s'.at p (lines_of (h ++ t))) (sym read.parsing)
 
-  -- the line feed that the last line lacks makes no difference
+  -- Adding the missing line feed does not change the lines.
   held-lines : (t : List ℕ) → (s'.ended ≡ true → t ≡ []) → ((read.feed ≡ []) ⊎ ((s'.ended ≡ true) × (read.feed ≡ 10 ∷ []) × (0 < length s.held)))
       → lines_of ((s.held ++ bs) ++ t) ≡ lines_of (((s.held ++ bs) ++ read.feed) ++ t)
   unfolding lines_of split_of
@@ -189,9 +189,9 @@ module _ (left left' : Option (List ℕ)) (s s' : ReaderModel) (bs : List ℕ) (
             read.held ∙ ap (λ (z : List ℕ). (s.held ++ bs) ++ z) none ∙ append-nil (s.held ++ bs) ∙ ap (λ (z : List ℕ). z ++ bs) (read.fed ended none) ∙ read.fills.ends.1 ended;
       }
 
--- ---- What a call of a reader of dump texts reports.
+-- ---- What a call returns.
 
--- the reads of a call
+-- the number of reads in a call
 pub counts-none : (a : ℕ) (s : ReaderModel) → s.reads ≤ max_reads → AddsReads a a s.reads s.reads
 counts-none a s = adds-none a s.reads
 
@@ -209,20 +209,20 @@ pub call-takes : (left mid : Option (List ℕ)) (old s s' : ReaderModel) (bs : L
 call-takes left mid old s s' bs results call reports ended reads =
     rw (append-nil bs) at (call-then left mid mid old s s' [] results bs [] call (takes-call mid s s' results reports ended reads))
 
--- what is held gives nothing more
+-- If a read is needed, the buffered lines report nothing.
 pub call-needs : (left mid : Option (List ℕ)) (old s s' : ReaderModel) (bs : List ℕ) → ReadsLines left mid old s [] bs → NeedsLine s s' → ReadsLines left mid old s' [] bs
 call-needs left mid old s s' bs call needs = rw (append-nil bs) at (call-then left mid mid old s s' [] [] bs [] call (needs.passes mid))
 
--- the end was not reached where a line is needed
+-- A read is needed only if the end of input has not been reached.
 pub needs-going : (old new : ReaderModel) → NeedsLine old new → old.ended ≡ false
 needs-going old new needs = elim (cases_Bool old.ended) [ inl e ↦ absurd (true≢false (sym ((needs.passes None).kept e).0 ∙ needs.going)) | inr going ↦ going ]
 
--- a read that does not reach the end gives an octet
+-- A read that does not reach the end of input returns at least one octet.
 pub gives-some : (bs : List ℕ) (ended : Bool) → (bs ≡ [] → ended ≡ true) → ended ≡ false → 0 < length bs
 gives-some [] ended noticed going = absurd (true≢false (sym (noticed refl) ∙ going))
 gives-some (octet ∷ bs) ended noticed going = omega arith
 
--- without a read none fails
+-- Only the result `Run Read` changes the count of failed reads.
 pub failures-kept : (count : ℕ) (next : Result (Option Document) ReadFault) → (next ≡ Err (Run Read) → ⊥) → failures_by count next ≡ count
 failures-kept count (Ok document) unread = refl
 failures-kept count (Err (Line line fault)) unread = refl
@@ -231,14 +231,15 @@ failures-kept count (Err (Run Write)) unread = refl
 failures-kept count (Err (Run InputTooLong)) unread = refl
 failures-kept count (Err (Run Memory)) unread = refl
 
--- where the end was reached before, what is held was held before
+-- If the end of input was reached before a call that leaves octets in the buffer, there were octets
+-- in the buffer before the call, too.
 held-before : (left mid : Option (List ℕ)) (old s : ReaderModel) (bs : List ℕ) (results : List ParseResult) → ReadsLines left mid old s results bs → old.ended ≡ true → 0 < length s.held
     → 0 < length old.held
 held-before left mid old s bs results h1 h2 h3 = grind (arith, nat_tests, common_steps)
 
 module _ (left mid : Option (List ℕ)) (old s s' : ReaderModel) (bs : List ℕ) (call : ReadsLines left mid old s [] bs) (waits : (s.reads ≡ old.reads) ⊎ ReadsOnlyIfNoLine left old s.reads bs)
     (ended : s'.ended ≡ s.ended) (reads : s'.reads ≡ s.reads) where
-  -- a document
+  -- A document is complete.
   pub went-document : (d : Document) → TakesHeldLines s s' (Ok (Some d)) → ReturnsNextDocument left mid old s' (Ok (Some d))
   went-document d went = record {
     octets = bs;
@@ -249,7 +250,7 @@ module _ (left mid : Option (List ℕ)) (old s s' : ReaderModel) (bs : List ℕ)
     ends = went.1;
   }
 
-  -- a line that is refused, or want of memory
+  -- A line is invalid, or memory runs out.
   pub went-fault : (f : ReadFault) → TakesHeldLines s s' (Err f) → ReturnsNextDocument left mid old s' (Err f)
   went-fault (Run Read) went = absurd went
   went-fault (Run Write) went = absurd went
@@ -276,7 +277,7 @@ module _ (left mid : Option (List ℕ)) (old s s' : ReaderModel) (bs : List ℕ)
     ends = went.1;
   }
 
--- the end
+-- The end of input was reached.
 module _ (left mid : Option (List ℕ)) (old s s' : ReaderModel) (bs : List ℕ) (call : ReadsLines left mid old s [] bs) (waits : (s.reads ≡ old.reads) ⊎ ReadsOnlyIfNoLine left old s.reads bs)
     (sound : s.fault ≡ None) (ended : s.ended ≡ true) where
   pub end-next : (result : Result (Option Document) ReadFault) → HandlesEnd s s' result → ReturnsNextDocument left mid old s' result
@@ -299,17 +300,17 @@ module _ (left mid : Option (List ℕ)) (old s s' : ReaderModel) (bs : List ℕ)
   }
   end-next result so = absurd so
 
--- the end reports no document
+-- The end of input completes no document.
 pub end-proper : (s s' : ReaderModel) (result : Result (Option Document) ReadFault) → HandlesEnd s s' result → IfOk result (λ found. IfSome found (λ document. IsProper document))
 end-proper s s' (Ok (Some d)) so = absurd so
 end-proper s s' result so = tt
 
--- no octets come, and the end is not reached
+-- No octets were read, and the end of input was not reached.
 open-call : (left left' : Option (List ℕ)) (s s' : ReaderModel) (results : List ParseResult) (bs : List ℕ) → bs ≡ [] → Consumes left left' bs → ParsesHeldLines s s' results → s.ended ≡ false
     → s'.ended ≡ false → s.reads ≤ s'.reads → ReadsLines left left' s s' results bs
 open-call left left' s s' results bs h1 h2 h3 h4 h5 h6 = grind (arith, nat_tests, common_steps)
 
--- a read, after what was read so far in a call
+-- another read in the same call
 module _ (left mid left' : Option (List ℕ)) (old s s' : ReaderModel) (bs bs' : List ℕ) (call : ReadsLines left mid old s [] bs) (waits : (s.reads ≡ old.reads) ⊎ ReadsOnlyIfNoLine left old s.reads bs)
     (open' : s.ended ≡ false) (clean : has_no_feed s.held ≡ true) where
   waited : (reads : ℕ) → reads ≡ s.reads + 1 → length s.held ≤ 4096 → length bs' ≤ 4096 → ReadsOnlyIfNoLine left old reads (bs ++ bs')
@@ -409,7 +410,7 @@ module _ (left mid left' : Option (List ℕ)) (old s s' : ReaderModel) (bs bs' :
 some-none : (x : ParseResult) → x ∷ [] ≡ [] → ⊥
 some-none x e = omega (arith, ap length e)
 
--- the documents that calls reported from the beginning
+-- the results of all calls so far
 pub reported-first : (left left' : Option (List ℕ)) (s : ReaderModel) (results : List ParseResult) (bs t : List ℕ) → ReadsLines left left' new_reader s results bs → (s.ended ≡ true → t ≡ [])
     → documents_of (bs ++ t) ≡ results ++ parse (position_of s) t
 reported-first left left' s results bs t call none = call.goes.whole t none
@@ -427,7 +428,8 @@ pub reported-at-fault : (left left' : Option (List ℕ)) (s : ReaderModel) (resu
 reported-at-fault left left' s results bs call open' = ap open_documents_of (sym (append-nil bs)) ∙ call.goes.openly open'.0 [] ∙ ap (λ (l : List ParseResult). results ++ l) open'.1
     ∙ append-nil results
 
--- no octets were asked for, and octets after others, at most 4,096 a read
+-- Without reads, no octets are requested. The octets that two parts of a call request add up, with
+-- at most 4,096 octets for each read.
 pub asks-nothing : (asked reads : ℕ) → AsksAtMost asked asked (4096 * (reads - reads))
 asks-nothing asked reads =
     let nothing : 4096 * (reads - reads) ≡ 0 = omega arith in
@@ -443,7 +445,7 @@ asks-then a b c before made made' after order more same one two =
     let A : ℕ → Type 0 = λ n. AsksAtMost a c n in
     subst A sum (asks-more a b c _ _ (2 ^ 64 - 1) one two)
 
--- one call of reads asked for at most 4,096 octets a read
+-- Each read requests at most 4,096 octets.
 pub asks-exactly : (asked asked' reads n : ℕ) → asked' ≡ counted asked (reads * min 4096 n) → AsksAtMost asked asked' (4096 * reads)
 asks-exactly asked asked' reads n is =
     let few : reads * min 4096 n ≤ reads * 4096 = mul-le-mul_left reads (omega arith) in

@@ -1,4 +1,4 @@
--- Dump texts computed from the definitions.
+-- Worked examples of dump texts, computed from the definitions.
 use Rattle.std.proofs.Common.{◌≡◌, ℕ, true, false, List, [], ◌∷◌, ◌++◌, refl, codes, Bool, Result, Ok, Err, ℤ, pos, negsuc, map, replicate}
 use Rattle.std.specs.Fmt.{digits}
 use Rattle.bufr_bits.specs.Prelude.{decimal_text_of, unsigned_text}
@@ -15,8 +15,8 @@ use Rattle.bufr_text.specs.Prelude.{leasts, mosts, runs_after, runs_of, hex_text
 unfoldable listed : (fxy : ℕ) → (name unit : List ℕ) → Kind → (width : ℕ) → Row
 listed fxy name unit k width = record { fxy = fxy; name = name; unit = unit; kind = k; scale = pos 0; reference = pos 0; width = width }
 
--- block, name, latitude, temperature, figure and factor; scale, reference and width are those of
--- what was asked
+-- block number, name, latitude, temperature, present weather and factor; the examples do not use
+-- the scales, references and widths of these rows, because their specs have their own
 unfoldable table : List Row
 unfolding listed
 table =
@@ -28,16 +28,17 @@ table =
     ∷ listed 7937 (codes "DELAYED DESCRIPTOR REPLICATION FACTOR") (codes "Numeric") kind.Numeric 8
     ∷ []
 
--- what is asked of a number at a scale with a reference, and whether it is read by its row
+-- the spec of a field with this scale and reference; the flag says whether the field was read by
+-- its row
 abbrev asked : (fxy : ℕ) → Role → Kind → (scale base : ℤ) → Bool → FieldSpec
 asked fxy r k scale base listed = record { fxy = fxy; role = r; kind = k; width = 16; scale = scale; reference = base; may_be_missing = true; listed = listed }
 
--- the line of an item
+-- the line of an item with this spec and content
 unfoldable line : FieldSpec → Content → List ℕ
 unfolding table
 line spec content = item_text (view_of table spec content)
 
--- the dump text of octets with these values
+-- the dump text of a message with these values; empty if the message is invalid
 abbrev text_in : Result Sections SectionFault → Values → List ℕ
 text_in (Ok s) values = dump_text_of s (dump_items table s.subsets values)
 text_in (Err why) values = []
@@ -62,27 +63,28 @@ temperatures = item (asked 3173 role.Element kind.Numeric (pos 2) (pos 0) true) 
 -- rule: text-hexadecimal, text-local1, text-descriptors
 texts_dumped :
     (line (asked 257 role.Element kind.Numeric (pos 0) (pos 0) true) (number 10) ≡ codes "001001 10  # WMO BLOCK NUMBER [Numeric]")
-    -- zeros at the end stay
+    -- Zeros at the end are kept.
     × (line (asked 3173 role.Element kind.Numeric (pos 2) (pos 0) true) (number 28800) ≡ codes "012101 288.00  # AIR TEMPERATURE [K]")
     × (line (asked 7937 role.Factor kind.Numeric (pos 0) (pos 0) true) (number 2) ≡ codes "031001 2  # DELAYED DESCRIPTOR REPLICATION FACTOR [Numeric]")
-    -- a redefined reference has the mark and no comment
+    -- A redefined reference has the mark `R` and no comment.
     × (line (asked 3173 role.Reference kind.Numeric (pos 0) (pos 0) false) (reference (negsuc 399)) ≡ codes "R 012101 -400")
     × (line (asked 3173 role.Element kind.Numeric (pos 2) (negsuc 399) true) (number 28815) ≡ codes "012101 284.15  # AIR TEMPERATURE [K]")
     × (line (asked 1282 role.Element kind.Numeric (pos 2) (negsuc 8999) true) (number 8995) ≡ codes "005002 -0.05  # LATITUDE (COARSE ACCURACY) [degree]")
-    -- a scale below zero
+    -- a negative scale
     × (line (asked 3173 role.Element kind.Numeric (negsuc 1) (pos 0) true) (number 288) ≡ codes "012101 28800  # AIR TEMPERATURE [K]")
     × (line (asked 5123 role.Element kind.Coded (pos 0) (pos 0) true) (number 5) ≡ codes "020003 5  # PRESENT WEATHER [Code table]")
-    -- a missing item has its comment too
+    -- A missing item also has a comment.
     × (line (asked 3173 role.Element kind.Numeric (pos 2) (pos 0) true) (missing) ≡ codes "012101 MISSING  # AIR TEMPERATURE [K]")
-    -- what no row gives has no comment, nor has a listed descriptor that was read with another width
+    -- An element without a row has no comment. Neither has an element that was read with another
+    -- width.
     × (line (asked 16383 role.Element kind.Numeric (pos 0) (pos 0) false) (number 245) ≡ codes "063255 245")
     × (line (asked 257 role.Element kind.Numeric (pos 0) (pos 0) false) (number 245) ≡ codes "001001 245")
-    -- a quote, a backslash and what cannot be printed
+    -- a quote, a backslash, and octets that are not printed
     × (line (asked 34052 role.Inserted kind.Character (pos 0) (pos 0) false) (text (34 ∷ 92 ∷ 10 ∷ 254 ∷ [])) ≡ codes "205004 \"\\\"\\\\\\x0A\\xFE\"")
-    -- spaces at the end stay
+    -- Spaces at the end are kept.
     × (line (asked 271 role.Element kind.Character (pos 0) (pos 0) true) (text (codes "ABC " ++ replicate 3 32)) ≡ codes "001015 \"ABC    \"  # STATION OR SITE NAME [CCITT IA5]")
     × (line (asked 34052 role.Inserted kind.Character (pos 0) (pos 0) false) (text (31 ∷ 32 ∷ 126 ∷ 127 ∷ [])) ≡ codes "205004 \"\\x1F ~\\x7F\"")
-    -- a message with one block number, 48 octets, and its 25 lines
+    -- a message of 48 octets with one block number, and the 25 lines of its dump text
     × (dumped
     (0x42 ∷ 0x55 ∷ 0x46 ∷ 0x52 ∷ 0x00 ∷ 0x00 ∷ 0x30 ∷ 0x04 ∷
     0x00 ∷ 0x00 ∷ 0x16 ∷ 0x00 ∷ 0x00 ∷ 0x62 ∷ 0x00 ∷ 0x00 ∷ 0x00 ∷ 0x00 ∷ 0x00 ∷ 0x00 ∷ 0x00 ∷ 0x0E ∷ 0x00 ∷ 0x07 ∷ 0xE8 ∷ 0x01 ∷ 0x02 ∷ 0x03 ∷ 0x04 ∷ 0x05 ∷
@@ -90,7 +92,7 @@ texts_dumped :
     0x00 ∷ 0x00 ∷ 0x05 ∷ 0x00 ∷ 0x14 ∷
     0x37 ∷ 0x37 ∷ 0x37 ∷ 0x37 ∷ []) (apart ((block_number ∷ []) ∷ []))
     ≡ codes "message\nedition 4\nmaster 0\ncentre 98\nsubcentre 0\nupdate 0\ncategory 0\nsubcategory 0\nlocalsubcategory 0\nmasterversion 14\nlocalversion 0\nyear 2024\nmonth 1\nday 2\nhour 3\nminute 4\nsecond 5\nobserved 1\ncompressed 0\noptional 0\nsubsets 1\ndescriptors 001001\nsubset 1\n001001 10  # WMO BLOCK NUMBER [Numeric]\nend\n")
-    -- compressed data: each subset with its own value
+    -- compressed data: each subset has its own value
     × (dumped
     (0x42 ∷ 0x55 ∷ 0x46 ∷ 0x52 ∷ 0x00 ∷ 0x00 ∷ 0x32 ∷ 0x04 ∷
     0x00 ∷ 0x00 ∷ 0x16 ∷ 0x00 ∷ 0x00 ∷ 0x62 ∷ 0x00 ∷ 0x00 ∷ 0x00 ∷ 0x00 ∷ 0x00 ∷ 0x00 ∷ 0x00 ∷ 0x0E ∷ 0x00 ∷ 0x07 ∷ 0xE8 ∷ 0x01 ∷ 0x02 ∷ 0x03 ∷ 0x04 ∷ 0x05 ∷
@@ -107,7 +109,7 @@ texts_dumped :
     0x00 ∷ 0x00 ∷ 0x05 ∷ 0x00 ∷ 0x14 ∷
     0x37 ∷ 0x37 ∷ 0x37 ∷ 0x37 ∷ []) (apart ((block_number ∷ []) ∷ []))
     ≡ codes "message\nedition 4\nmaster 0\ncentre 98\nsubcentre 0\nupdate 0\ncategory 0\nsubcategory 0\nlocalsubcategory 0\nmasterversion 14\nlocalversion 0\nyear 2024\nmonth 1\nday 2\nhour 3\nminute 4\nsecond 5\nobserved 1\ncompressed 0\noptional 1\nsubsets 1\nlocal1 ABCD\nsection2 0102\ndescriptors 001001\nsubset 1\n001001 10  # WMO BLOCK NUMBER [Numeric]\nend\n")
-    -- no subset, no item
+    -- There are no items if there are no subsets.
     × (dumped
     (0x42 ∷ 0x55 ∷ 0x46 ∷ 0x52 ∷ 0x00 ∷ 0x00 ∷ 0x2F ∷ 0x04 ∷
     0x00 ∷ 0x00 ∷ 0x16 ∷ 0x00 ∷ 0x00 ∷ 0x62 ∷ 0x00 ∷ 0x00 ∷ 0x00 ∷ 0x00 ∷ 0x00 ∷ 0x00 ∷ 0x00 ∷ 0x0E ∷ 0x00 ∷ 0x07 ∷ 0xE8 ∷ 0x01 ∷ 0x02 ∷ 0x03 ∷ 0x04 ∷ 0x05 ∷
@@ -115,7 +117,7 @@ texts_dumped :
     0x00 ∷ 0x00 ∷ 0x04 ∷ 0x00 ∷
     0x37 ∷ 0x37 ∷ 0x37 ∷ 0x37 ∷ []) (apart [])
     ≡ codes "message\nedition 4\nmaster 0\ncentre 98\nsubcentre 0\nupdate 0\ncategory 0\nsubcategory 0\nlocalsubcategory 0\nmasterversion 14\nlocalversion 0\nyear 2024\nmonth 1\nday 2\nhour 3\nminute 4\nsecond 5\nobserved 1\ncompressed 0\noptional 0\nsubsets 0\ndescriptors 001001\nend\n")
-    -- 33 octets and nine descriptors take two lines each
+    -- 33 octets, or nine descriptors, are written on two lines.
     × (text_of_lines (map local1_line (runs_of 32 (replicate 33 171)) ++ map descriptors_line (runs_of 8 (replicate 9 257)))
     ≡ codes "local1 ABABABABABABABABABABABABABABABABABABABABABABABABABABABABABABABAB\nlocal1 AB\ndescriptors 001001 001001 001001 001001 001001 001001 001001 001001\ndescriptors 001001\n")
 unfolding line digits decimal_text_of unsigned_text quoted dumped block_number item table keys leasts mosts header_lines subset_lines runs_after hex_text descriptors_text temperatures

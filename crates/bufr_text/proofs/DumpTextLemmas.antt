@@ -1,4 +1,4 @@
--- A dump text spells the document of its message, and nothing else.
+-- A dump text is read as the document of its message, and as nothing else.
 use Rattle.std.proofs.Common.{zero, suc, ◌≡◌, ◌∙◌, ℕ, ◌+◌, ◌≤◌, ◌==◌, ◌&&◌, nat_le, Bool, true, false, List, [], ◌∷◌, ◌++◌, length, map, refl, sym, ap, arith, append_assoc, append-nil, length-append, ◌<◌, codes, Option, Some, None, slice_index, is_some, unwrap_or}
 use Rattle.std.specs.List.{concat, AllByRecursion}
 use Rattle.std.proofs.lemmas.Bool.Decides.{nat_tests}
@@ -16,13 +16,13 @@ use Rattle.std.proofs.lemmas.Grind.{common_steps}
 use Rattle.bufr_walk.specs.Prelude.{View}
 use Rattle.std.specs.Int.{from_bool}
 
--- ---- The lines of a dump text, one after another, spell one document.
+-- ---- The lines of a dump text are read as one document.
 
--- a line is said whole
+-- The line is not too long, so `read_line` returns its meaning.
 said-is : (line : List ℕ) (meaning : Line) → IsLineOf line meaning → read_line line ≡ meaning
 said-is line meaning h1 = grind (arith, nat_tests, common_steps)
 
--- the reading goes on after a line, or gives a document
+-- Reading continues after a line, or the line completes a document.
 pub goes : (at : ℕ) (parsing next : Parsing) (line : List ℕ) (meaning : Line) (more : List (List ℕ)) → IsLineOf line meaning → line_step at parsing meaning ≡ (Continues next.0, next.1)
     → parse_lines at parsing (line ∷ more) ≡ parse_lines (at + 1) next more
 unfolding parse_lines
@@ -33,7 +33,8 @@ pub gives : (at : ℕ) (parsing : Parsing) (d : Document) (line : List ℕ) (mea
 unfolding parse_lines
 gives at parsing d line meaning more is e = rw (said-is line meaning is, e) refl
 
--- the header
+-- ---- The header lines.
+
 abbrev pub with_header : Document → List ℕ → Document
 with_header d values = record d { header = values }
 
@@ -47,7 +48,7 @@ same-key k d e = grind (arith, nat_tests)
 not-last : (k : ℕ) → k < 19 → (k == 19) ≡ false
 not-last k h = grind (arith, nat_tests)
 
--- the edition stays the first value
+-- The first value, which is the edition, stays the same if more values are appended.
 first-stays : (xs ys : List ℕ) → 0 < length xs → slice_index (xs ++ ys) 0 ≡ slice_index xs 0
 first-stays [] ys some = absurd (omega (arith, some))
 first-stays (x ∷ xs) ys some = refl
@@ -73,7 +74,7 @@ run-on edition k value (v ∷ values) d at more suffix count is same (range, sma
     ∙ ap (λ (t : List ℕ). parse_lines (at + 1 + 1 + length values) (BeforeSubsets group.Local1, with_header d t) more) (append_assoc d.header (value ∷ []) (v ∷ values))
     ∙ ap (λ n. parse_lines n (BeforeSubsets group.Local1, with_header d (d.header ++ value ∷ v ∷ values)) more) (omega arith)
 
--- the edition comes first, and its range goes by none
+-- The edition comes first, and its range does not depend on an edition.
 pub header-run : (edition v : ℕ) (values : List ℕ) (line at : ℕ) (more : List (List ℕ)) → length values ≡ 18 → InRange edition 0 (edition ∷ v ∷ values)
     → parse_lines at (Heading, blank line) (header_lines 0 (edition ∷ v ∷ values) ++ more)
     ≡ parse_lines (at + 1 + 19) (BeforeSubsets group.Local1, with_header (blank line) (edition ∷ v ∷ values)) more
@@ -85,7 +86,8 @@ header-run edition v values line at more count (range, small, rest) =
     ∙ run-on edition 1 v values (with_value d edition) (at + 1) more (omega arith) (omega (arith, count)) refl refl rest
     ∙ ap (λ n. parse_lines n (BeforeSubsets group.Local1, with_header d (edition ∷ v ∷ values)) more) (omega (arith, count))
 
--- local use
+-- ---- The `local1`, `section2` and `descriptors` lines.
+
 pub local1-run : (runs : List (List ℕ)) (d : Document) (at : ℕ) (more : List (List ℕ)) → AllByRecursion (IsRun IsOctet 32) runs
     → parse_lines at (BeforeSubsets group.Local1, d) (map local1_line runs ++ more) ≡ parse_lines (at + length runs) (BeforeSubsets group.Local1, with_local1 d (concat runs)) more
 unfolding line_step
@@ -98,7 +100,7 @@ local1-run (run ∷ runs) d at more (here, all) =
     ∙ ap (λ (t : List ℕ). parse_lines (at + 1 + length runs) (BeforeSubsets group.Local1, record d { local1 = t }) more) (append_assoc d.local1 run (concat runs))
     ∙ ap (λ n. parse_lines n (BeforeSubsets group.Local1, with_local1 d (concat (run ∷ runs))) more) (omega arith)
 
--- section 2; where it has lines, local use can follow no more
+-- the group of lines that was read last: `next`, if there were any runs to read
 pub written : (part : LineGroup) → List (List ℕ) → (next : LineGroup) → LineGroup
 written part [] next = part
 written part (run ∷ runs) next = next
@@ -144,7 +146,8 @@ descriptors-run (run ∷ runs) part d at more (here, all) =
     ∙ ap (λ (t : List ℕ). parse_lines (at + 1 + length runs) (BeforeSubsets group.Descriptors, record d { descriptors = t }) more) (append_assoc d.descriptors run (concat runs))
     ∙ ap (λ n. parse_lines n (BeforeSubsets group.Descriptors, with_descriptors d (concat (run ∷ runs))) more) (omega arith)
 
--- items
+-- ---- The lines of the subsets.
+
 abbrev pub with_entries : Document → List DraftEntry → Document
 with_entries d entries = record d { entries = d.entries ++ entries }
 
@@ -165,7 +168,7 @@ subset-lines-count : (n : ℕ) (items : List View) (subsets : List (List View)) 
 unfolding subset_lines
 subset-lines-count n items subsets = omega (arith, length-append (map item_text items) (subset_lines (n + 1) subsets), length-map items item_text)
 
--- a subset begins and its items follow
+-- The `subset` line is read, and then the lines of the items.
 subset-run : (items : List View) (subset : ℕ) (d : Document) (at : ℕ) (parsing : Parsing) (tail more : List (List ℕ)) → subset < 65536 → AllByRecursion IsItem items
     → line_step at parsing (Begins subset) ≡ (Continues (Filling subset), d)
     → parse_lines at parsing ((subset_line subset ∷ (map item_text items ++ tail)) ++ more)
@@ -197,7 +200,7 @@ subsets-run (items ∷ subsets) n d at more stated few (here, all) =
     (append_assoc (d.entries ++ Ends at ∷ []) own (Ends (at + 1 + length items) ∷ later) ∙ append_assoc d.entries (Ends at ∷ []) (own ++ (Ends (at + 1 + length items) ∷ later)))
     ∙ ap (λ k. Complete (with_entries d (Ends at ∷ subset_entries at (items ∷ subsets))) ∷ parse_lines k between more) (omega (arith, subset-lines-count (n + 1) items subsets))
 
--- the subsets and the end, where they are after the parts before them
+-- the lines of the subsets and the `end` line, after the lines before the subsets
 pub subsets-written : (subsets : List (List View)) (part : LineGroup) (d : Document) (at : ℕ) (more : List (List ℕ)) → d.entries ≡ [] → length subsets ≡ (header_in d).subsets
     → (header_in d).subsets < 65536
     → AllByRecursion (λ items. AllByRecursion IsItem items) subsets
@@ -220,7 +223,8 @@ subsets-written (items ∷ subsets) part d at more none stated few (here, all) =
     (append_assoc d.entries own (Ends (at + 1 + length items) ∷ later))
     ∙ ap (λ k. Complete (with_entries d (subset_entries at (items ∷ subsets))) ∷ parse_lines k between more) (omega (arith, subset-lines-count 1 items subsets))
 
--- the header's values are within their ranges
+-- ---- The header values are in range.
+
 up_to : (least most v : ℕ) → least ≤ v → v ≤ most → (nat_le least v && nat_le v most) ≡ true
 up_to least most v h k = grind (arith, nat_tests)
 
@@ -325,13 +329,13 @@ header-fits s h few =
       ),
     )
 
--- section 2 has lines only where it is there
+-- There are `section2` lines only if there is a section 2.
 optional-there : (section2 : Option (List ℕ)) → 0 < length (runs_of 32 (unwrap_or section2 [])) → from_bool (is_some section2) ≡ 1
 unfolding runs_after
 optional-there None some = absurd (omega arith)
 optional-there (Some octets) some = refl
 
--- a document by its parts
+-- a document with these parts
 abbrev document_with : (line : ℕ) → (header local1 section2 descriptors : List ℕ) → List (List View) → (at : ℕ) → Document
 document_with line header local1 section2 descriptors subsets at =
     record { line = line; header = header; local1 = local1; section2 = section2; descriptors = descriptors; entries = subset_entries at subsets }
@@ -401,7 +405,8 @@ dump-spells s subsets at more given =
     ∙ ap (λ (k : ℕ). Complete (document_with at H s.local1 (unwrap_or s.section2 []) s.descriptors subsets k) ∷ rest) (omega arith)
     ∙ ap (λ (k : ℕ). Complete (document_of at s subsets) ∷ parse_lines k between more) (omega (arith, dump-lines-count s subsets))
 
--- no line has a line feed
+-- ---- No line of a dump text contains a line feed.
+
 above-both : (a b : List (List ℕ)) → AllByRecursion IsAbove a → AllByRecursion IsAbove b → AllByRecursion IsAbove (a ++ b)
 above-both [] b x y = y
 above-both (line ∷ a) b (here, x) y = (here, above-both a b x y)
@@ -446,7 +451,7 @@ above-dump s subsets given =
     )
     e
 
--- the law: after a dump text the reading goes on between documents
+-- A dump text is read as the document of its message, and reading continues between documents.
 pub text-spells : (s : Sections) (subsets : List (List View)) (at : ℕ) (t : List ℕ) → IsDumpable s subsets
     → parse_lines at between (lines_of (dump_text_of s subsets ++ t)) ≡ Complete (document_of at s subsets) ∷ parse_lines (at + length (dump_lines s subsets)) between (lines_of t)
 text-spells s subsets at t given = ap (parse_lines at between) (lines-back (dump_lines s subsets) t (above-dump s subsets given)) ∙ dump-spells s subsets at (lines_of t) given

@@ -1,4 +1,4 @@
--- A message that is accepted can be dumped.
+-- Every accepted message can be dumped.
 use Rattle.std.proofs.Common.{◌≡◌, ℕ, suc, ◌<◌, ◌≤◌, ◌^◌, Bool, true, false, ℤ, pos, negsuc, List, [], ◌∷◌, map, Option, Some, None, refl, subst, arith, zero, Ok, ◌+◌, ◌-◌, length, take, drop, sym, ◌∙◌, nat_abs, pow_mono, if◌then◌else◌, unsigned_abs, slice_index, slice_range, unwrap_or}
 use Rattle.std.specs.List.{AllByRecursion}
 use Rattle.std.proofs.lemmas.Bool.Decides.{nat_tests}
@@ -21,7 +21,7 @@ use Rattle.std.proofs.lemmas.Grind.{common_steps}
 use Rattle.bufr_fill.proofs.ReadsLemmas.{of_apart, of_together}
 use Rattle.bufr_fill.proofs.WholeLaws.{each_count}
 
--- ---- the sections
+-- ---- The sections.
 
 octet_at : (m : List ℕ) (i : ℕ) → AllByRecursion IsOctet m → slice_index m i < 256
 octet_at [] i h = omega arith
@@ -48,7 +48,7 @@ all_words : (m : List ℕ) → AllByRecursion IsOctet m → AllByRecursion IsDes
 all_words (a ∷ b ∷ more) h = (omega (arith, h.0, h.1.0), all_words more h.1.1)
 all_words m h = tt
 
--- what sections give of the parts of a dump text
+-- The contents of these sections can be dumped.
 pub record AreGiven (s : Sections) : Type 0 where
   pub head : IsFitting s.head
   pub local1 : AllByRecursion IsOctet s.local1
@@ -73,7 +73,7 @@ pub sections_given : (m : List ℕ) (s : Sections) → AllByRecursion IsOctet m 
 sections_given m s h e = let f = sections-ended m s e in subst AreGiven (sym f.is)
     (parts_given m f.p1 f.p2 f.p3 f.p4 h (subst (λ (x : Sections). IsFitting x.head) f.is (heads-fit m s (λ i. octet_at m i h) e)))
 
--- ---- one item
+-- ---- One item.
 
 pub octets_are : (octets : List ℕ) → AreOctets octets → AllByRecursion IsOctet octets
 octets_are [] h = tt
@@ -128,7 +128,7 @@ module _ (table : List Row) (all : AreRead table) where
   item_fits : (spec : FieldSpec) (c : Content) → IsDescriptorWord spec.fxy → IsValue (shown spec c) → IsItem (view_of table spec c)
   item_fits spec c w v = record { word = w; value = v; comment = comment_fits spec.listed spec.fxy }
 
-  -- ---- the items of subsets
+  -- ---- The items of all subsets.
 
   items_fit : (course : Course) (items : List (Item Content)) (bits suffix : List Bool) → AllFields items → ReadsItems plain course items bits suffix → AllByRecursion IsItem (items_shown table items)
   items_fit course [] bits suffix fields h = tt
@@ -154,7 +154,7 @@ module _ (table : List Row) (all : AreRead table) where
   together_fit zero j items h = tt
   together_fit (suc left) j items h = (h j, together_fit left (suc j) items h)
 
--- ---- the message
+-- ---- The whole message.
 
 counted : (table : List Row) (n : ℕ) (values : Values) → length (dump_items table n values) ≡ length (each_subset n values)
 counted table n (apart subsets) = length-map subsets (items_shown table)

@@ -1,4 +1,4 @@
--- The bits and the turns of a walk that writes.
+-- The bits that a walk over the items of a document writes, and the turns that it takes.
 use Rattle.std.proofs.Common.{inl, inr, ◌≡◌, ◌+◌, ℕ, suc, Bool, List, [], ◌∷◌, ◌++◌, length, length-append, Option, Some, None, Result, Ok, Err, refl, sym, ◌∙◌, ap, subst, arith, ◌<◌, get_or, true, false, ◌⊎◌, ◌≤◌, zero, ◌-◌, ◌*◌, append_assoc, if◌then◌else◌}
 use Rattle.bufr_walk.specs.declared.spec.Taken.{Taken}
 use Rattle.bufr_walk.specs.Prelude.{FieldSpec, octets_in, Course, Next, at_end, counts_of, Turns, finish, open_end, group, pass_end, factor_turn, element_turn, operator_turn, Rest, passes, unroll, TakenField, Takes, Item, answers_in, ticked, answers_of, oks, StopsWalk, Walked, element_spec, factor_spec, inserted_spec, OperatorModel, after_operator, after_field, CountedCourse, uncounted, counted_item, turns_ahead, turns_asked, turns_operated}
@@ -26,7 +26,7 @@ use Rattle.bufr_walk.specs.declared.spec.Taken.TheVariants as taken
 use Rattle.std.proofs.lemmas.Grind.{common_steps, flat_map-append}
 use Rattle.std.specs.Option.{option_map_or}
 
--- octets that are the bits of data
+-- Octets that contain the data bits are the octets that the definition specifies.
 pub octets_are_bits : (xs : List ℕ) (bits : List Bool) → ((k : ℕ) → get_or xs k 0 < 256) → AreOctetsOf xs bits → xs ≡ octets_of_bits bits
 octets_are_bits xs bits small h =
     sym (octets_again xs (all xs small)) ∙ ap (λ b. octets_in (length xs) b) h.same ∙ ap (λ n. octets_in n (bits ++ padding (length bits))) h.count
@@ -35,14 +35,14 @@ octets_are_bits xs bits small h =
     all [] g = tt
     all (x ∷ xs) g = (g 0, all xs (λ k. g (suc k)))
 
--- a message that is not too long is made
+-- A message is built if it is not too long.
 pub message-made : (line : ℕ) (head : Head) (parts : MessageParts) (octets : List ℕ) → (max_octets < message_size head.edition parts → ⊥) → octets ≡ message_octets head parts
     → message_of line head parts ≡ Ok octets
 message-made line head parts octets h1 h2 = grind (arith, nat_tests, common_steps)
 
--- ---- the more is reported, the more turns there are
+-- ---- A walk with more answers takes at least as many turns.
 
--- the same turns, and perhaps more where the counts ran out
+-- The turns are the same up to the point where the first ones lack a count.
 abbrev Extends : Turns → Turns → Type 0
 Extends finish u = u ≡ finish
 Extends open_end u = Unit {0}
@@ -74,7 +74,7 @@ unroll_extends (delayed fxy body t) rest g (n ∷ counts) more = (
   (passes n (unroll body) (unroll t rest) (counts ++ more), refl, passes_extend n (unroll body) (unroll t rest) (λ r h. unroll_extends body r h) (unroll_extends t rest g) counts more),
 )
 
--- whatever comes, it takes a turn
+-- Whatever the next field is, it takes a turn.
 asked_some : (r : Result FieldSpec TurnRefusal) (go : Taken → List Taken → ℕ) (results : List Taken) → 1 ≤ turns_asked r go results
 asked_some r go results = grind (arith, nat_tests, common_steps)
 
@@ -137,7 +137,7 @@ counts_append (taken.Plain ∷ results) more = counts_append results more
 counts_append (taken.Count n ∷ results) more = ap (λ c. n ∷ c) (counts_append results more)
 counts_append (taken.Reference r ∷ results) more = counts_append results more
 
--- what comes after more items takes no fewer turns
+-- With more answers, there are at least as many turns.
 abbrev pub AddsTurns : CountedCourse → Type 0
 AddsTurns course = (results more : List Taken) → (course results).turns ≤ (course (results ++ more)).turns
 
@@ -149,7 +149,7 @@ template_adds table template = grind (arith, nat_tests, common_steps, ahead_grow
 pub ticked_at_most : (before turns all : ℕ) → turns ≤ all → ticked before turns ≤ ticked before all
 ticked_at_most before turns all h1 = grind (arith, nat_tests, common_steps)
 
--- ---- products
+-- ---- Products.
 
 split : (n a d : ℕ) → n * (a + d) ≡ n * a + n * d
 split n a d = grind arith
@@ -157,7 +157,8 @@ split n a d = grind arith
 pub mul_most : (n a b : ℕ) → a ≤ b → n * a ≤ n * b
 mul_most n a b h1 = grind (arith, nat_tests, common_steps)
 
--- why data could not be written, up to a fault or until memory ran out, and the steps that were made
+-- The data could not be written because of this fault, or because memory ran out, and these are the
+-- steps before and after.
 pub record IsRefused (places : ℕ) (w : Writing DraftFault) (why : DocumentFault) (before after : ℕ) : Type 0 where
   pub how : ((why ≡ document.Memory) × (after ≤ ticked before w.turns))
       ⊎ ((f : DraftFault) × (w.stop ≡ Some f) × (why ≡ document_fault f) × (after ≡ ticked before w.turns))
@@ -177,21 +178,21 @@ no_data n compressed course ss why steps e p = elim p.how [
 
 module _ {D C : Type 0} (filler : Filler D C DraftFault) (course : CountedCourse) (walked : List TakenField) (old new : List Bool) (drafts left : List D)
     (w : WritesDrafts filler (uncounted course) walked old new drafts left) where
-  -- what comes next ends or stops the walk
+  -- After these items, the pass ends or stops at a fault.
   abbrev pub StopsHere : Option DraftFault → Type 0
   StopsHere stop = EndsPass (filling filler) (course (answers_of walked)).next left stop
 
   abbrev all : Writing DraftFault
   all = pass_writing filler course drafts
 
-  -- then that is all that is written
+  -- If so, the walk has written everything.
   pub walk_writing : (stop : Option DraftFault) → StopsHere stop → all ≡ record { bits = bits_written w.items; stop = stop; turns = (course (answers_of walked)).turns }
   walk_writing stop h =
       ap (λ p. record { bits = bits_written p.items; stop = p.stop; turns = (course (answers_in (λ spec w. filler.gives spec w.content) p.items)).turns })
       (walk_ends filler (uncounted course) walked old new drafts left stop w h)
       ∙ ap (λ a. record { bits = bits_written w.items; stop = stop; turns = (course a).turns }) w.answers
 
-  -- otherwise, more may be written
+  -- the items that may be written after these
   abbrev later : List (Item (WrittenItem C))
   later = (fill_pass filler (λ more. (course (answers_of walked ++ more)).next) left).items
 
@@ -223,15 +224,15 @@ module _ {D C : Type 0} (filler : Filler D C DraftFault) (course : CountedCourse
       by (draft_fault.Item line f) h r =
           let e = walk_writing (Some (at_line line f)) h in inr (at_line line f, ap (λ w. w.stop) e, r, made ∙ ap (λ w. ticked before w.turns) (sym e))
 
--- ---- The subsets of a document, written one after another.
+-- ---- The subsets of a document, written subset by subset.
 
--- ---- one subset
+-- ---- One subset.
 
--- the writing of the next subset
+-- what is written of the next subset
 abbrev pub next_writing : CountedCourse → List DraftEntry → Writing DraftFault
 next_writing course left = pass_writing (plain_filler (end_left left)) course (items_left left)
 
--- bits that were written, in so many turns
+-- bits that were written in this number of turns, without a fault
 abbrev pub wrote : List Bool → ℕ → Writing DraftFault
 wrote bits turns = record { bits = bits; stop = None; turns = turns }
 
@@ -245,13 +246,13 @@ pub record IsSubset (places : ℕ) (course : CountedCourse) (s : PlainOutModel) 
   pub made : steps' ≡ ticked steps turns
   pub few : steps' ≤ steps + places * length bits
 
--- at the end of the template
+-- If the subset ends at the end of the template, the pass has no fault.
 at_end_none : (end : ℕ) (left more : List DraftEntry) → after_end left ≡ Ok more → EndsPass (filling (plain_filler end)) at_end (items_left left) None × (left_after left ≡ more)
 at_end_none end [] more h = absurd cc h
 at_end_none end (Ends line ∷ left) more h = let same : left ≡ more = cc in (refl, same)
 at_end_none end (Holds d ∷ left) more h = absurd cc h
 
--- the subset was written
+-- The next subset was written.
 pub subset_written : (n : ℕ) (course : CountedCourse) (s : PlainOutModel) (c : ℕ) (mid : PlainOutModel) (c' : ℕ) (s' : PlainOutModel) → Walked PlainFills course s c (Ok tt) mid c'
     → after_end mid.left ≡ Ok s'.left → s'.bits ≡ mid.bits → c' ≤ c + n * (length mid.bits - length s.bits)
     → IsSubset n course s c s' c'
@@ -284,7 +285,7 @@ if_is : (P : DraftFault → Type 0) (o : DraftFault) → P o → IfDraftFault o 
 if_is P draft_fault.Memory h = tt
 if_is P (draft_fault.Item line why) h = h
 
--- a walk stopped, at its fault or where memory ran out
+-- The walk stopped at its fault, or because memory ran out.
 stopped_at : (n : ℕ) (course : CountedCourse) (s : PlainOutModel) (walked : List TakenField) (mid : PlainOutModel) (o : DraftFault) (why : DocumentFault) (c c' : ℕ) → AddsTurns course
     → Takes (oks PlainFills) (uncounted course) s walked mid
     → IfDraftFault o (IsFaultNext (course (answers_of walked)).next mid.left) → why ≡ document_fault o → c' ≡ ticked c (course (answers_of walked)).turns
@@ -298,7 +299,7 @@ stopped_at n course s walked mid o why c c' g h fault results made few =
     made
     few
 
--- an item is left over
+-- An item remains after the end of the template.
 pub subset_over : (n : ℕ) (course : CountedCourse) (s : PlainOutModel) (c : ℕ) (mid : PlainOutModel) (c' : ℕ) (e : DraftFault) (why : DocumentFault) → AddsTurns course
     → Walked PlainFills course s c (Ok tt) mid c' → 1 ≤ length (subsets_of s.left) → after_end mid.left ≡ Err e → why ≡ document_fault e
     → c' ≤ c + n * (length mid.bits - length s.bits) → IsRefused n (next_writing course s.left) why c c'
@@ -308,16 +309,16 @@ subset_over n course s c mid c' e why g w some fault results few =
     stopped_at n course s w.0 mid e why c c' g w.1 (if_is (IsFaultNext (course (answers_of w.0)).next mid.left) e (subst (λ next. IsFaultNext next mid.left e) (sym w.2) here)) results w.3
     (omega (arith, few, mul_most n (length mid.bits - length s.bits) (length mid.bits - length s.bits + 1) (omega arith)))
 
--- what stopped a walk is the fault at the next entry
+-- The reason why a walk stopped is the fault of the next entry, or memory ran out.
 reported_next : (line : ℕ) (next : Next) (mid : PlainOutModel) (stop : WalkStop DraftFault) (s' : PlainOutModel) → StopsWalk PlainFills next mid stop s' → line ≡ line_at s'.left
     → IfDraftFault (stop_fault line stop) (IsFaultNext next mid.left)
 reported_next line next mid stop s' h1 h2 = grind (arith, nat_tests, common_steps)
 
--- and nothing more was written
+-- A walk that stops does not write anything more.
 still : (next : Next) (mid : PlainOutModel) (stop : WalkStop DraftFault) (s' : PlainOutModel) → StopsWalk PlainFills next mid stop s' → s' ≡ mid
 still next mid stop s' h1 = grind (arith, nat_tests, common_steps)
 
--- the walk stopped
+-- The walk stopped.
 pub subset_stopped : (n : ℕ) (course : CountedCourse) (s : PlainOutModel) (c : ℕ) (s' : PlainOutModel) (c' line : ℕ) (stop : WalkStop DraftFault) (why : DocumentFault) → AddsTurns course
     → Walked PlainFills course s c (Err stop) s' c' → line ≡ line_at s'.left
     → why ≡ document_fault (stop_fault line stop) → c' ≤ c + n * (length s'.bits - length s.bits + 1) → IsRefused n (next_writing course s.left) why c c'
@@ -326,7 +327,7 @@ subset_stopped n course s c s' c' line stop why g w at results few =
     stopped_at n course s w.0 w.1 (stop_fault line stop) why c c' g w.2 (reported_next line next w.1 stop s' w.3 at) results w.4
     (subst (λ (p : PlainOutModel). c' ≤ c + n * (length p.bits - length s.bits + 1)) (still next w.1 stop s' w.3) few)
 
--- ---- all subsets
+-- ---- All subsets.
 
 pub record PlainSoFar (places : ℕ) (course : CountedCourse) (all : List Subset) (done : ℕ) (left : List DraftEntry) (bits : List Bool) (steps : ℕ) : Type 0 where
   pub made : ℕ
@@ -356,11 +357,11 @@ none_written n course all s steps left none start = record {
 
 module _ (n : ℕ) (course : CountedCourse) (all : List Subset) (done : ℕ) (s : PlainOutModel) (steps : ℕ) (h : PlainSoFar n course all done s.left s.bits steps)
     (some : 1 ≤ length (subsets_of s.left)) where
-  -- the subsets after the next one
+  -- what is written of the subsets after the next one
   abbrev rest : Writing DraftFault
   rest = plain_writing course (subsets_of (left_after s.left))
 
-  -- all that is written, by what the next subset writes
+  -- what is written of the next subset, and of those after it
   abbrev next_then : Writing DraftFault
   next_then = writing_then (next_writing course s.left) (next_writing course s.left).stop rest
 
@@ -445,7 +446,8 @@ all_written n course all done s steps octets h end o =
 
 -- ---- The subsets of a document, written together.
 
--- what stopped a walk is the fault where it is, and leaves it there
+-- The reason why a walk stopped is the fault of the current items, or memory ran out. The walk does
+-- not write anything more.
 reported_here : (line : ℕ) (next : Next) (mid : PackedOutModel) (stop : WalkStop DraftFault) (s' : PackedOutModel) → StopsWalk PackedFills next mid stop s'
     → line ≡ first_line_at s'.index s'.subsets → IfDraftFault (stop_fault line stop) (IsFaultHere next mid)
 reported_here line next mid stop s' h1 h2 = grind (arith, nat_tests, common_steps)
@@ -453,12 +455,12 @@ reported_here line next mid stop s' h1 h2 = grind (arith, nat_tests, common_step
 packed_still : (next : Next) (mid : PackedOutModel) (stop : WalkStop DraftFault) (s' : PackedOutModel) → StopsWalk PackedFills next mid stop s' → s' ≡ mid
 packed_still next mid stop s' h1 = grind (arith, nat_tests, common_steps)
 
--- the bits of compressed data are those that are written
+-- Compressed data consist of the bits that are written.
 packed_data_is : (course : CountedCourse) (ss : List Subset) → data_bits true (uncounted course) ss ≡ bits_of_writing (writing_of true course ss)
 packed_data_is course [] = refl
 packed_data_is course (s ∷ more) = refl
 
--- a walk stopped, at its fault or where memory ran out
+-- The walk stopped at its fault, or because memory ran out.
 packed_stopped_at : (n : ℕ) (course : CountedCourse) (ss : List Subset) (walked : List TakenField) (mid : PackedOutModel) (o : DraftFault) (why : DocumentFault) (c' : ℕ) → AddsTurns course
     → 1 ≤ length ss → Takes (oks PackedFills) (uncounted course) (new_packed_out ss) walked mid → IfDraftFault o (IsFaultHere (course (answers_of walked)).next mid) → why ≡ document_fault o
     → c' ≡ ticked 0 (course (answers_of walked)).turns → c' ≤ n * (length mid.bits + 1) → IsNoData n true course ss why c'
@@ -472,7 +474,7 @@ packed_stopped_at n course (s ∷ more) walked mid o why c' g some h fault resul
     made
     (omega (arith, few, mul_most n (length mid.bits + 1) (length mid.bits - 0 + 1) (omega arith))))
 
--- the data were written
+-- The data were written.
 pub packed_written : (n : ℕ) (course : CountedCourse) (ss : List Subset) (start : PackedOutModel) (c : ℕ) (mid : PackedOutModel) (c' : ℕ) (octets : List ℕ) → start ≡ new_packed_out ss → 1 ≤ length ss
     → c ≡ 0 → Walked PackedFills course start c (Ok tt) mid c'
     → all_at_end (cells_at mid.index mid.subsets) ≡ Ok tt → c' ≤ c + n * (length mid.bits - length start.bits) → AreOctetsOf octets mid.bits → IsData n true course ss octets c'
@@ -494,7 +496,7 @@ packed_written n course (s ∷ more) start c mid c' octets at some z w e few o =
       );
     }
 
--- an item is left over
+-- An item remains after the end of the template.
 pub packed_over : (n : ℕ) (course : CountedCourse) (ss : List Subset) (start : PackedOutModel) (c : ℕ) (mid : PackedOutModel) (c' : ℕ) (e : DraftFault) (why : DocumentFault) → AddsTurns course
     → start ≡ new_packed_out ss → 1 ≤ length ss → c ≡ 0 → Walked PackedFills course start c (Ok tt) mid c'
     → all_at_end (cells_at mid.index mid.subsets) ≡ Err e → why ≡ document_fault e → c' ≤ c + n * (length mid.bits - length start.bits) → IsNoData n true course ss why c'
@@ -504,7 +506,7 @@ packed_over n course ss start c mid c' e why g at some z w fault results few =
     (w.3 ∙ ap (λ x. ticked x (course (answers_of w.0)).turns) z)
     (omega (arith, z, few, mul_most n (length mid.bits - length start.bits) (length mid.bits + 1) (omega arith)))
 
--- the walk stopped
+-- The walk stopped.
 pub packed_stopped : (n : ℕ) (course : CountedCourse) (ss : List Subset) (start : PackedOutModel) (c : ℕ) (s' : PackedOutModel) (c' line : ℕ) (stop : WalkStop DraftFault) (why : DocumentFault)
     → AddsTurns course → start ≡ new_packed_out ss → 1 ≤ length ss → c ≡ 0 → Walked PackedFills course start c (Err stop) s' c'
     → line ≡ first_line_at s'.index s'.subsets → why ≡ document_fault (stop_fault line stop) → c' ≤ c + n * (length s'.bits - length start.bits + 1)
@@ -521,12 +523,12 @@ packed_stopped n course ss start c s' c' line stop why g at some z w l results f
       mul_most n (length s'.bits - length start.bits + 1) (length w.1.bits + 1) (omega (arith, ap (λ (p : PackedOutModel). length p.bits) (packed_still next w.1 stop s' w.3))),
     ))
 
--- without subsets there are no data
+-- Without subsets, there are no data.
 pub none_packed : (n : ℕ) (course : CountedCourse) (ss : List Subset) (steps : ℕ) (octets : List ℕ) → ss ≡ [] → octets ≡ [] → steps ≡ 0 → IsData n true course ss octets steps
 unfolding bits_of
 none_packed n course ss steps octets h1 h2 h3 = grind (arith, nat_tests, common_steps)
 
--- a walk stays with its subsets
+-- A walk does not change its subsets.
 stays : (course : Course) (s : PackedOutModel) (walked : List TakenField) (s' : PackedOutModel) → Takes (oks PackedFills) course s walked s' → s'.subsets ≡ s.subsets
 stays course s walked s' h = (walk_of_rows 0 false course s walked s' h).0.subsets
 

@@ -1,4 +1,4 @@
--- Documents and what they are encoded to.
+-- Worked examples of documents and the messages that they are encoded to.
 use Rattle.std.proofs.Common.{◌≡◌, ℕ, List, [], ◌∷◌, ◌++◌, replicate, Result, Ok, Err, refl, codes, ℤ, pos}
 use Rattle.bufr_frame.specs.Prelude.{min_section_1}
 use Rattle.bufr_bits.specs.Prelude.{bits_of, bits_in, decimal_value_of}
@@ -18,12 +18,12 @@ use Rattle.bufr_walk.specs.declared.spec.TurnRefusal.TheVariants as walk
 unfoldable pub listed : (fxy : ℕ) → Kind → (scale reference : ℤ) → (width : ℕ) → Row
 listed fxy k s r w = record { fxy = fxy; name = []; unit = []; kind = k; scale = s; reference = r; width = w }
 
--- a block number, a name, a temperature, and a factor
+-- a table with a block number, a name, a temperature and a factor
 unfoldable pub table : List Row
 table = listed 0x0101 kind.Numeric (pos 0) (pos 0) 7 ∷ listed 0x010F kind.Character (pos 0) (pos 0) 160 ∷ listed 0x0C65 kind.Numeric (pos 2) (pos 0) 16 ∷ listed 0x1F01 kind.Numeric (pos 0) (pos 0) 8
     ∷ []
 
--- a document at line 1 without local use, whose data are observed
+-- a document that begins on line 1, with observed data and no octets for local use
 unfoldable pub document : (compressed subsets : ℕ) → List ℕ → List DraftEntry → Document
 document compressed subsets descriptors entries = record {
   line = 1;
@@ -46,7 +46,7 @@ text line fxy octets = Holds (draft line fxy (text_form octets))
 encoded : Document → Result (List ℕ) DocumentFault
 encoded d = encoding_of table [] d
 
--- a message of so many octets, from section 3 on
+-- the edition 4 message of this size, with these octets as sections 3 and 4
 message : (size : ℕ) → List ℕ → Result (List ℕ) DocumentFault
 message size sections = Ok (codes "BUFR" ++ 0 ∷ 0 ∷ size ∷ 4
     ∷ 0 ∷ 0 ∷ 0x16 ∷ 0 ∷ 0 ∷ 0x62 ∷ 0 ∷ 0 ∷ 0 ∷ 0 ∷ 0 ∷ 0 ∷ 0 ∷ 0x0E ∷ 0 ∷ 0x07 ∷ 0xE8 ∷ 1 ∷ 2 ∷ 3 ∷ 4 ∷ 5
@@ -60,7 +60,7 @@ documents_encoded :
     ≡ message 54 (0 ∷ 0 ∷ 0x0D ∷ 0 ∷ 0 ∷ 1 ∷ 0x80 ∷ 0x41 ∷ 0 ∷ 0x1F ∷ 1 ∷ 1 ∷ 1 ∷ 0 ∷ 0 ∷ 7 ∷ 0 ∷ 2 ∷ 0x14 ∷ 0x2C ∷ []))
     × (encoded (document 1 2 (0x0C65 ∷ []) (number 24 0x0C65 (codes "288.15") ∷ Ends 25 ∷ missing 26 0x0C65 ∷ Ends 27 ∷ []))
     ≡ message 50 (0 ∷ 0 ∷ 9 ∷ 0 ∷ 0 ∷ 2 ∷ 0xC0 ∷ 0x0C ∷ 0x65 ∷ 0 ∷ 0 ∷ 7 ∷ 0 ∷ 0x70 ∷ 0x8F ∷ 5 ∷ []))
-    -- no subset: the template is still looked at
+    -- If there are no subsets, the template is still checked.
     × (encoded (document 0 0 (0x0101 ∷ []) []) ≡ message 47 (0 ∷ 0 ∷ 9 ∷ 0 ∷ 0 ∷ 0 ∷ 0x80 ∷ 1 ∷ 1 ∷ 0 ∷ 0 ∷ 4 ∷ 0 ∷ []))
     × (encoded (document 0 0 (0x0102 ∷ []) []) ≡ Err (fault.Template 1 (template.UnknownElement 0x0102)))
     × (encoded (record {
@@ -73,27 +73,28 @@ documents_encoded :
     })
     ≡ Ok (codes "BUFR" ++ 0 ∷ 0 ∷ 56 ∷ 4 ∷ 0 ∷ 0 ∷ 0x18 ∷ 0 ∷ 0 ∷ 0x62 ∷ 0 ∷ 0 ∷ 0 ∷ 0x80 ∷ 0 ∷ 0 ∷ 0 ∷ 0x0E ∷ 0 ∷ 0x07 ∷ 0xE8 ∷ 1 ∷ 2 ∷ 3 ∷ 4 ∷ 5 ∷ 0xAB ∷ 0xCD
     ∷ 0 ∷ 0 ∷ 6 ∷ 0 ∷ 1 ∷ 2 ∷ 0 ∷ 0 ∷ 9 ∷ 0 ∷ 0 ∷ 1 ∷ 0x80 ∷ 1 ∷ 1 ∷ 0 ∷ 0 ∷ 5 ∷ 0 ∷ 0x14 ∷ codes "7777"))
-    -- a number with one octet more of data, and faults of numbers
+    -- the greatest number of an element, and numbers that the element cannot represent
     × (encoded (document 0 1 (0x0C65 ∷ []) (number 24 0x0C65 (codes "655.34") ∷ Ends 25 ∷ []))
     ≡ message 49 (0 ∷ 0 ∷ 9 ∷ 0 ∷ 0 ∷ 1 ∷ 0x80 ∷ 0x0C ∷ 0x65 ∷ 0 ∷ 0 ∷ 6 ∷ 0 ∷ 0xFF ∷ 0xFE ∷ []))
     × (encoded (document 0 1 (0x0C65 ∷ []) (number 24 0x0C65 (codes "655.35") ∷ Ends 25 ∷ [])) ≡ Err (fault.Item 24 wrong.OutOfRange))
     × (encoded (document 0 1 (0x0C65 ∷ []) (number 24 0x0C65 (codes "288.155") ∷ Ends 25 ∷ [])) ≡ Err (fault.Item 24 wrong.Number))
-    -- items that are not those of the template
+    -- items that do not match the template
     × (encoded (document 0 1 (0x0101 ∷ []) (number 24 0x0C65 (codes "5") ∷ Ends 25 ∷ [])) ≡ Err (fault.Item 24 ((wrong.WrongDescriptor (expected.Item 0x0101)))))
     × (encoded (document 0 1 (0x0101 ∷ []) (Ends 24 ∷ [])) ≡ Err (fault.Item 24 ((wrong.WrongDescriptor (expected.Item 0x0101)))))
     × (encoded (document 0 1 (0x0101 ∷ []) (number 24 0x0101 (codes "10") ∷ number 25 0x0101 (codes "10") ∷ Ends 26 ∷ [])) ≡ Err (fault.Item 25 item_too_many))
     × (encoded (document 0 1 (0x4100 ∷ 0x1F01 ∷ 0x0101 ∷ []) (missing 24 0x1F01 ∷ Ends 25 ∷ [])) ≡ Err (fault.Item 24 wrong.MissingForbidden))
     × (encoded (document 0 1 (0x010F ∷ []) (text 24 0x010F (replicate 21 65) ∷ Ends 25 ∷ [])) ≡ Err (fault.Item 24 wrong.TextLong))
-    -- items that cannot be packed
+    -- items that compressed data cannot represent
     × (encoded (document 1 2 (0x4100 ∷ 0x1F01 ∷ 0x0101 ∷ []) (number 24 0x1F01 (codes "1") ∷ number 25 0x0101 (codes "10") ∷ Ends 26 ∷ number 27 0x1F01 (codes "2") ∷ number 28 0x0101 (codes "10") ∷ number 29 0x0101 (codes "11") ∷ Ends 30 ∷ []))
     ≡ Err (fault.Item 27 wrong.UnequalFactor))
     × (encoded (document 1 2 (0x8540 ∷ []) (text 24 0x8540 (replicate 64 65) ∷ Ends 25 ∷ text 26 0x8540 (replicate 63 65 ++ 66 ∷ []) ∷ Ends 27 ∷ [])) ≡ Err (fault.Item 24 wrong.Increment))
-    -- the template, and the walk over it
+    -- faults in the template, and in the walk over it
     × (encoded (document 0 1 (0x8100 ∷ []) (Ends 24 ∷ [])) ≡ Err (fault.Template 1 (template.EmptyGroup 0x8100)))
     × (encoded (document 0 1 (0x8179 ∷ 0x0101 ∷ []) (number 24 0x0101 (codes "0") ∷ Ends 25 ∷ [])) ≡ Err (fault.Item 24 ((walk_refused (walk.Width 0x0101)))))
-    -- the template goes before the items
+    -- A fault in the template is reported before a fault in the items.
     × (encoded (document 0 1 (0x0101 ∷ 0x0102 ∷ []) (number 24 0x0C65 (codes "5") ∷ Ends 25 ∷ [])) ≡ Err (fault.Template 1 (template.UnknownElement 0x0102)))
-    -- edition 3: one octet of local use makes section 1 even, and sections 3 and 4 are made even
+    -- edition 3: with one octet for local use, section 1 is even; an octet is added to sections 3
+    -- and 4
     × (encoded (record {
       line = 1;
       header = 3 ∷ 0 ∷ 98 ∷ 0 ∷ 0 ∷ 0 ∷ 0 ∷ 0 ∷ 14 ∷ 0 ∷ 24 ∷ 1 ∷ 2 ∷ 3 ∷ 4 ∷ 0 ∷ 1 ∷ 0 ∷ 0 ∷ 1 ∷ [];
@@ -107,7 +108,7 @@ documents_encoded :
 unfolding listed table document number encoded message encoding_in tree_of level part_of inner_of next_item decimal_value_of bits_in bits_of missing text min_section_1
 documents_encoded = (refl, refl, refl, refl, refl, refl, refl, refl, refl, refl, refl, refl, refl, refl, refl, refl, refl, refl, refl, refl)
 
--- ---- How many turns the encoding of a document makes, computed from the definitions.
+-- ---- The number of turns in the encoding of a document, computed from the definitions.
 
 turns : Document → ℕ
 turns d = turns_by AsWritten table [] d
@@ -119,59 +120,61 @@ factor : (line : ℕ) → List ℕ → DraftEntry
 factor line digits = number line 0x1F01 digits
 
 turns_made :
-    -- an element and the end: fails where the end is no turn
+    -- an element and the end of the template: fails if the end is not a turn
     (turns (document 0 1 (0x0101 ∷ []) (block 24 (codes "10") ∷ Ends 25 ∷ [])) ≡ 2)
-    -- a group, its factor, twice an element and the end of a pass, and the end: fails where the ends of
-    -- passes are no turns
+    -- a group, its factor, two passes with an element and an end each, and the end of the template:
+    -- fails if the ends of passes are not turns
     × (turns (document 0 1 (0x4100 ∷ 0x1F01 ∷ 0x0101 ∷ []) (factor 24 (codes "2") ∷ block 25 (codes "10") ∷ block 26 (codes "11") ∷ Ends 27 ∷ [])) ≡ 7)
-    -- a group in a group, with one pass and with two: fails where a count serves all passes
+    -- a group in a group, with one pass and then with two: fails if one count is used for all
+    -- passes
     × (turns (document 0 1 (0x4300 ∷ 0x1F01 ∷ 0x4100 ∷ 0x1F01 ∷ 0x0101 ∷ [])
     (factor 24 (codes "2") ∷ factor 25 (codes "1") ∷ block 26 (codes "10") ∷ factor 27 (codes "2") ∷ block 28 (codes "11") ∷ block 29 (codes "12") ∷ Ends 30 ∷ [])) ≡ 15)
-    -- an operator is a turn, of fields too that a walk refuses, with an item or with none
+    -- an operator, and a field that a walk rejects, with or without an item: fails if one of them
+    -- is not a turn
     × (turns (document 0 1 (0x8179 ∷ 0x0101 ∷ []) (block 24 (codes "0") ∷ Ends 25 ∷ [])) ≡ 2)
     × (turns (document 0 1 (0x8179 ∷ 0x0101 ∷ []) (Ends 24 ∷ [])) ≡ 2)
-    -- an item that is refused ends the turns, itself one of them: fails where the rest of the template,
-    -- or of the items, counts
+    -- an item that is rejected, whose turn is the last: fails if any of the template or the items
+    -- after it counts
     × (turns (document 0 1 (0x4100 ∷ 0x1F01 ∷ 0x0101 ∷ []) (factor 24 (codes "3") ∷ block 25 (codes "10") ∷ block 26 (codes "1000") ∷ block 27 (codes "12") ∷ Ends 28 ∷ [])) ≡ 5)
     × (turns (document 0 1 (0x4100 ∷ 0x1F01 ∷ 0x0101 ∷ []) (factor 24 (codes "3") ∷ block 25 (codes "10") ∷ Ends 26 ∷ [])) ≡ 5)
     × (turns (document 0 1 (0x4100 ∷ 0x1F01 ∷ 0x0101 ∷ []) (missing 24 0x1F01 ∷ Ends 25 ∷ [])) ≡ 2)
     × (turns (document 0 1 (0x0101 ∷ 0x0101 ∷ []) (number 24 0x0C65 (codes "5") ∷ block 25 (codes "5") ∷ Ends 26 ∷ [])) ≡ 1)
-    -- an item too many comes after the end of the template
+    -- An item beyond the last one is rejected after the end of the template.
     × (turns (document 0 1 (0x0101 ∷ []) (block 24 (codes "10") ∷ block 25 (codes "10") ∷ Ends 26 ∷ [])) ≡ 2)
-    -- a pass for each subset: fails where the second begins with the turns of the first, and where
-    -- subsets after a refused one count
+    -- a pass for each subset: fails if the turns of the first subset count again in the second, or
+    -- if subsets after a rejected one count
     × (turns (document 0 2 (0x4100 ∷ 0x1F01 ∷ 0x0101 ∷ []) (factor 24 (codes "1") ∷ block 25 (codes "10") ∷ Ends 26 ∷ factor 27 (codes "0") ∷ Ends 28 ∷ [])) ≡ 8)
     × (turns (document 0 3 (0x0101 ∷ []) (block 24 (codes "10") ∷ Ends 25 ∷ block 26 (codes "x") ∷ Ends 27 ∷ block 28 (codes "10") ∷ Ends 29 ∷ [])) ≡ 3)
-    -- one pass for all subsets of compressed data: fails where each is a pass
+    -- one pass for all subsets of compressed data: fails if each subset is a pass
     × (turns (document 1 2 (0x0C65 ∷ []) (number 24 0x0C65 (codes "288.15") ∷ Ends 25 ∷ missing 26 0x0C65 ∷ Ends 27 ∷ [])) ≡ 2)
     × (turns (document 1 2 (0x4100 ∷ 0x1F01 ∷ 0x0101 ∷ []) (factor 24 (codes "1") ∷ block 25 (codes "10") ∷ Ends 26 ∷ factor 27 (codes "2") ∷ block 28 (codes "10") ∷ block 29 (codes "11") ∷ Ends 30 ∷ [])) ≡ 2)
     × (turns (document 1 2 (0x0101 ∷ []) (block 24 (codes "10") ∷ Ends 25 ∷ block 26 (codes "10") ∷ block 27 (codes "11") ∷ Ends 28 ∷ [])) ≡ 2)
-    -- no pass without a subset, and none without a template
+    -- There is no pass without a subset, and none without a template.
     × (turns (document 0 0 (0x0101 ∷ []) []) ≡ 0)
     × (turns (document 1 0 (0x0101 ∷ []) []) ≡ 0)
     × (turns (document 0 1 (0x0101 ∷ 0x0102 ∷ []) (block 24 (codes "10") ∷ Ends 25 ∷ [])) ≡ 0)
 unfolding turns block listed table document number tree_of level part_of inner_of next_item decimal_value_of bits_in factor missing min_section_1
 turns_made = (refl, refl, refl, refl, refl, refl, refl, refl, refl, refl, refl, refl, refl, refl, refl, refl, refl, refl)
 
--- ---- Documents and what they are encoded to in another form than they say.
+-- ---- Documents that are encoded in a form other than the one they specify.
 
 formed : Form → Document → Result (List ℕ) DocumentFault
 formed form d = encoding_in form table [] d
 
--- a message of so many octets, from section 3 on
+-- plain data that are compressed, and compressed data that are written plain
 -- rule: writes-form, form-option
 documents_formed :
     (formed Compressed (document 0 1 (0x4100 ∷ 0x1F01 ∷ 0x0101 ∷ []) (number 24 0x1F01 (codes "2") ∷ number 25 0x0101 (codes "10") ∷ number 26 0x0101 (codes "11") ∷ Ends 27 ∷ []))
     ≡ message 56 (0 ∷ 0 ∷ 0x0D ∷ 0 ∷ 0 ∷ 1 ∷ 0xC0 ∷ 0x41 ∷ 0 ∷ 0x1F ∷ 1 ∷ 1 ∷ 1 ∷ 0 ∷ 0 ∷ 9 ∷ 0 ∷ 2 ∷ 0 ∷ 0x50 ∷ 2 ∷ 0xC0 ∷ []))
     × (formed Plain (document 1 2 (0x0C65 ∷ []) (number 24 0x0C65 (codes "288.15") ∷ Ends 25 ∷ missing 26 0x0C65 ∷ Ends 27 ∷ []))
     ≡ message 51 (0 ∷ 0 ∷ 9 ∷ 0 ∷ 0 ∷ 2 ∷ 0x80 ∷ 0x0C ∷ 0x65 ∷ 0 ∷ 0 ∷ 8 ∷ 0 ∷ 0x70 ∷ 0x8F ∷ 0xFF ∷ 0xFF ∷ []))
-    -- and back
+    -- the same data, compressed again
     × (formed Compressed (document 0 2 (0x0C65 ∷ []) (number 24 0x0C65 (codes "288.15") ∷ Ends 25 ∷ missing 26 0x0C65 ∷ Ends 27 ∷ []))
     ≡ message 50 (0 ∷ 0 ∷ 9 ∷ 0 ∷ 0 ∷ 2 ∷ 0xC0 ∷ 0x0C ∷ 0x65 ∷ 0 ∷ 0 ∷ 7 ∷ 0 ∷ 0x70 ∷ 0x8F ∷ 5 ∷ []))
     × (formed Compressed (document 0 0 (0x0101 ∷ []) []) ≡ message 47 (0 ∷ 0 ∷ 9 ∷ 0 ∷ 0 ∷ 0 ∷ 0xC0 ∷ 1 ∷ 1 ∷ 0 ∷ 0 ∷ 4 ∷ 0 ∷ []))
     × (formed Compressed (document 0 2 (0x4100 ∷ 0x1F01 ∷ 0x0101 ∷ []) (number 24 0x1F01 (codes "1") ∷ number 25 0x0101 (codes "10") ∷ Ends 26 ∷ number 27 0x1F01 (codes "2") ∷ number 28 0x0101 (codes "10") ∷ number 29 0x0101 (codes "11") ∷ Ends 30 ∷ []))
     ≡ Err (fault.Item 27 wrong.UnequalFactor))
-    -- 2 03 010, 0 12 101, 2 03 255: references that differ
+    -- 2 03 010, 0 12 101, 2 03 255: reference values that differ between the subsets
     × (formed Compressed (document 0 2 (0x830A ∷ 0x0C65 ∷ 0x83FF ∷ []) (Holds (draft 24 0x0C65 (reference_token (codes "-400"))) ∷ Ends 25 ∷ Holds (draft 26 0x0C65 (reference_token (codes "-401"))) ∷ Ends 27 ∷ []))
     ≡ Err (fault.Item 24 wrong.Increment))
 unfolding listed table document number formed message encoding_in tree_of level part_of inner_of next_item decimal_value_of bits_in bits_of missing min_section_1

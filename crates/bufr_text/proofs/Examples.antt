@@ -1,4 +1,5 @@
--- Lines computed on examples, each rule beside its nearest wrong neighbour.
+-- Worked examples of lines and documents. Each valid example is next to a similar one that is
+-- invalid.
 use Rattle.std.proofs.Common.{◌≡◌, ℕ, List, [], ◌∷◌, ◌++◌, refl, codes, replicate, map, true, false, arith, drop, take, Some, None, pos, ◌+◌, inl}
 use Rattle.bufr_fill.specs.Prelude.{number_token, text_form, missing_form, reference_token, draft, Holds, Ends}
 use Rattle.bufr_text.specs.Prelude.{leasts, mosts, without_prefix, hex_read, fxy_read, descriptors_read, quoted_read, is_hashed, quoted, hex_text, descriptors_text, runs_after, Line, Passed, Header, Local1, Section2, Descriptors, Begins, ItemLine, Wrong, keys, value_read, worded, line_of, Opens, Closes, read_line, ParseResult, Complete, Refused, NotAllowed, SubsetCount, HeaderRange, line_step, parse_lines, lines_of, documents_of, Document, open_documents_of, split_of, parse_open_lines, item_text, local1_line, descriptors_line, text_of_lines, IsDumpable, dump_text_of, header_lines, subset_lines, item_entries, subset_entries, document_of, ls_line, AreEnded, IsProper, NumberedLine, numbered_line, numbered_lines, SubsetHeard, subsets_heard, entries_heard, IsDocument}
@@ -12,7 +13,7 @@ use Rattle.bufr_tables.specs.Prelude.{Row}
 use Rattle.bufr_tables.specs.declared.table_b.Kind.TheVariants as kind
 use Rattle.bufr_walk.specs.Prelude.{View, shown_number, shown_text}
 
--- an inserted text with a quote, a backslash, a line feed and an octet that is no character
+-- a text inserted by 2 05 004 with a quote, a backslash, a line feed and an octet above 127
 abbrev inserted : List ℕ
 inserted = 34 ∷ 92 ∷ 10 ∷ 254 ∷ []
 
@@ -25,8 +26,8 @@ all_said lines = map read_line lines
 ten : Line
 ten = ItemLine 257 (number_token (codes "10"))
 
--- the lines of a document, with these from the one of `centre` to that of `subsets`, and these
--- after them
+-- the text of a document with these `centre`, `optional` and `subsets` lines, and these lines after
+-- them
 abbrev document_with : (centre optional subsets : List ℕ) → (more : List (List ℕ)) → List ℕ
 document_with centre optional subsets more = text_of_lines (
     codes "message" ∷ codes "edition 4" ∷ codes "master 0" ∷ centre ∷ codes "subcentre 0" ∷ codes "update 0" ∷ codes "category 0"
@@ -39,7 +40,8 @@ none_with more = documents_of (document_with (codes "centre 98") (codes "optiona
 abbrev header_written : List ℕ
 header_written = 4 ∷ 0 ∷ 98 ∷ 0 ∷ 0 ∷ 0 ∷ 0 ∷ 0 ∷ 14 ∷ 0 ∷ 2024 ∷ 1 ∷ 2 ∷ 3 ∷ 4 ∷ 5 ∷ 1 ∷ 0 ∷ 1 ∷ 0 ∷ []
 
--- within a line: what is no line goes before a value past its range, and that before a count
+-- the results of a document with this `centre` line and without its subset; in one line, a syntax
+-- error is reported before a value out of range
 abbrev centre_with : List ℕ → List ParseResult
 centre_with centre = documents_of (document_with centre (codes "optional 0") (codes "subsets 1") (codes "end" ∷ []))
 
@@ -62,30 +64,31 @@ lines_read :
     × (all_said (
     (13 ∷ []) ∷ codes " " ∷ codes "message " ∷ codes "local1 ABC" ∷ codes "local1 " ∷ codes "local1" ∷ codes "descriptors" ∷ codes "descriptors  001001" ∷ codes "subset " ∷ codes "subset -1" ∷ codes "years 1" ∷ codes "end." ∷ [])
     ≡ Wrong ∷ Wrong ∷ Wrong ∷ Wrong ∷ Wrong ∷ Wrong ∷ Wrong ∷ Wrong ∷ Wrong ∷ Wrong ∷ Wrong ∷ Wrong ∷ [])
-    -- runs of 32 octets and of 8 descriptors are the most
+    -- A line has at most 32 octets, or at most 8 descriptors.
     × (all_said (local1_line (replicate 32 255) ∷ local1_line (replicate 33 255) ∷ descriptors_line (replicate 8 257) ∷ descriptors_line (replicate 9 257) ∷ [])
     ≡ Local1 (replicate 32 255) ∷ Wrong ∷ Descriptors (replicate 8 257) ∷ Wrong ∷ [])
-    -- 4,096 octets are the most, comment lines too
+    -- Lines have at most 4,096 octets, even comments.
     × (all_said ((35 ∷ replicate 4095 120) ∷ (35 ∷ replicate 4096 120) ∷ []) ≡ Passed ∷ Wrong ∷ [])
-    -- one space is after a descriptor, and no tab or second one
+    -- Exactly one space, and no tab, follows a descriptor. A line of blanks is invalid, but an
+    -- empty line is skipped.
     × (all_said (codes "001001 10" ∷ (codes "001001" ++ 9 ∷ codes "10") ∷ codes "001001  10" ∷ [] ∷ codes "  " ∷ (9 ∷ []) ∷ []) ≡ ten ∷ Wrong ∷ Wrong ∷ Passed ∷ Wrong ∷ Wrong ∷ [])
-    -- a carriage return is an octet of the line: it may come after `#` alone
+    -- A carriage return is part of the line, and is allowed only in a comment.
     × (all_said ((35 ∷ 13 ∷ []) ∷ (13 ∷ []) ∷ (codes "001001 10 #" ++ 13 ∷ []) ∷ (codes "001001 10" ++ 13 ∷ []) ∷ (codes "end" ++ 13 ∷ []) ∷ []) ≡ Passed ∷ Wrong ∷ ten ∷ Wrong ∷ Wrong ∷ [])
-    -- after a value, `#` comes after spaces, and nothing else comes
+    -- After a value, only a comment is allowed. At least one space comes before its `#`.
     × (all_said (codes "001001 10 #" ∷ codes "001001 10    # x" ∷ codes "001001 10#" ∷ codes "001001 10 x" ∷ codes "001001 10 " ∷ codes " # x" ∷ []) ≡ ten ∷ ten ∷ Wrong ∷ Wrong ∷ Wrong ∷ Wrong ∷ [])
-    -- two digits of either case for an octet
+    -- An octet has two hexadecimal digits, in upper or lower case.
     × (all_said (codes "local1 0aF9" ∷ codes "local1 0aF" ∷ codes "local1 0g" ∷ codes "section2 ff" ∷ codes "section2 f" ∷ codes "local1  0a" ∷ codes "local1 0a " ∷ [])
     ≡ Local1 (10 ∷ 249 ∷ []) ∷ Wrong ∷ Wrong ∷ Section2 (255 ∷ []) ∷ Wrong ∷ Wrong ∷ Wrong ∷ [])
-    -- a descriptor is six digits whose F, X and Y fit their bits, on every line
+    -- On every line, a descriptor has six digits, and its F, X and Y fit their bits.
     × (all_said (codes "descriptors 001001" ∷ codes "descriptors 0010010" ∷ codes "descriptors 00100" ∷ codes "descriptors 363255" ∷ codes "descriptors 364255" ∷ codes "descriptors 363256" ∷ codes "descriptors 463255" ∷ codes "363255 10" ∷ codes "363256 10" ∷ codes "0010010 10" ∷ [])
     ≡ Descriptors (257 ∷ []) ∷ Wrong ∷ Wrong ∷ Descriptors (65535 ∷ []) ∷ Wrong ∷ Wrong ∷ Wrong ∷ ItemLine 65535 (number_token (codes "10")) ∷ Wrong ∷ Wrong ∷ [])
-    -- in a text: escapes with upper-case digits, for any octet; nothing that cannot be printed; the
-    -- closing quote
+    -- In a text, any octet may be written as an escape with upper-case digits, and octets that are
+    -- not printed must be. The closing quote is required.
     × (all_said (
     (codes "205001 " ++ 34 ∷ 92 ∷ codes "x41" ++ 34 ∷ []) ∷ (codes "205001 " ++ 34 ∷ 92 ∷ codes "xaf" ++ 34 ∷ []) ∷ (codes "205001 " ++ 34 ∷ 92 ∷ codes "n" ++ 34 ∷ []) ∷ (codes "205001 " ++ 34 ∷ 126 ∷ 34 ∷ []) ∷ (codes "205001 " ++ 34 ∷ 127 ∷ 34 ∷ [])
     ∷ (codes "205001 " ++ 34 ∷ 254 ∷ 34 ∷ []) ∷ (codes "205001 " ++ 34 ∷ 65 ∷ []) ∷ (codes "205001 " ++ 34 ∷ 34 ∷ 34 ∷ []) ∷ [])
     ≡ ItemLine 0x8501 (text_form (65 ∷ [])) ∷ Wrong ∷ Wrong ∷ ItemLine 0x8501 (text_form (126 ∷ [])) ∷ Wrong ∷ Wrong ∷ Wrong ∷ Wrong ∷ [])
-    -- lines of octets and of descriptors may be short in the middle; their kinds come in order
+    -- Any line of octets or of descriptors may be short. The groups of lines have a fixed order.
     × (none_with (codes "local1 01" ∷ codes "local1 0203" ∷ codes "section2 04" ∷ codes "section2 0506" ∷ codes "descriptors 001001" ∷ codes "descriptors 012101 001001" ∷ codes "end" ∷ [])
     ≡ Complete (record { line = 1; header = header_written; local1 = 1 ∷ 2 ∷ 3 ∷ []; section2 = 4 ∷ 5 ∷ 6 ∷ []; descriptors = 257 ∷ 0x0C65 ∷ 257 ∷ []; entries = [] }) ∷ [])
     × (none_with (codes "section2 04" ∷ codes "local1 01" ∷ codes "end" ∷ []) ≡ Refused 23 NotAllowed ∷ [])
@@ -96,7 +99,7 @@ lines_read :
     × (centre_with (codes "subcentre 65536") ≡ Refused 4 NotAllowed ∷ [])
     × (none_with (codes "subset x" ∷ []) ≡ Refused 22 NotAllowed ∷ [])
     × (none_with (codes "subset 1" ∷ []) ≡ Refused 22 SubsetCount ∷ [])
-    -- lines are counted on over documents; a comment between them is counted
+    -- Line numbers continue in the next document, and comments between documents count.
     × (documents_of (document_with (codes "centre 98") (codes "optional 1") (codes "subsets 0") (codes "end" ∷ codes "# x" ∷ []) ++ document_with (codes "centre 98") (codes "optional 1") (codes "subsets 0") (codes "end" ∷ []))
     ≡ Complete (record { line = 1; header = header_written; local1 = []; section2 = []; descriptors = []; entries = [] })
     ∷ Complete (record { line = 24; header = header_written; local1 = []; section2 = []; descriptors = []; entries = [] }) ∷ [])
@@ -104,7 +107,7 @@ unfolding quoted line_of worded without_prefix fxy_read value_read quoted_read i
     parse_lines lines_of split_of line_step
 lines_read = (refl, refl, refl, refl, refl, refl, refl, refl, refl, refl, refl, refl, refl, refl, refl, refl, refl, refl, refl, refl, refl, refl, refl)
 
--- ---- The definitions computed on worked examples.
+-- ---- Whole documents.
 
 abbrev the_head : Head
 the_head = record {
@@ -135,7 +138,7 @@ block_row = record { fxy = 257; name = codes "WMO BLOCK NUMBER"; unit = codes "N
 abbrev block_number : List (List View)
 block_number = ((record { fxy = 257; entry = Some block_row; value = shown_number (pos 10) (pos 0) }) ∷ []) ∷ []
 
--- the header lines of a document, with these for `centre` and `subsets`
+-- the lines before the first subset, with these `centre` and `subsets` lines
 abbrev head_with : (centre subsets : List ℕ) → List (List ℕ)
 head_with centre subsets =
     codes "message" ∷ codes "edition 4" ∷ codes "master 0" ∷ centre ∷ codes "subcentre 0" ∷ codes "update 0" ∷ codes "category 0"
@@ -165,11 +168,12 @@ the_document_written = record {
   entries = Holds (draft 24 257 (number_token (codes "10"))) ∷ Ends 25 ∷ [];
 }
 
--- an empty line and a note before the subset, and no comment
+-- the document if an empty line and a comment line come before its subset
 abbrev noted_document : Document
 noted_document = record the_document_written { entries = Holds (draft 26 257 (number_token (codes "10"))) ∷ Ends 27 ∷ [] }
 
--- the lines of a document of edition 3, with these for `edition`, `centre` and `second`
+-- the lines before the first subset of an edition 3 document, with these `edition`, `centre` and
+-- `second` lines
 abbrev lines_3 : (edition centre second : List ℕ) → List (List ℕ)
 lines_3 edition centre second =
     codes "message" ∷ edition ∷ codes "master 0" ∷ centre ∷ codes "subcentre 0" ∷ codes "update 0" ∷ codes "category 0"
@@ -187,7 +191,7 @@ document_3 = record {
   entries = Holds (draft 25 257 (number_token (codes "10"))) ∷ Ends 26 ∷ [];
 }
 
--- the head of edition 4 fits its octets
+-- The header values fit in the octets of edition 4.
 the_head_fits : IsFitting the_head
 the_head_fits = record {
   edition = refl;
@@ -206,7 +210,7 @@ the_head_fits = record {
   );
 }
 
--- the message and its reading give what the law asks for
+-- The message can be dumped.
 one_is_dumpable : IsDumpable one_block_number block_number
 one_is_dumpable = record {
   head = the_head_fits;
@@ -231,27 +235,27 @@ documents_read :
     × (documents_of (text_of_lines (head_with (codes "centre 98") (codes "subsets 2") ++ item_lines)) ≡ Refused 25 SubsetCount ∷ [])
     × (documents_of (text_of_lines (take 24 (head_lines ++ item_lines))) ≡ Refused 25 NotAllowed ∷ [])
     × (open_documents_of (text_of_lines (take 24 (head_lines ++ item_lines))) ≡ [])
-    -- the last line may lack its line feed; while the end is not known it is not whole
+    -- The last line may lack its line feed, but only the end of input completes it.
     × (documents_of (text_of_lines (head_lines ++ take 2 item_lines) ++ codes "end") ≡ Complete the_document_written ∷ [])
     × (open_documents_of (text_of_lines (head_lines ++ take 2 item_lines) ++ codes "end") ≡ [])
-    -- between documents only `message` may come
+    -- Between documents, a header line is not allowed.
     × (documents_of (the_text ++ text_of_lines (codes "centre 98" ∷ [])) ≡ Complete the_document_written ∷ Refused 26 NotAllowed ∷ [])
-    -- edition 3: its ranges are what one octet holds, and 0 for what it lacks
+    -- edition 3: most values fit in one octet, and values that this edition lacks are 0
     × (documents_of (text_of_lines (lines_3 (codes "edition 3") (codes "centre 98") (codes "second 0") ++ item_lines)) ≡ Complete document_3 ∷ [])
     × (documents_of (text_of_lines (lines_3 (codes "edition 3") (codes "centre 256") (codes "second 0") ++ item_lines)) ≡ Refused 4 HeaderRange ∷ [])
     × (documents_of (text_of_lines (lines_3 (codes "edition 3") (codes "centre 98") (codes "second 5") ++ item_lines)) ≡ Refused 17 HeaderRange ∷ [])
     × (documents_of (text_of_lines (lines_3 (codes "edition 2") (codes "centre 98") (codes "second 0") ++ item_lines)) ≡ Refused 2 HeaderRange ∷ [])
     × (documents_of (text_of_lines (lines_3 (codes "edition 5") (codes "centre 98") (codes "second 0") ++ item_lines)) ≡ Refused 2 HeaderRange ∷ [])
-    -- a document of edition 4 that says edition 3 is refused at its year
+    -- An edition 4 document that declares edition 3 is rejected at its year.
     × (documents_of (text_of_lines (codes "message" ∷ codes "edition 3" ∷ drop 2 head_lines ++ item_lines)) ≡ Refused 12 HeaderRange ∷ [])
 unfolding header_lines subset_lines item_entries subset_entries keys leasts mosts digits runs_after hex_text descriptors_text quoted decimal_text_of unsigned_text parse_lines lines_of line_step
     line_of
     worded without_prefix descriptors_read fxy_read value_read quoted_read hex_read is_hashed parse_open_lines split_of
 documents_read = (refl, refl, refl, refl, refl, refl, refl, refl, refl, refl, refl, refl, refl, refl, refl, refl, refl, refl, refl)
 
--- ---- The listing line computed on a message.
+-- ---- The listing line of a message.
 
--- a message whose values all differ, so that each is in its place
+-- a message whose values are all different, so a swap of any two would be noticed
 abbrev all_different : Sections
 all_different = record {
   head = record {
@@ -287,9 +291,7 @@ different-listed : ls_line 4294967296 all_different ≡ codes "offset=4294967296
 unfolding digits
 different-listed = refl
 
--- ---- Documents that lines can spell, each beside its nearest wrong neighbour, and the lines of one.
-
--- ---- documents that lines can spell
+-- ---- Proper documents, each next to a similar one that is not proper.
 
 one_item : IsProper (document 0 1 (257 ∷ []) (number 24 257 (codes "10") ∷ Ends 25 ∷ []))
 unfolding document number keys leasts mosts
@@ -304,7 +306,7 @@ one_item = record {
   ended = tt;
 }
 
--- a subset less than `subsets` says
+-- one subset fewer than the `subsets` line declares
 one_of_two : IsProper (document 0 2 (257 ∷ []) (number 24 257 (codes "10") ∷ Ends 25 ∷ [])) → ⊥
 unfolding document number
 one_of_two h = omega (arith, h.counted)
@@ -314,21 +316,21 @@ no_end : AreEnded (Ends 24 ∷ number 25 257 (codes "10") ∷ []) → ⊥
 unfolding number
 no_end h = h
 
--- an octet of local use that is none
+-- a number among the octets for local use that is not an octet
 past_an_octet : (d : Document) → IsProper (record d { local1 = 256 ∷ [] }) → ⊥
 past_an_octet d h = omega (arith, h.local1.0)
 
 some-none : (x : ℕ) (more : List ℕ) → x ∷ more ≡ [] → ⊥
 some-none x more e = cc
 
--- octets of section 2, where `optional` is 0
+-- octets of section 2, although `optional` is 0
 no_section2 : IsProper (record (document 0 0 [] []) { section2 = 1 ∷ [] }) → ⊥
 unfolding document
 no_section2 h = some-none 1 [] (h.no_section2 refl)
 
--- ---- lines that are heard
+-- ---- Numbered lines.
 
--- comments and empty lines are counted, and passed over
+-- Comments and empty lines are skipped, but counted.
 passed_over : numbered_lines 21 (codes "# x" ∷ [] ∷ codes "subset 1" ∷ codes "001001 10  # x" ∷ codes "end" ∷ codes "x" ∷ [])
     ≡ numbered_line 23 (Begins 1) ∷ numbered_line 24 (ItemLine 257 (number_token (codes "10"))) ∷ numbered_line 25 Closes ∷ numbered_line 26 Wrong ∷ []
 unfolding numbered_lines line_of worded without_prefix fxy_read value_read is_hashed keys leasts mosts
@@ -337,17 +339,17 @@ passed_over = refl
 abbrev subset_at : (at : ℕ) → SubsetHeard
 subset_at at = record { at = at; items = record { at = at + 1; fxy = 257; form = number_token (codes "10") } ∷ [] }
 
--- a subset ends on the line that begins the next one, and the last on `end`
+-- A subset ends on the line that begins the next subset, and the last subset on the `end` line.
 two_ends : entries_heard (subset_at 23 ∷ subset_at 25 ∷ []) 27 ≡ number 24 257 (codes "10") ∷ Ends 25 ∷ number 26 257 (codes "10") ∷ Ends 27 ∷ []
 unfolding number
 two_ends = refl
 
--- subsets are numbered from one on
+-- Subsets are numbered from 1.
 two_subsets : subsets_heard 1 (subset_at 23 ∷ subset_at 25 ∷ [])
     ≡ numbered_line 23 (Begins 1) ∷ numbered_line 24 (ItemLine 257 (number_token (codes "10"))) ∷ numbered_line 25 (Begins 2) ∷ numbered_line 26 (ItemLine 257 (number_token (codes "10"))) ∷ []
 two_subsets = refl
 
--- ---- the lines of a document
+-- ---- The lines of a document.
 
 abbrev header_heard : List NumberedLine
 header_heard =

@@ -1,4 +1,5 @@
--- The document of an accepted message is encoded in a form; a canonical one to the same octets.
+-- The document of an accepted message is encoded in each form. The document of a canonical message
+-- is encoded to the same octets.
 use Rattle.std.proofs.lemmas.Bool.{ltb-false}
 use Rattle.std.proofs.Common.{◌≡◌, ℕ, ◌+◌, ◌≤◌, Bool, true, false, List, [], ◌∷◌, ◌++◌, length, take, drop, map, Result, Ok, Err, refl, sym, ◌∙◌, ap, subst, arith, append_assoc, ◌⊎◌, inl, inr, ◌*◌, nat_lt, if◌then◌else◌, flat_map, Vec, IfOk, IfErr}
 use Rattle.std.proofs.lemmas.Bool.Decides.{nat_tests}
@@ -30,7 +31,7 @@ use Rattle.bufr_fill.proofs.ReadsLemmas.{of_apart, form_is}
 
 -- ---- A canonical message is encoded to the same octets.
 
--- ---- one field of data that are not compressed
+-- ---- One field of plain data.
 
 record IsTaken (spec : FieldSpec) (bits mid : List Bool) (c : Content) : Type 0 where
   is : content_in spec (take spec.width bits) ≡ c
@@ -44,7 +45,7 @@ field_bits : (spec : FieldSpec) → IsSpec spec → (bits mid : List Bool) (c : 
     → bits ≡ bits_for spec.width c ++ mid
 field_bits spec h1 bits mid c h2 h3 = grind (arith, nat_tests, common_steps, take-append-drop, same_bits, enough, suffix)
 
--- ---- the items of one subset
+-- ---- The items of one subset.
 
 items_split : (course : Course) (items : List (Item Content)) (bits suffix : List Bool) → AllFields items → ReadsItems plain course items bits suffix → HaveNoMinusZero items bits
     → bits ≡ flat_map item_bits items ++ suffix
@@ -54,7 +55,7 @@ items_split course (i ∷ items) bits suffix fields h plus =
     let rest = items_split (after plain course i) items h.0 suffix fields.1 h.3 (subst (HaveNoMinusZero items) t.suffix plus.1) in
     field_bits i.spec fields.0.spec bits h.0 i.content t plus.0 ∙ ap (λ x. item_bits i ++ x) rest ∙ sym (append_assoc (item_bits i) (flat_map item_bits items) suffix)
 
--- ---- subsets
+-- ---- The items of all subsets.
 
 first_zeros : (course : Course) (a b : List (Item Content)) (bits mid : List Bool) → ReadsItems plain course a bits mid → HaveNoMinusZero (a ++ b) bits → HaveNoMinusZero a bits × HaveNoMinusZero b mid
 first_zeros course [] b bits mid h plus = (tt, subst (HaveNoMinusZero b) h plus)
@@ -70,16 +71,16 @@ subset_split course items subsets bits mid suffix fields r rest plus =
     let zeros = first_zeros course items (flat_map (λ x. x) subsets) bits mid r plus in
     items_split course items bits mid fields r zeros.0 ∙ ap (λ x. flat_map item_bits items ++ x) (rest zeros.1) ∙ sym (append_assoc (flat_map item_bits items) (subset_bits subsets) suffix)
 
--- ---- compressed data
+-- ---- Compressed data.
 
 rows_split : (items : List (Item (List Content))) (bits suffix : List Bool) → ArePacked items bits suffix → bits ≡ flat_map row_bits items ++ suffix
 rows_split [] bits suffix c = c
 rows_split (i ∷ items) bits suffix c =
     c.3 ∙ ap (λ w. w ++ c.1) (sym (ap bits_or_none c.2)) ∙ ap (λ x. row_bits i ++ x) (rows_split items c.1 suffix c.4) ∙ sym (append_assoc (row_bits i) (flat_map row_bits items) suffix)
 
--- ---- the message
+-- ---- The whole message.
 
--- the data are written to the bits that come before the rest
+-- The result is these bits without the suffix.
 record AreFilled (r : Result (List Bool) DraftFault) (bits suffix : List Bool) : Type 0 where
   out : List Bool
   fills : r ≡ Ok out
@@ -133,9 +134,10 @@ canonical_encoded table sequences m s template values used at rows legal a c =
     ∙ ap (λ (o : List ℕ). message_octets s.head (parts_with s o)) (sym payload)
     ∙ written-again m s c.plain a.sections)
 
--- ---- the data
+-- ---- The data in a form.
 
--- the bits that are written for a message's values in a form, and what is read from them
+-- the bits that are written for a message's values in a form, and the values that are read from
+-- them
 record IsFilled (b : Bool) (table : List Row) (template : Tree) (s : Sections) (values : Values) (entries : List DraftEntry) : Type 0 where
   found : Values
   out : List Bool
@@ -151,7 +153,7 @@ record IsUnfilled (table : List Row) (template : Tree) (entries : List DraftEntr
   unlike : IsUnlike why
 
 module _ (table : List Row) (template : Tree) (s : Sections) (used at : ℕ) (rows : AreRead table) (legal : IsLegal template) where
-  -- in the form that the message has
+  -- The values are written in the message's own form.
   in_own_form : (b : Bool) (values : Values) → s.compressed ≡ b → HasReading (next_item table template) (data_of s) values used
       → IsFilled b table template s values (subset_entries at (dump_items table s.subsets values))
   in_own_form b values own read =
@@ -193,7 +195,7 @@ module _ (table : List Row) (template : Tree) (s : Sections) (used at : ℕ) (ro
         each = ap (λ n. subsets_from n 0 x.0) (sym count) ∙ x.1;
       })
 
--- ---- the message
+-- ---- The message in a form.
 
 unfoldable parts_for : Bool → Sections → List ℕ → MessageParts
 parts_for b s payload = parts_of s.local1 s.section2 s.descriptors s.subsets s.observed b payload
@@ -217,7 +219,7 @@ bits_few m s e few =
 
 module _ (form : Form) (table : List Row) (sequences : List Sequence) (m : List ℕ) (s : Sections) (template : Tree) (values : Values) (used at : ℕ)
     (a : IsAccepted table sequences m s template values used) where
-  -- a message that is not too long has the reading
+  -- If the message is not too long, it has the same reading.
   has_reading : (f : IsFilled (compressed_by form s.compressed) table template s values (subset_entries (at + lines_before s) (dump_items table s.subsets values)))
       → message_size s.head.edition (parts_for (compressed_by form s.compressed) s (octets_of_bits f.out)) ≤ max_octets
       → HasReadingIn form table s template values (message_octets s.head (parts_for (compressed_by form s.compressed) s (octets_of_bits f.out)))
@@ -244,7 +246,7 @@ module _ (form : Form) (table : List Row) (sequences : List Sequence) (m : List 
   abbrev encoded : Result (List ℕ) DocumentFault
   encoded = encoding_in form table sequences (document_of at s (dump_items table s.subsets values))
 
-  -- the data are written: nothing is at fault but the length
+  -- If the data can be written, the only possible fault is the length of the message.
   written : IsForForm form (fault.TooLong at) → IsFilled (compressed_by form s.compressed) table template s values (subset_entries (at + lines_before s) (dump_items table s.subsets values))
       → IsFormed form table s template values encoded
   written long f = subst (IsFormed form table s template values) (sym is) (by (nat_lt max_octets (message_size s.head.edition parts)) refl)
@@ -266,7 +268,7 @@ module _ (form : Form) (table : List Row) (sequences : List Sequence) (m : List 
       by true e = long
       by false e = has_reading f (ltb-false max_octets (message_size s.head.edition parts) e)
 
--- an item is at fault
+-- If the data cannot be written, the document has the fault of an item.
 not_written : (table : List Row) (sequences : List Sequence) (m : List ℕ) (s : Sections) (template : Tree) (values : Values) (used at : ℕ) → IsAccepted table sequences m s template values used
     → IsUnfilled table template (subset_entries (at + lines_before s) (dump_items table s.subsets values))
     → IsFormed form.Compressed table s template values (encoding_in form.Compressed table sequences (document_of at s (dump_items table s.subsets values)))
@@ -281,7 +283,8 @@ as_it_is : (table : List Row) (m : List ℕ) (s : Sections) (template : Tree) (v
     → IsFormed form.AsWritten table s template values (encoding_in form.AsWritten table sequences (document_of at s (dump_items table s.subsets values)))
 as_it_is table m s template values used at sequences h1 h2 = grind (arith, nat_tests, common_steps)
 
--- the document of an accepted message, in each form
+-- In each form, the document of an accepted message is encoded to a message with the same items, or
+-- it has a fault that is possible in this form.
 pub formed : (form : Form) (table : List Row) (sequences : List Sequence) (m : List ℕ) (s : Sections) (template : Tree) (values : Values) (used at : ℕ) → AreRead table → IsLegal template
     → IsAccepted table sequences m s template values used
     → IsFormed form table s template values (encoding_in form table sequences (document_of at s (dump_items table s.subsets values)))
@@ -297,15 +300,15 @@ formed form.Compressed table sequences m s template values used at rows legal a 
     by (inl f) = written form.Compressed table sequences m s template values used at a tt f
     by (inr f) = not_written table sequences m s template values used at a f
 
--- ---- the faults that are answered
+-- ---- The faults that the code reports.
 
--- what is answered is what the definition says
+-- A fault that the code reports is possible in the form, or memory ran out.
 pub answered : (form : Form) (table : List Row) (s : Sections) (template : Tree) (values : Values) (defined : Result (List ℕ) DocumentFault) (why : DocumentFault)
     → IsFormed form table s template values defined → IsDocumentRefusal why defined → IsFaultIn form why
 answered form table s template values defined why h (inl out) = inl out
 answered form table s template values defined why h (inr is) = inr (subst (IsFormed form table s template values) is h)
 
--- the document of a message that a table of records accepts
+-- the same for a table that was read from records
 pub formed_of : (form : Form) (records : List Record) (table : List Row) (sequences : List Sequence) (m : List ℕ) (s : Sections) (template : Tree) (values : Values) (used at : ℕ) (d : Document)
     → AreRows records table → IsAccepted table sequences m s template values used
     → d ≡ document_of at s (dump_items table s.subsets values) → IsFormed form table s template values (encoding_in form table sequences d)
@@ -319,7 +322,7 @@ pub form_so : (form : Form) (table : List Row) (s : Sections) (template : Tree) 
 form_so form table s template values defined (Ok octets) ok err h = subst (IsFormed form table s template values) ok h
 form_so form table s template values defined (Err why) ok err h = answered form table s template values defined why h err
 
--- what is encoded is refused for nothing else
+-- A document that can be encoded is rejected only if memory runs out.
 pub memory_alone : (why : DocumentFault) (defined : Result (List ℕ) DocumentFault) (octets : List ℕ) → defined ≡ Ok octets → IsDocumentRefusal why defined → why ≡ fault.Memory
 memory_alone why defined octets is (inl out) = out
 memory_alone why defined octets is (inr refused) = let both : ◌≡◌ {A = Result (List ℕ) DocumentFault} (Ok octets) (Err why) = sym is ∙ refused in cc
@@ -333,10 +336,9 @@ again_so table sequences m s template values d (Ok octets) ok err h =
     subst (HasSameReading table m s template values) is h.same
 again_so table sequences m s template values d (Err why) ok err h = memory_alone why _ h.octets h.is err
 
--- A message in another form is accepted, and its dump text differs in the flag alone. From it a
--- canonical message comes back in its own form.
+-- ---- A canonical message is encoded in another form, and back to the same octets.
 
--- in the form that is asked for, a document is encoded alike whatever it says of its form
+-- If a form is requested, the compression flag of the document makes no difference.
 in_the_form : (table : List Row) (sequences : List Sequence) (at : ℕ) (s : Sections) (said flag : Bool) (items : List (List View))
     → encoding_in (form_of_flag flag) table sequences (document_of at (record s { compressed = said }) items) ≡ encoding_of table sequences (document_of at (record s { compressed = flag }) items)
 unfolding encoding_in

@@ -1,4 +1,5 @@
--- What a line says is of octets; the values of a header; the state after each line.
+-- The contents of a line are octets and descriptors. The header values fit in section 1. The state
+-- of the parser is valid after every line.
 use Rattle.bufr_text.proofs.LineLemmas.{both}
 use Rattle.bufr_fill.proofs.EntryLemmas.{length-prepended}
 use Rattle.std.proofs.Common.{◌≡◌, ℕ, ◌+◌, List, [], ◌∷◌, ◌++◌, length, refl, ap, ◌∙◌, subst, sym, arith, zero, suc, ◌-◌, ◌*◌, ◌<◌, ◌≤◌, ◌==◌, nat_le, nat_lt, Bool, true, false, Option, Some, None, codes, if◌then◌else◌, length-append, cond, map, take, drop, get_or, ◌&&◌, not, IfSome, slice_index, option_map, position}
@@ -16,7 +17,7 @@ use Rattle.bufr_frame.proofs.AgainLemmas.{at-most, by-third}
 use Rattle.std.proofs.lemmas.Iterator.Adapters.{position_from-zero}
 use Rattle.std.proofs.lemmas.Grind.{common_steps}
 
--- the document with one more part
+-- a document to which a header value, octets or descriptors are appended
 abbrev pub with_value : Document → ℕ → Document
 with_value d value = record d { header = d.header ++ value ∷ [] }
 
@@ -29,13 +30,13 @@ with_section2 d octets = record d { section2 = d.section2 ++ octets }
 abbrev pub with_descriptors : Document → List ℕ → Document
 with_descriptors d words = record d { descriptors = d.descriptors ++ words }
 
--- ---- The entries of a document, and the subsets that they are.
+-- ---- The entries of a document, and its subsets.
 
 pub all-more : {X : Type 0} (P : X → Type 0) (a b : List X) → AllByRecursion P a → AllByRecursion P b → AllByRecursion P (a ++ b)
 all-more P [] b x y = y
 all-more P (first ∷ a) b x y = (x.0, all-more P a b x.1 y)
 
--- an item ends no subset, and an end ends one
+-- An item ends no subset. An end ends one subset.
 pub item-ends-none : (es : List DraftEntry) (item : Draft) → length (subsets_of (es ++ Holds item ∷ [])) ≡ length (subsets_of es)
 item-ends-none [] item = refl
 item-ends-none (Holds first ∷ es) item = length-prepended first (subsets_of (es ++ Holds item ∷ [])) ∙ item-ends-none es item ∙ sym (length-prepended first (subsets_of es))
@@ -51,7 +52,7 @@ ends-last (Holds item ∷ next ∷ more) at = ends-last (next ∷ more) at
 ends-last (Ends line ∷ next ∷ more) at = ends-last (next ∷ more) at
 ends-last es at = tt
 
--- the texts of the subsets
+-- If every text in the entries consists of octets, so does every text in the subsets.
 onto-octets : (item : Draft) (ss : List Subset) → HasOctets item.form → AllHaveOctets ss → AllHaveOctets (prepend_to_subset item ss)
 onto-octets item [] h all = tt
 onto-octets item (s ∷ ss) h (first, all) = ((h, first), all)
@@ -61,13 +62,13 @@ drafts-octets [] all = tt
 drafts-octets (Holds item ∷ es) (h, all) = onto-octets item (subsets_of es) h (drafts-octets es all)
 drafts-octets (Ends line ∷ es) (h, all) = (tt, drafts-octets es all)
 
--- nothing was read after the header
+-- If nothing was read after the header, the groups of lines are valid.
 pub written-bare : (d : Document) → IsBare d → HasLineGroups d
 written-bare d h1 = grind (arith, nat_tests, common_steps)
 
--- ---- What a line says is of octets and of descriptors.
+-- ---- The contents of a line are octets and descriptors.
 
--- what a line says is of octets and of descriptors
+-- The contents of the line are octets, descriptors or a text that consists of octets.
 abbrev pub IsSound : Line → Type 0
 IsSound (Local1 octets) = AllByRecursion IsOctet octets
 IsSound (Section2 octets) = AllByRecursion IsOctet octets
@@ -95,7 +96,8 @@ hex-octets (high ∷ low ∷ more) = onto-all IsOctet (pair_value (either_value 
     (pair-octet (either_value high) (either_value low) (either-digit high) (either-digit low)) (hex-octets more)
 hex-octets text = tt
 
--- descriptors
+-- ---- Descriptors.
+
 fxy-fits : (text : List ℕ) → is_fxy text ≡ true → 16384 * f_in text + 256 * x_in text + y_in text < 65536
 fxy-fits text h1 = grind (arith, nat_tests, common_steps, and_first, and_second)
 
@@ -108,7 +110,8 @@ descriptors-words (s ∷ a ∷ b ∷ c ∷ d ∷ e ∷ g ∷ more) =
     (if-some IsDescriptorWord (is_fxy word) (Some (16384 * f_in word + 256 * x_in word + y_in word)) None (fxy-fits word) (λ _. tt)) (descriptors-words more)) (λ _. tt)
 descriptors-words text = tt
 
--- texts
+-- ---- Quoted texts.
+
 abbrev SaysOctet : QuotedToken → Type 0
 SaysOctet (Octet octet written) = octet < 256
 SaysOctet other = Unit {0}
@@ -126,7 +129,8 @@ quoted-octets skip [] = tt
 quoted-octets (suc skip) (c ∷ more) = quoted-octets skip more
 quoted-octets zero (c ∷ more) = quoted-on (quoting_of (c ∷ more)) more (λ skip. quoted_read skip more) (quoting-says (c ∷ more)) (λ skip. quoted-octets skip more)
 
--- values
+-- ---- Values.
+
 text-sound : (read : Option (List ℕ × List ℕ)) → IfSome read (λ r. AreOctets (r.0)) → IfSome {T = DraftValue × List ℕ} (option_map (λ read. (text_form (read.0), read.1)) read) (λ r. HasOctets (r.0))
 text-sound (Some read) h = h
 text-sound None h = tt
@@ -151,7 +155,8 @@ value-sound : (text : List ℕ) → IfSome (value_read text) (λ r. HasOctets (r
 unfolding value_read
 value-sound text = grind (arith, nat_tests, common_steps, if-some, text-sound, quoted-octets, number-sound, missing-sound)
 
--- lines
+-- ---- Whole lines.
+
 if-line : (b : Bool) (x y : Line) → IsSound x → IsSound y → IsSound (if b then x else y)
 if-line true x y p q = p
 if-line false x y p q = q
@@ -202,7 +207,8 @@ line-sound line = grind (arith, nat_tests, common_steps, if-line, item-line-soun
 pub said-sound : (line : List ℕ) → IsSound (read_line line)
 said-sound line = if-line (nat_lt 4096 (length line)) Wrong (line_of line) tt (line-sound line)
 
--- a value is at most the greatest of its key
+-- ---- A header value is at most the greatest value of its key.
+
 below : (a b c : ℕ) → (nat_le a b && nat_le b c) ≡ true → b ≤ c
 below a b c h = let le : nat_le b c ≡ true = and_second (nat_le a b) (nat_le b c) h in grind (arith, nat_tests, le)
 
@@ -224,7 +230,7 @@ pub subsets-few : (d : Document) → IsHeaded d → (header_in d).subsets < 6553
 unfolding mosts
 subsets-few d h = let most : slice_index d.header 19 ≤ 65535 = header-most d 19 h in omega (arith, most)
 
--- no range of edition 3 is wider than that of edition 4
+-- No greatest value of edition 3 is above that of edition 4.
 none-above : List ℕ → List ℕ → Bool
 none-above [] bs = true
 none-above (a ∷ xs) [] = false
@@ -241,7 +247,7 @@ widest : (e i : ℕ) → slice_index (mosts e) i ≤ slice_index (mosts 4) i
 unfolding none-above mosts
 widest e i = by-third (λ l. slice_index (4 ∷ l ++ 1 ∷ 1 ∷ 1 ∷ 65535 ∷ []) i ≤ slice_index (mosts 4) i) e (no-wider (mosts 3) (mosts 4) i refl) (omega arith)
 
--- the greatest values of another edition than 3 are those of edition 4
+-- Any edition other than 3 has the greatest values of edition 4.
 pub mosts-of-4 : (e : ℕ) → (e ≡ 3 → ⊥) → mosts e ≡ mosts 4
 unfolding mosts
 mosts-of-4 e other =
@@ -252,7 +258,8 @@ mosts-of-4 e other =
 pub header-widest : (d : Document) (i : ℕ) → IsHeaded d → slice_index d.header i ≤ slice_index (mosts 4) i
 header-widest d i h = omega (arith, header-most d i h, widest (header_in d).head.edition i)
 
--- the head can be written
+-- ---- The header values fit in section 1.
+
 value-least : (e : ℕ) (xs : List ℕ) → 0 < length xs → are_in_range e 0 xs ≡ true → in_range e 0 (slice_index xs 0) ≡ true
 value-least e [] some h = absurd (omega (arith, some))
 value-least e (x ∷ xs) some h = and_first (in_range e 0 x) (are_in_range e 1 xs) h
@@ -288,7 +295,9 @@ headed-fits d h = record {
   );
 }
 
--- one more value in its range
+-- ---- The state of the parser after a line.
+
+-- A list of values in their ranges can be extended by a value in the range of the next key.
 ranges-more : (e k : ℕ) (xs : List ℕ) (v : ℕ) → are_in_range e k xs ≡ true → in_range e (k + length xs) v ≡ true → are_in_range e k (xs ++ v ∷ []) ≡ true
 ranges-more e k [] v h g =
     let same : k + 0 ≡ k = omega arith in
@@ -298,7 +307,7 @@ ranges-more e k (x ∷ xs) v h g =
     both (in_range e k x) (are_in_range e (k + 1) (xs ++ v ∷ [])) (and_first (in_range e k x) (are_in_range e (k + 1) xs) h)
     (ranges-more e (k + 1) xs v (and_second (in_range e k x) (are_in_range e (k + 1) xs) h) (ap (λ (n : ℕ). in_range e n v) same ∙ g))
 
--- the range of the edition itself goes by no edition
+-- The range of the edition is the same in every edition.
 pub any-edition : (a b v : ℕ) → in_range a 0 v ≡ in_range b 0 v
 unfolding mosts
 any-edition a b v = refl
@@ -363,7 +372,7 @@ before_subsets-so at part d line h1 h2 h3 h4 h5 = grind (arith, nat_tests, commo
 one-entry : (d : Document) (entry : DraftEntry) → length (with_entry d entry).entries ≡ length d.entries + 1
 one-entry d entry = omega (arith, length-append d.entries (entry ∷ []))
 
--- one more entry leaves the other parts
+-- Another entry does not change the other parts of a document.
 still-headed : (d : Document) (entry : DraftEntry) → IsHeaded d → IsHeaded (with_entry d entry)
 still-headed d entry h = record { whole = h.whole; ranges = h.ranges }
 
@@ -400,7 +409,7 @@ in_subset-so at subset d Closes sound h lines few written (ended, is, has) =
     (by-number subset ended (with_entry d (Ends at)) is (one-more at ended d has)) (ends-last d.entries at)
 in_subset-so at subset d line sound h lines few written has = tt
 
--- what holds before a line holds after it
+-- If the state of the parser is valid before a line, it is valid after this line, too.
 pub line_step-holds : (at : ℕ) (parsing : Parsing) (line : Line) → 0 < at → IsSound line → IsParsing at parsing → IsLineStep (at + 1) (line_step at parsing line)
 unfolding line_step
 line_step-holds at (Between, d) Passed some sound s = s
@@ -414,13 +423,13 @@ line_step-holds at (Filling subset, d) line some sound s = in_subset-so at subse
 line_step-holds at (Stopped, d) line some sound s = absurd s
 line_step-holds at parsing line some sound s = tt
 
--- ---- The table of the keys of the header, beside its definition.
+-- ---- The code's table of header keys matches the definition.
 
--- what is before the value of a key has the key's name and no other
+-- The lead of a key contains the name of this key.
 named : (key : List ℕ) (name : List ℕ) → is_named (lead_of key) name ≡ bytes_eq name key
 named key name = grind (arith, nat_tests, common_steps)
 
--- the index of a key is that of what is before its value
+-- A key has the same index in the code's table as in the definition.
 module _ {Row : Type 0} (lead : Row → List ℕ) (name : List ℕ) where
   places : (at : ℕ) (rows : List Row) (ks : List (List ℕ)) → map lead rows ≡ map lead_of ks → position_from (λ row. is_named (lead row) name) at rows ≡ position_from (bytes_eq name) at ks
   places at [] [] same = refl
@@ -436,7 +445,7 @@ module _ {Row : Type 0} (lead : Row → List ℕ) (name : List ℕ) where
   pub key_index-is : (rows : List Row) → map lead rows ≡ map lead_of keys → position (λ row. is_named (lead row) name) rows ≡ position_from (bytes_eq name) 0 keys
   key_index-is rows same = position_from-zero (λ row. is_named (lead row) name) rows ∙ places 0 rows keys same
 
--- what is before a value has the key's name and a space after its first octet
+-- The lead of a key, without its first octet, is the key's name and a space.
 module _ {Row : Type 0} (lead : Row → List ℕ) where
   lead_at : (rows : List Row) (ks : List (List ℕ)) (i : ℕ) (d : Row) → map lead rows ≡ map lead_of ks → i < length rows → lead (get_or rows i d) ≡ lead_of (get_or ks i [])
   lead_at [] ks i d same below = absurd (omega (arith, below))
@@ -460,7 +469,7 @@ module _ {Row : Type 0} (lead : Row → List ℕ) where
 
 pub ruleset octet_steps = (header-widest)
 
--- what a table says of a key
+-- a value from a row of the table
 pub at-key : {X : Type 0} (f : X → ℕ) (rows : List X) (k : ℕ) (none : X) → k < length rows → f (get_or rows k none) ≡ slice_index (map f rows) k
 at-key f [] k none h = absurd (omega (arith, h))
 at-key f (x ∷ rows) zero none h = refl

@@ -1,4 +1,4 @@
--- How a line is taken apart: its word, descriptors, digits and quoted texts.
+-- How a line is split into its word, descriptors, hexadecimal digits and quoted texts.
 use Rattle.std.proofs.lemmas.List.Sums.{prefix_len-drop_yes, prefix_len-drop_no, prefix_len-drop_all}
 use Rattle.std.proofs.Common.{◌≡◌, ℕ, zero, suc, ◌+◌, ◌-◌, ◌<◌, ◌≤◌, ◌==◌, Bool, true, false, List, [], ◌∷◌, ◌++◌, length, take, drop, refl, sym, ap, ◌∙◌, arith, Option, Some, None, append-nil, append_assoc, if◌then◌else◌, ◌&&◌, not, codes, ◌*◌, ◌%◌, nat_le, nat_lt, length-drop, length-set, length-take, subst, slice_index, option_map, MatchOption, slice_set, unwrap_or, ◌||◌}
 use Rattle.std.specs.Borrow.{Bor}
@@ -16,7 +16,7 @@ use Rattle.std.specs.Char.{is_ascii_digit}
 use Rattle.std.proofs.Math.Seq.{drop-nil}
 use Rattle.bufr_text.proofs.LineLemmas.{octet_onto}
 
--- the descriptors that were read are a prefix of `out`
+-- The first `count` descriptors of the text were read into `out`.
 pub record IsDescribing (text out : List ℕ) (count : ℕ) : Type 0 where
   pub within : 7 * count ≤ length text
   pub some : 0 < length text
@@ -24,25 +24,25 @@ pub record IsDescribing (text out : List ℕ) (count : ℕ) : Type 0 where
   pub room : length out ≡ 8
   pub read : descriptors_read text ≡ option_map (λ more. take count out ++ more) (descriptors_read (drop (7 * count) text))
 
--- the octets that were read are a prefix of `out`
+-- The first `count` octets that the text represents were read into `out`.
 pub record IsUnhexing (text out : List ℕ) (count : ℕ) : Type 0 where
   pub within : 2 * count ≤ length text
   pub room : length text ≤ 2 * length out
   pub read : hex_read text ≡ option_map (λ more. take count out ++ more) (hex_read (drop (2 * count) text))
 
--- octets that were read, before what is read on
+-- prepends octets to the result of reading; a failure stays
 abbrev pub octets_onto : List ℕ → Option (List ℕ × List ℕ) → Option (List ℕ × List ℕ)
 octets_onto octets None = None
 octets_onto octets (Some read) = Some (octets ++ read.0, read.1)
 
--- what was read is a prefix of `out`
+-- The first `count` octets of a quoted text were read into `out`; the next octet is at index `at`.
 pub record IsUnquoting (text out : List ℕ) (count at : ℕ) : Type 0 where
   pub few : count ≤ at
   pub within : at ≤ length text
   pub room : length text ≤ length out
   pub read : quoted_read 0 text ≡ octets_onto (take count out) (quoted_read 0 (drop at text))
 
--- the octets of a token that were passed come first
+-- The octets before index `at` are part of the token.
 pub record IsTokenTo (text : List ℕ) (at : ℕ) : Type 0 where
   pub within : at ≤ length text
   pub ahead : prefix_len is_number_octet text ≡ at + prefix_len is_number_octet (drop at text)
@@ -58,7 +58,8 @@ fxy-few text h1 = grind (arith, nat_tests, common_steps)
 
 pub ruleset by_six = (fxy-six, fxy-few)
 
--- words
+-- ---- Words.
+
 pub word-there : (word text : List ℕ) → bytes_eq (take (length word) text) word ≡ true → without_prefix word text ≡ Some (drop (length word) text)
 unfolding without_prefix
 word-there [] text h = refl
@@ -81,7 +82,8 @@ word-absent (w ∷ word) [] h = refl
 word-absent (w ∷ word) (c ∷ text) h =
     absent-by (c == w) (without_prefix word text) (λ e. word-absent word text (first-else (c == w) (bytes_eq (take (length word) text) word) h e))
 
--- tokens
+-- ---- Tokens.
+
 one-on : (text : List ℕ) (at : ℕ) → at < length text → drop at text ≡ slice_index text at ∷ drop (at + 1) text
 one-on text at h = grind (arith, common_steps)
 
@@ -94,7 +96,8 @@ token-stop text at h some is = omega (arith, h.ahead, prefix_len-drop_no is_numb
 pub token-end : (text : List ℕ) (at : ℕ) → IsTokenTo text at → length text ≤ at → at ≡ prefix_len is_number_octet text
 token-end text at h past = omega (arith, h.ahead, prefix_len-drop_all is_number_octet text at past)
 
--- values
+-- ---- Values.
+
 abbrev text_value : List ℕ → Option (DraftValue × List ℕ)
 text_value text = option_map (λ read. (text_form (read.0), read.1)) (quoted_read 0 text)
 
@@ -115,7 +118,7 @@ pub value-word : (text : List ℕ) → (slice_index text 0 ≡ 34 → ⊥) → i
 unfolding value_read without_prefix
 value-word text h1 h2 = grind (arith, nat_tests, common_steps)
 
--- the word of a missing value
+-- the value of a missing item, and the text after the word `MISSING`
 pub value-missing : (text rest : List ℕ) → Some rest ≡ without_prefix (codes "MISSING") text → value_read text ≡ Some (missing_form, rest)
 unfolding value_read without_prefix
 value-missing text rest h = grind (arith, nat_tests, common_steps, h)
@@ -125,7 +128,7 @@ pub word-is : (word text : List ℕ) (r : Option (Bor (List ℕ))) → MatchOpti
 word-is word text None h = sym (word-absent word text h)
 word-is word text (Some x) h = ap Some h.1 ∙ sym (word-there word text h.0)
 
--- a token of number octets that no further one follows
+-- A token ends before the first octet that cannot be part of a number.
 octets-while : (text : List ℕ) (count : ℕ) → count ≤ length text → list_all is_number_octet (take count text) ≡ true → is_number_octet (slice_index (drop count text) 0) ≡ false
     → prefix_len is_number_octet text ≡ count
 octets-while [] zero le all stop = refl
@@ -145,7 +148,8 @@ value-decimal text token count some le is all stop =
     value-token text (octet-first text count some le all) ∙ ap (λ n. Some (number_token (take n text), drop n text)) (octets-while text count le all stop)
     ∙ ap (λ t. Some (number_token t, drop count text)) is
 
--- one space
+-- ---- One space.
+
 pub space-none : (text : List ℕ) → length text ≡ 0 → without_space text ≡ None
 unfolding without_prefix
 space-none [] h = refl
@@ -165,7 +169,8 @@ pub ruleset space_steps = (space-none, space-there, space-absent)
 
 pub ruleset value_steps = (value-quote, value-token, value-word)
 
--- comments
+-- ---- Comments.
+
 hashed-one : (c : ℕ) (more : List ℕ) → c ≡ 32 → is_hashed (c ∷ more) ≡ is_hashed more
 unfolding is_hashed
 hashed-one c more e = let q : (c == 32) ≡ true = grind (arith, nat_tests, e) in rw q refl
@@ -202,7 +207,8 @@ passed-comment text h1 h2 h3 h4 = grind (arith, nat_tests, common_steps)
 
 pub ruleset hash_steps = (hashed-space, hashed-other, hashed-end, passed-space, passed-other, passed-none, passed-comment)
 
--- references
+-- ---- References.
+
 pub reference-some : (text : List ℕ) → is_number_octet (slice_index text 0) ≡ true
     → number_value reference_token text ≡ Some (reference_token (take (prefix_len is_number_octet text) text), drop (prefix_len is_number_octet text) text)
 reference-some [] e = absurd cc
@@ -241,7 +247,8 @@ pub word-at : (line : List ℕ) (r : Option ℕ) (n : ℕ) → IsFirstByte (is_b
 word-at line None n h is = is ∙ word-whole line h
 word-at line (Some m) n h is = is ∙ word-to line m h.0.high h.0.before h.1
 
--- a line by its first octet
+-- ---- A line, by its first octet.
+
 pub line-none : (line : List ℕ) → length line ≡ 0 → line_of line ≡ Passed
 unfolding line_of
 line-none [] e = refl
@@ -263,7 +270,8 @@ unfolding line_of
 line-word [] some e d = absurd (omega (arith, some))
 line-word (c ∷ line) some e d = let q : (c == 35) ≡ false = grind (arith, nat_tests, e) in rw (q, d) refl
 
--- an item line, by its parts
+-- ---- An item line, by its parts.
+
 is-fxy : (text : List ℕ) (fxy : ℕ) → Some fxy ≡ fxy_of text → is_fxy text ≡ true
 is-fxy text fxy h = by (is_fxy text) h
   where
@@ -295,7 +303,7 @@ spaced-line (a ∷ b ∷ c ∷ d ∷ e ∷ g ∷ s ∷ more) f x y fxy long spac
     item-line line more fxy (omega arith) (sym (space-there (s ∷ more) space)) (fits-fxy (take 6 line) fxy refl digits (omega arith) (omega arith) (omega arith) (omega arith))
 spaced-line line f x y fxy long space digits f-few x-few y-few f-is x-is y-is is = absurd (omega arith)
 
--- what is left of an octet if `0` is subtracted with wrapping
+-- the difference of an octet and `0`, with wrapping
 abbrev pub wrapped : List ℕ → ℕ → ℕ
 wrapped line at = (slice_index line at + 208) % 256
 
@@ -309,7 +317,7 @@ seven-tests : (a b c d e g s : ℕ) → (nat_lt a 4 && nat_lt b 10 && nat_lt c 1
     → (a < 4) × (b < 10) × (c < 10) × (d < 10) × (e < 10) × (g < 10) × (s ≡ 32)
 seven-tests a b c d e g s h1 = grind (arith, nat_tests)
 
--- An octet is a digit if less than 10 is left of it.
+-- An octet is a digit if this difference is less than 10.
 unwrapped : (line : List ℕ) (at : ℕ) → slice_index line at < 256 → wrapped line at < 10 → slice_index line at ≡ 48 + wrapped line at
 unwrapped line at h1 h2 = omega arith
 
@@ -358,7 +366,8 @@ item-read text rest fxy form value passed = rw (value, passed) refl
 
 pub ruleset read_steps = (line-none, line-note, line-item, line-word)
 
--- lines of octets
+-- ---- Lines of octets.
+
 pub local1-worded : (word rest : List ℕ) → bytes_eq word (codes "message") ≡ false → bytes_eq word (codes "local1") ≡ true → worded word rest ≡ made (λ text. made (with_one_to 32 Local1) (hex_read text)) (without_space rest)
 unfolding worded
 local1-worded word rest a b = rw (a, b) refl
@@ -367,7 +376,7 @@ pub section2-worded : (word rest : List ℕ) → bytes_eq word (codes "message")
 unfolding worded
 section2-worded word rest a b d = rw (a, b, d) refl
 
--- ---- How the reading of the descriptors of a line goes on.
+-- ---- The descriptors of a line are read one at a time.
 
 one-set : (out : List ℕ) (count word : ℕ) → count < length out → take (count + 1) (slice_set out count word) ≡ take count out ++ word ∷ []
 one-set out count word h = grind (arith, common_steps)
@@ -443,7 +452,7 @@ module _ (text out : List ℕ) (count : ℕ) (is : IsDescribing text out count) 
       let bounds : (nat_lt 0 (length (take count out)) && nat_le (length (take count out)) 8) ≡ true = grind (arith, nat_tests, long, some, few) in
       (omega (arith, is.room, few), ap (made (with_one_to 8 Descriptors)) read ∙ rw bounds refl)
 
--- a text of more than eight descriptors, or of none, is no line
+-- If a text has no descriptors, or more than eight, the line is invalid.
 some-same : (a b : List ℕ) → Some a ≡ Some b → a ≡ b
 some-same a b e = ap (λ (o : Option (List ℕ)). unwrap_or o []) e
 
@@ -466,7 +475,7 @@ unfolding descriptors_read
 describing-none [] out e = refl
 describing-none (x ∷ text) out e = absurd (omega (arith, e))
 
--- ---- How the reading of hexadecimal digits goes on.
+-- ---- The octets of a line are read one at a time.
 
 two-on : (text : List ℕ) (at : ℕ) → at + 1 < length text → drop at text ≡ slice_index text at ∷ slice_index text (at + 1) ∷ drop (at + 2) text
 two-on text at h = grind (arith, common_steps)
@@ -516,9 +525,9 @@ pub unhexing-odd : (text out : List ℕ) (count : ℕ) → IsUnhexing text out c
 unhexing-odd text out count is h e =
     is.read ∙ ap (option_map (λ more. take count out ++ more)) (odd (drop (2 * count) text) (omega (arith, is.within, length-drop (2 * count) text)))
 
--- ---- How the reading of a text goes on.
+-- ---- The octets of a quoted text are read one at a time.
 
--- what is passed over is dropped
+-- Skipping octets gives the same result as dropping them.
 pub quoted-skip : (k : ℕ) (text : List ℕ) → quoted_read k text ≡ quoted_read 0 (drop k text)
 unfolding quoted_read
 quoted-skip k [] = rw drop-nil refl
@@ -564,7 +573,7 @@ says-in text octet written e some =
     let q : IsIn text (Octet octet written) = subst (IsIn text) (sym e) (quoting-by text (slice_index text 0 == 34) (slice_index text 0 == 92) (is_unescaped (slice_index text 0))) in
     (q.0, q.1 some)
 
--- what is read after an octet
+-- what is read after an octet of the text
 pub says-on : (text : List ℕ) (octet written : ℕ) → Octet octet written ≡ quoting_of text → 0 < length text → quoted_read 0 text
     ≡ octet_onto octet (quoted_read 0 (drop written text))
 unfolding quoted_read
@@ -627,7 +636,7 @@ unfolding quoted_read
 unquoting-end text out count at is h =
     is.read ∙ ap (λ (t : List ℕ). octets_onto (take count out) (quoted_read 0 t)) (drop_all at text h)
 
--- what closes the goals of single functions
+-- rules for the goals of single functions
 pub ruleset describing_steps = (describing-none, describing-long, describing-short, describing-no-space, describing-no-fxy, describing-on, describing-whole)
 
 pub ruleset unhexing_steps = (unhexing-wrong, high-wrong, low-wrong, unhexing-on, unhexing-whole, unhexing-odd)

@@ -1,4 +1,4 @@
--- What the lines of a text spell, and the laws on what a reading reports.
+-- The results of parsing a text match its lines, and every document among them is proper.
 use Rattle.std.proofs.Common.{slice_index, inl, inr, ◌⊎◌, ◌≡◌, ◌∙◌, ℕ, ◌+◌, ◌==◌, ◌&&◌, nat_le, not, Bool, true, false, if◌then◌else◌, List, [], ◌∷◌, ◌++◌, length, map, refl, sym, ap, subst, arith, append_assoc, append-nil, length-append, ◌<◌}
 use Rattle.std.specs.List.{concat}
 use Rattle.std.proofs.lemmas.Bool.Decides.{nat_tests}
@@ -15,7 +15,7 @@ use Rattle.std.proofs.lemmas.Grind.{common_steps}
 abbrev says : List NumberedLine → List Line
 says lines = map (λ l. l.says) lines
 
--- one line that is not passed over
+-- the line with its number, or nothing if it is skipped
 abbrev one : ℕ → Line → List NumberedLine
 one at line = onto_heard at line []
 
@@ -23,7 +23,7 @@ onto-one : (at : ℕ) (line : Line) (more : List NumberedLine) → onto_heard at
 onto-one at Passed more = refl
 onto-one at line more = refl
 
--- lists of lines
+-- Another value adds a header line at the end.
 headers-more : (key : ℕ) (values : List ℕ) (value : ℕ) → header_says key (values ++ value ∷ []) ≡ header_says key values ++ Header (key + length values) value ∷ []
 headers-more key [] value = let e : key ≡ key + 0 = omega arith in ap (λ (k : ℕ). Header k value ∷ []) e
 headers-more key (v ∷ more) value =
@@ -83,7 +83,8 @@ entries-more (part ∷ done) last end =
     ∙ sym (append_assoc here (Ends f ∷ rest ++ items) (Ends end ∷ []))
     ∙ ap (λ (t : List DraftEntry). t ++ Ends end ∷ []) (sym (append_assoc here (Ends f ∷ rest) items))
 
--- The lines before the subsets, as far as they were read.
+-- These lines are `message`, header lines in order, and then `local1`, `section2` and `descriptors`
+-- lines in order. The document has their content.
 record IsBegun (d : Document) (own : List NumberedLine) : Type 0 where
   header : List NumberedLine
   written : List NumberedLine
@@ -98,21 +99,23 @@ record IsBegun (d : Document) (own : List NumberedLine) : Type 0 where
   descriptors_are : d.descriptors ≡ concat descriptors
   flagged : (section2 ≡ []) ⊎ (slice_index d.header 18 ≡ 1)
 
--- `message` and header lines
+-- These lines are `message` and header lines in order. The document has no other content.
 record IsHeading (d : Document) (own : List NumberedLine) : Type 0 where
   header : List NumberedLine
   are : own ≡ numbered_line d.line Opens ∷ header
   in_order : says header ≡ header_says 0 d.header
   bare : IsBare d
 
--- the parts before the subsets are in their order
+-- The lines before the subsets, up to this group of lines. Later groups have no lines yet, and the
+-- document has no entries.
 record IsBeforeSubsets (part : LineGroup) (d : Document) (own : List NumberedLine) : Type 0 where
   with_open_group : IsBegun d own
   before_section2 : part ≡ group.Local1 → with_open_group.section2 ≡ []
   before_descriptors : (part ≡ group.Descriptors → ⊥) → with_open_group.descriptors ≡ []
   none : d.entries ≡ []
 
--- the subsets that were ended, and the one that is being read
+-- The lines before the subsets, those of the complete subsets (`done`), and those of the subset
+-- that is being read (`last`).
 record IsFilling (subset : ℕ) (d : Document) (own : List NumberedLine) : Type 0 where
   prefix : List NumberedLine
   with_open_group : IsBegun d prefix
@@ -122,7 +125,7 @@ record IsFilling (subset : ℕ) (d : Document) (own : List NumberedLine) : Type 
   counted : subset ≡ length done + 1
   entries : d.entries ≡ entries_heard done last.at ++ map item_entry last.items
 
--- which lines are before a place in a document
+-- These lines of the current document lead to this state of the parser.
 abbrev IsOpen : Parsing → List NumberedLine → Type 0
 IsOpen (Between, d) own = own ≡ []
 IsOpen (Heading, d) own = IsHeading d own
@@ -148,11 +151,11 @@ not-false : (b : Bool) → not b ≡ false → b ≡ true
 not-false true e = refl
 not-false false e = absurd cc
 
--- a line that is passed over
+-- A skipped line adds nothing to the lines of the document.
 passed : (parsing : Parsing) (own : List NumberedLine) → IsOpen parsing own → IsOpen parsing (own ++ [])
 passed parsing own is = subst (λ (t : List NumberedLine). IsOpen parsing t) (sym (append-nil own)) is
 
--- a header line
+-- The header lines are still in order after a line with the next key.
 in-order : (d : Document) (at key value : ℕ) (header : List NumberedLine) → key ≡ length d.header → says header ≡ header_says 0 d.header
     → says (header ++ numbered_line at (Header key value) ∷ []) ≡ header_says 0 (d.header ++ value ∷ [])
 in-order d at key value header h1 h2 = grind (arith, nat_tests, common_steps, map-append, headers-more)
@@ -195,7 +198,7 @@ heading-open at key value d own is =
       bare = record { local1 = is.bare.local1; section2 = is.bare.section2; descriptors = is.bare.descriptors; entries = is.bare.entries };
     }
 
--- one more line of the parts before the subsets
+-- Another line before the subsets is appended to `written`.
 written-more : (d : Document) (own : List NumberedLine) (b : IsBegun d own) (x : NumberedLine) → own ++ x ∷ [] ≡ (numbered_line d.line Opens ∷ b.header) ++ (b.written ++ x ∷ [])
 written-more d own b x = ap (λ (t : List NumberedLine). t ++ x ∷ []) b.are ∙ append_assoc (numbered_line d.line Opens ∷ b.header) b.written (x ∷ [])
 
@@ -289,7 +292,7 @@ descriptors-open at part d words own is =
       none = is.none;
     }
 
--- the first subset, the next one, and the end
+-- A subset that passes the check has the next number.
 is-next : (subset read most : ℕ) → ((subset == read + 1) && nat_le subset most) ≡ true → subset ≡ read + 1
 is-next subset read most e = equal subset (read + 1) (and_first (subset == read + 1) (nat_le subset most) e)
 
@@ -332,7 +335,7 @@ none-open at part d own is =
 begun-still : (d : Document) (entry : DraftEntry) (own : List NumberedLine) → IsBegun d own → IsBegun (with_entry d entry) own
 begun-still d entry own h1 = grind (arith, nat_tests, common_steps)
 
--- the entries of the subsets that are ended at a line
+-- If the last subset ends at this line, the entries are those of all subsets.
 ended-entries : (at subset : ℕ) (d : Document) (own : List NumberedLine) (is : IsFilling subset d own) → d.entries ++ Ends at ∷ [] ≡ entries_heard (is.done ++ is.last ∷ []) at
 ended-entries at subset d own is = ap (λ (t : List DraftEntry). t ++ Ends at ∷ []) is.entries ∙ sym (entries-more is.done is.last at)
 
@@ -409,7 +412,7 @@ section2-after at group.Local1 d octets own is = by-flag at group.Local1 d octet
 section2-after at group.Section2 d octets own is = by-flag at group.Section2 d octets own (λ e. cc) is
 section2-after at group.Descriptors d octets own is = tt
 
--- each line keeps it
+-- After any line, the lines of the current document lead to the new state.
 line_step-opens : (at : ℕ) (parsing : Parsing) (line : Line) (own : List NumberedLine) → IsOpen parsing own → IsOpenAfter (line_step at parsing line) (own ++ one at line)
 unfolding line_step
 line_step-opens at (Between, d) Passed own is = passed (Between, d) own is
@@ -459,7 +462,7 @@ lines-reported at parsing (line ∷ more) own is = reported-on at line more own 
 pub text-reported : (text : List ℕ) → AreReported (numbered_lines 1 (lines_of text)) (documents_of text)
 text-reported text = lines-reported 1 between (lines_of text) [] refl
 
--- ---- The documents that a text spells are proper.
+-- ---- Every document of a text is proper.
 
 end-proper : (at : ℕ) (state : ParserState) → AreProper (reported_at_end at state)
 end-proper at state = grind (arith, nat_tests, common_steps)

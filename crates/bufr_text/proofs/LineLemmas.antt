@@ -1,4 +1,4 @@
--- Each line of a dump text has what it was written for, and is short.
+-- Each line of a dump text is read as what it was written for. It has no line feed, and is short.
 use Rattle.std.proofs.Common.{get_or, ◌≡◌, ℕ, ◌+◌, ◌-◌, ◌*◌, ◌/◌, ◌%◌, ◌<◌, nat_le, true, refl, ap, arith, Some, ◌==◌, nat_lt, Bool, false, not, List, [], ◌∷◌, ◌++◌, length, ◌∙◌, if◌then◌else◌, append_assoc, zero, suc, ◌^◌, ◌≤◌, ◌&&◌, take, drop, replicate, ℤ, pos, negsuc, length-append, length-take, length-drop, sym, Option, None, codes, ◌||◌, option_map, unsigned_abs, IfSome}
 use Rattle.std.specs.Char.{is_ascii_digit}
 use Rattle.std.specs.List.{list_all, AllByRecursion, concat, prefix_len, onto_first}
@@ -16,7 +16,7 @@ use Rattle.std.proofs.Math.Seq.{drop-nil, take-append_seam, drop-append_seam}
 use Rattle.std.proofs.lemmas.Grind.{common_steps}
 use Rattle.bufr_walk.specs.Prelude.{View, ShownValue, shown_number, shown_text, shown_missing, shown_reference}
 
--- ---- Descriptors as six digits, read back.
+-- ---- A descriptor is written as six digits, and read back.
 
 digit : (n : ℕ) → n < 10 → is_ascii_digit (48 + n) ≡ true
 digit n h = grind (arith, nat_tests)
@@ -49,9 +49,9 @@ word-back w h = omega arith
 pub fxy_back : (w : ℕ) → w < 65536 → fxy_of (fxy_text w) ≡ Some w
 fxy_back w h = rw (all-digits w h, fits-f w h, fits-x w h, fits-y w h) (ap Some (word-back w h))
 
--- ---- Words and values that are read back.
+-- ---- Words and values are written, and read back.
 
--- a text at which a run of passing elements stops
+-- whether a text is empty or begins with an octet that fails the test
 abbrev pub stops : (ℕ → Bool) → List ℕ → Bool
 stops test [] = true
 stops test (c ∷ more) = not (test c)
@@ -63,7 +63,7 @@ prefix-of test (c ∷ a) b h s =
     let rest = prefix-of test a b (and_second (test c) (list_all test a) h) s in
     ap (λ x. if x then 1 + prefix_len test (a ++ b) else 0) (and_first (test c) (list_all test a) h) ∙ omega (arith, rest)
 
--- a number that is read back, and the text after it
+-- A number is read back, up to an octet that cannot be part of it.
 number-there : (form : List ℕ → DraftValue) (c : ℕ) (more rest : List ℕ) → list_all is_number_octet (c ∷ more) ≡ true → stops is_number_octet rest ≡ true
     → number_value form ((c ∷ more) ++ rest) ≡ Some (form (c ∷ more), rest)
 number-there form c more rest octets s =
@@ -74,7 +74,8 @@ number-there form c more rest octets s =
     ∙ ap (λ t. Some (form t, drop (length (c ∷ more)) text)) (take-append_seam (c ∷ more) rest)
     ∙ ap (λ t. Some (form (c ∷ more), t)) (drop-append_seam (c ∷ more) rest)
 
--- hexadecimal digits
+-- ---- Hexadecimal digits.
+
 upper-back : (n : ℕ) → n < 16 → upper_value (hex_digit n) ≡ Some n
 upper-back n h = grind (arith, nat_tests)
 
@@ -92,7 +93,8 @@ unfolding hex_read hex_text
 hex_back [] all = refl
 hex_back (c ∷ xs) (octet, all) = rw (either-pair c octet, hex_back xs all) refl
 
--- descriptors
+-- ---- Descriptors.
+
 pub fxy_read_back : (w : ℕ) (rest : List ℕ) → w < 65536 → fxy_read (fxy_text w ++ rest) ≡ Some (w, rest)
 unfolding fxy_read
 fxy_read_back w rest h = ap (option_map (λ fxy. (fxy, rest))) (fxy_back w h)
@@ -102,11 +104,12 @@ unfolding descriptors_read descriptors_text
 descriptors_back [] all = refl
 descriptors_back (w ∷ ws) (word, all) = rw (fxy_back w word, descriptors_back ws all) refl
 
--- numbers
+-- ---- Numbers and quoted texts.
+
 pub number_back : (n : ℕ) → n < 65536 → number_read (decimal n) ≡ Some n
 number_back n h1 = grind (arith, nat_tests, common_steps, decimal_is_IsNumeral_wide, own)
 
--- one more octet before a text that was read
+-- prepends an octet to the result of reading; a failure stays
 abbrev pub octet_onto : ℕ → Option (List ℕ × List ℕ) → Option (List ℕ × List ℕ)
 octet_onto octet read = option_map (λ r. (octet ∷ r.0, r.1)) read
 
@@ -137,7 +140,7 @@ quoted_back (c ∷ xs) rest (octet, all) =
 
 -- ---- Decimal texts are number tokens.
 
--- a token of at most so many octets
+-- a token of at most the given number of octets
 pub record IsToken (token : List ℕ) (most : ℕ) : Type 0 where
   pub octets : list_all is_number_octet token ≡ true
   pub some : 0 < length token
@@ -218,7 +221,7 @@ pub section2-says : (xs : List ℕ) → AllByRecursion IsOctet xs → 0 < length
 unfolding line_of worded without_prefix
 section2-says xs all some few = rw (hex_back xs all, in_bounds xs 32 some few) refl
 
--- the text after the word of a line of descriptors is empty or begins with a space
+-- The text after the word `descriptors` begins with a space, which ends the word.
 pub descriptors-says : (ws : List ℕ) → AllByRecursion IsDescriptorWord ws → 0 < length ws → length ws ≤ 8 → line_of (descriptors_line ws) ≡ Descriptors ws
 unfolding line_of worded without_prefix descriptors_text
 descriptors-says [] all some few = absurd (omega arith)
@@ -236,7 +239,8 @@ pub end-says : line_of (codes "end") ≡ Closes
 unfolding line_of worded
 end-says = refl
 
--- header lines
+-- ---- Header lines.
+
 pub key-says : (k : ℕ) (rest : List ℕ) → k < 20 → line_of (get_or keys k [] ++ 32 ∷ rest) ≡ made (Header k) (number_read rest)
 unfolding line_of worded without_prefix keys
 key-says k rest h1 = grind (arith, nat_tests, common_steps)
@@ -251,7 +255,7 @@ suffix_is (w ∷ word) (c ∷ text) rest h = by (c == w) refl h (suffix_is word 
     by true is h more = let same : c ≡ w = grind (arith, nat_tests, is) in let there : text ≡ word ++ rest = more h in cc
     by false is h more = absurd cc h
 
--- what is after a key and a space is its value
+-- The text after a key and one space is the value of the key.
 pub value_there : (k : ℕ) (word line rest : List ℕ) (r : Option ℕ) → k < 20 → word ≡ get_or keys k [] ++ 32 ∷ [] → Some rest ≡ without_prefix word line → r ≡ number_read rest
     → IfSome r (λ v. line_of line ≡ Header k v)
 value_there k word line rest None few is there read = tt
@@ -260,7 +264,8 @@ value_there k word line rest (Some v) few is there read =
     let whole : line ≡ name ++ 32 ∷ rest = suffix_is word line rest (sym there) ∙ ap (λ w. w ++ rest) is ∙ append_assoc name (32 ∷ []) rest in
     ap line_of whole ∙ key-says k rest few ∙ ap (made (Header k)) (sym read)
 
--- items
+-- ---- Items.
+
 pub value-number : (token rest : List ℕ) (most : ℕ) → IsToken token most → stops is_number_octet rest ≡ true → value_read (token ++ rest) ≡ Some (number_token token, rest)
 unfolding value_read
 value-number [] rest most token s = absurd (omega (arith, token.some))
@@ -309,17 +314,17 @@ reference-of fxy text rest form h read passed = rw (fxy_read_back fxy (32 ∷ te
 
 -- ---- Lines of a dump text have no line feed and at most 4,096 octets.
 
--- no control character, so no line feed
+-- whether an octet is not a control character, and so not a line feed
 abbrev pub is_above : ℕ → Bool
 is_above c = nat_le 32 c
 
--- a line that says what it is to say, and that a reading takes whole
+-- The line has this meaning, contains no control characters, and is not too long to be read.
 pub record IsLineOf (line : List ℕ) (meaning : Line) : Type 0 where
   pub says : line_of line ≡ meaning
   pub clean : list_all is_above line ≡ true
   pub short : length line ≤ 4096
 
--- text without control characters, of at most so many octets
+-- The text contains no control characters, and has at most the given number of octets.
 record IsClean (text : List ℕ) (most : ℕ) : Type 0 where
   clean : list_all is_above text ≡ true
   short : length text ≤ most
@@ -368,7 +373,8 @@ fxy-clean w = record {
   short = omega arith;
 }
 
--- hexadecimal digits
+-- ---- Hexadecimal digits, and the descriptors of a line.
+
 hex-above : (n : ℕ) → is_above (hex_digit n) ≡ true
 hex-above n = grind (arith, nat_tests)
 
@@ -383,7 +389,8 @@ descriptors-clean [] = record { clean = refl; short = omega arith }
 descriptors-clean (w ∷ ws) = one-more 32 (fxy_text w ++ descriptors_text ws) (6 + 7 * length ws) (7 * suc (length ws)) (omega arith)
     (joined-two (fxy_text w) (descriptors_text ws) 6 (7 * length ws) (6 + 7 * length ws) (fxy-clean w) (descriptors-clean ws) (omega arith)) (omega arith)
 
--- texts
+-- ---- Quoted texts.
+
 plain-clean : (c : ℕ) → is_unescaped c ≡ true → IsClean (c ∷ []) 4
 plain-clean c h = record { clean = both _ _ (grind (arith, nat_tests, h)) refl; short = omega arith }
 
@@ -400,14 +407,16 @@ unfolding quoted
 quoted-clean [] = record { clean = refl; short = omega arith }
 quoted-clean (c ∷ xs) = joined-two (escaped c) (quoted xs) 4 (4 * length xs + 1) (4 * suc (length xs) + 1) (escaped-by c (is_unescaped c) refl) (quoted-clean xs) (omega arith)
 
--- comments
+-- ---- Comments.
+
 literal : (text : List ℕ) (most : ℕ) → list_all is_above text ≡ true → length text ≤ most → IsClean text most
 literal text most h k = record { clean = h; short = k }
 
 comment-clean : (comment : Option Row) → IsComment comment → IsClean (comment_text comment) 1040
 comment-clean comment h1 = grind (arith, nat_tests, common_steps, joined-two, literal, name-clean)
 
--- the lines
+-- ---- Whole lines.
+
 pub message-line : IsLineOf (codes "message") Opens
 message-line = record { says = message-says; clean = refl; short = omega arith }
 
@@ -429,7 +438,8 @@ descriptors-line ws all some few = line-from (descriptors_line ws) (Descriptors 
 pub subset-line : (n : ℕ) → n < 65536 → IsLineOf (subset_line n) (Begins n)
 subset-line n h = line-from (subset_line n) (Begins n) 12 (subset-says n (omega arith)) (joined-two (codes "subset ") (decimal n) 7 5 12 (literal (codes "subset ") 7 refl (omega arith)) (decimal-clean n 5 (omega arith) (omega arith) (omega arith)) (omega arith)) (omega arith)
 
--- names of keys
+-- ---- The names of keys.
+
 abbrev key-passes : List ℕ → Bool
 key-passes k = nat_le (length k) 16 && list_all is_above k
 
@@ -456,7 +466,8 @@ header-line k v h n =
     (joined-two (get_or keys k []) (32 ∷ decimal v) 16 6 22 name (one-more 32 (decimal v) 5 6 (omega arith) (decimal-clean v 5 (omega arith) (omega arith) (omega arith)) (omega arith)) (omega arith))
     (omega arith)
 
--- items
+-- ---- Items.
+
 form-line : (fxy : ℕ) (text : List ℕ) (form : DraftValue) (comment : Option Row) (most : ℕ) → fxy < 65536 → IsComment comment
     → value_read (text ++ comment_text comment) ≡ Some (form, comment_text comment) → IsClean text most → most ≤ 2000
     → IsLineOf ((fxy_text fxy ++ 32 ∷ text) ++ comment_text comment) (ItemLine fxy form)
@@ -488,7 +499,7 @@ by-value fxy comment (shown_reference v) word c small =
 pub item-line : (item : View) → IsItem item → IsLineOf (item_text item) (ItemLine item.fxy (dump_value_of item.value))
 item-line item given = by-value item.fxy item.entry item.value given.word given.comment given.value
 
--- ---- Lines that were each ended by a line feed are the lines of the text.
+-- ---- A text that was written line by line has these lines.
 
 abbrev pub IsAbove : List ℕ → Type 0
 IsAbove line = list_all is_above line ≡ true
@@ -496,7 +507,7 @@ IsAbove line = list_all is_above line ≡ true
 no-feed : (c : ℕ) → is_above c ≡ true → (c == 10) ≡ false
 no-feed c h = grind (arith, nat_tests, h)
 
--- the lines of a text, octet by octet
+-- the lines of a text that was split
 joined : Split → List (List ℕ)
 joined s = if length s.rest == 0 then s.whole else s.whole ++ s.rest ∷ []
 
@@ -530,7 +541,7 @@ lines-back (line ∷ ls) t (here, all) =
     ap lines_of (append_assoc (line ++ 10 ∷ []) (text_of_lines ls) t ∙ append_assoc line (10 ∷ []) (text_of_lines ls ++ t))
     ∙ first-line line (text_of_lines ls ++ t) here ∙ ap (λ (more : List (List ℕ)). line ∷ more) (lines-back ls t all)
 
--- ---- A list in runs: they join to the list, none is empty, none is long.
+-- ---- Lists that are cut into runs.
 
 pub concat-after : (skip less : ℕ) (xs : List ℕ) → concat (runs_after skip (suc less) xs) ≡ drop skip xs
 unfolding runs_after
@@ -540,7 +551,7 @@ concat-after zero less (x ∷ xs) =
     let e : suc less - 1 ≡ less = omega arith in
     rw e (ap (λ (t : List ℕ). x ∷ (take less xs ++ t)) (concat-after less less xs) ∙ ap (λ (t : List ℕ). x ∷ t) (take-append-drop less xs))
 
--- a run
+-- The run is not empty, has at most `most` elements, and all of them have the property.
 pub record IsRun (P : ℕ → Type 0) (most : ℕ) (run : List ℕ) : Type 0 where
   pub all : AllByRecursion P run
   pub some : 0 < length run

@@ -1,4 +1,5 @@
--- What a document is encoded to says what the document says, in one spelling.
+-- A document is encoded to a message with the same content. The dump text of this message is the
+-- normal text of the document.
 use Rattle.std.proofs.lemmas.Bool.{ltb-false}
 use Rattle.std.proofs.Common.{◌≡◌, ℕ, ◌+◌, ◌≤◌, suc, Bool, true, false, List, [], ◌∷◌, ◌++◌, length, Some, None, Result, Ok, Err, refl, sym, ◌∙◌, ap, subst, arith, zero, map, take, drop, ◌==◌, nat_lt, unwrap_or, if◌then◌else◌, codes, is_some, slice_index}
 use Rattle.std.proofs.lemmas.Bool.Decides.{nat_tests}
@@ -28,7 +29,7 @@ use Rattle.bufr_walk.specs.Reading as reading
 use Rattle.std.proofs.lemmas.Grind.{common_steps}
 use Rattle.std.specs.Int.{from_bool}
 
--- ---- The message of a document that was encoded is accepted, and says what the document says.
+-- ---- The message that a document is encoded to is accepted, and has the content of the document.
 
 pub said_length : (subsets : List (List (Item Content))) (drafts : List Subset) → AreSaid subsets drafts → length subsets ≡ length drafts
 said_length [] [] h = refl
@@ -97,12 +98,12 @@ module _ (form : Form) (records : List Record) (table : List Row) (sequences : L
   by_template (Err why) p e = absurd cc
   by_template (Ok template) p e = by_bits template p (data_in template) refl e
 
-  -- what a document is encoded to is read as the document says
+  -- The message that a document is encoded to has a reading with the content of the document.
   pub encoded_read : encoding_in form table sequences d ≡ Ok octets → IsReadAs form table sequences d octets
   unfolding encoding_in
   encoded_read e = by_template (tree_of (tables_of table sequences) d.descriptors) refl e
 
--- ---- the items
+-- ---- The lines of the subsets.
 
 line_is : (table : List Row) (spec : FieldSpec) (d : Draft) (c : Content) → content_of spec d ≡ Ok c → normal_line table spec d ≡ item_text (view_of table spec c)
 line_is table spec d c h1 = grind (arith, nat_tests, common_steps, said_fxy, normal_dumped, same_form)
@@ -126,9 +127,9 @@ subsets_are table course n (items ∷ subsets) (s ∷ ss) f said =
     ∙ ap (λ xs. subset_line n ∷ (map item_text (items_shown table items) ++ xs)) (subsets_are table course (n + 1) subsets ss f.1 said.1)
 subsets_are table course n subsets ss f said = absurd said
 
--- ---- the header
+-- ---- The lines before the subsets.
 
--- so many values, from a index on
+-- the given number of values, from an index on
 abbrev values_from : (count index : ℕ) → List ℕ → List ℕ
 values_from zero k xs = []
 values_from (suc n) k xs = slice_index xs k ∷ values_from n (suc k) xs
@@ -143,7 +144,7 @@ all_values zero (x ∷ xs) h = absurd (omega (arith, h))
 all_values (suc n) [] h = absurd (omega (arith, h))
 all_values (suc n) (x ∷ xs) h = let l : length xs ≡ n = omega (arith, h) in ap (λ more. x ∷ more) (all_values n xs l ∙ sym (values_after n 0 x xs))
 
--- a flag of 0 or 1
+-- A flag of 0 or 1 is unchanged after it is read as a `Bool` and written again.
 flag_back : (v : ℕ) → v ≤ 1 → from_bool (v == 1) ≡ v
 flag_back v h1 = grind (arith, nat_tests, common_steps)
 
@@ -155,7 +156,7 @@ section2_same : (b : Bool) (octets : List ℕ) → (b ≡ false → octets ≡ [
 section2_same true octets h = refl
 section2_same false octets h = sym (h refl)
 
--- the twenty values, the three flags as given
+-- the twenty header values, with these three flags
 abbrev with_flags : List ℕ → (observed compressed optional : ℕ) → List ℕ
 with_flags h o c s =
     slice_index h 0 ∷ slice_index h 1 ∷ slice_index h 2 ∷ slice_index h 3 ∷ slice_index h 4 ∷ slice_index h 5 ∷ slice_index h 6 ∷ slice_index h 7 ∷ slice_index h 8
@@ -176,7 +177,7 @@ module _ (form : Form) (d : Document) (proper : IsProper d) where
   whole : d.header ≡ with_flags d.header (value 16) (value 17) (value 18)
   whole = all_values 20 d.header proper.headed.whole
 
-  -- the flag of compression is the form's
+  -- The form determines the compression flag.
   form_flag : (f : Form) → with_flags d.header (value 16) (from_bool (compressed_as f d)) (value 18) ≡ header_as f d.header
   form_flag AsWritten = ap (λ c. with_flags d.header (value 16) c (value 18)) (flag_back (value 17) few.1) ∙ sym whole
   form_flag Plain = ap (λ (h : List ℕ). take 17 h ++ 0 ∷ drop 18 h) (sym whole)
@@ -188,7 +189,7 @@ module _ (form : Form) (d : Document) (proper : IsProper d) where
       ∙ ap (λ s. with_flags d.header (value 16) (from_bool (compressed_as form d)) s) (section2_flag (header_in d).optional d.section2 ∙ flag_back (value 18) few.2)
       ∙ form_flag form
 
-  -- the head of a message that says what the document says
+  -- The lines before the subsets of the dump text are those of the normal text.
   head_is : (table : List Row) (sequences : List Sequence) (octets : List ℕ) → (h : IsReadAs form table sequences d octets) → head_lines h.sections ≡ normal_head form d
   head_is table sequences octets h =
       (λ j. head_lines (record {
@@ -204,7 +205,7 @@ module _ (form : Form) (d : Document) (proper : IsProper d) where
       }))
       ∙ (λ j. head_with d (header_is j) (section2_same (header_in d).optional d.section2 proper.no_section2 j))
 
--- ---- the text
+-- ---- The whole text.
 
 module _ (form : Form) (records : List Record) (table : List Row) (sequences : List Sequence) (rows : AreRows records table) (d : Document) (octets : List ℕ)
     (h : IsReadAs form table sequences d octets) where
@@ -220,7 +221,7 @@ module _ (form : Form) (records : List Record) (table : List Row) (sequences : L
   abbrev shown_items : List (List View)
   shown_items = dump_items table h.sections.subsets h.values
 
-  -- each subset of the reading follows the template
+  -- Each subset of the reading follows the template.
   follow : AllFollow course (each_subset h.sections.subsets h.values)
   follow = follows table h.template (table_read records table rows) legal (data_of h.sections) h.values h.used h.accepted.read
 
@@ -236,7 +237,7 @@ module _ (form : Form) (records : List Record) (table : List Row) (sequences : L
       ap (λ hs. text_of_lines (hs ++ (subset_lines 1 shown_items ++ codes "end" ∷ []))) (head_is form d proper table sequences octets h)
       ∙ ap (λ ls. text_of_lines (normal_head form d ++ (ls ++ codes "end" ∷ []))) (lines_of_items (subsets_of d.entries) (proper.counted ∙ sym h.subsets) h.said)
 
-  -- ---- the document of the dump
+  -- ---- The document of the dump.
 
   module _ (at : ℕ) where
     abbrev again : Document
@@ -245,7 +246,7 @@ module _ (form : Form) (records : List Record) (table : List Row) (sequences : L
     abbrev drafts_again : List Subset
     drafts_again = subsets_of again.entries
 
-    -- they say what was read
+    -- The drafts of the dump have the content of the reading.
     again_said : AreSaid (each_subset h.sections.subsets h.values) drafts_again
     again_said = subsets_said course (each_subset h.sections.subsets h.values) drafts_again follow (all_dumped table (at + lines_before h.sections) h.sections.subsets h.values)
 
@@ -253,15 +254,15 @@ module _ (form : Form) (records : List Record) (table : List Row) (sequences : L
     again_count = sym (said_length (each_subset h.sections.subsets h.values) drafts_again again_said)
         ∙ each_count table h.template (table_read records table rows) legal (data_of h.sections) h.values h.used h.accepted.read
 
-    -- its text is its own in one spelling
+    -- The normal text of this document is the dump text itself.
     pub normal_again : normal AsWritten table h.template again ≡ dump_text_of h.sections shown_items
     normal_again = sym (ap (λ ls. text_of_lines (head_lines h.sections ++ (ls ++ codes "end" ∷ []))) (lines_of_items drafts_again again_count (subst (λ n. AreSaid (each_subset n h.values) drafts_again) (sym again_count) again_said)))
 
-    -- what is made of the bits of the data
+    -- the message with these data bits, or the first fault
     abbrev message_with : (line : ℕ) → Head → (List ℕ → MessageParts) → Result (List Bool) DraftFault → Result (List ℕ) DocumentFault
     message_with line head parts r = map_err document_fault r >>= λ b. message_of line head (parts (octets_of_bits b))
 
-    -- the line is in a refusal alone
+    -- The number of the line matters only if there is a fault.
     other_line : (line : ℕ) (head : Head) (parts : List ℕ → MessageParts) (r : Result (List Bool) DraftFault) → message_with line head parts r ≡ Ok octets → message_with at head parts r ≡ Ok octets
     other_line line head parts (Err why) e = absurd cc
     other_line line head parts (Ok b) e = by (nat_lt max_octets (message_size head.edition (parts (octets_of_bits b)))) e
@@ -278,7 +279,7 @@ module _ (form : Form) (records : List Record) (table : List Row) (sequences : L
     unfolding parts_with
     parts_are payload = parts_back at h.sections shown_items payload ∙ (λ j. parts_of (h.local1 j) (h.section2 j) (h.descriptors j) (h.subsets j) (h.observed j) (h.compressed j) payload)
 
-    -- the bits of the data are the same
+    -- Both documents have the same data bits.
     data_are : IsProper d → data_bits (compressed_as form d) course (subsets_of d.entries) ≡ data_bits (header_in again).compressed course drafts_again
     data_are proper =
         ap (λ b. data_bits b course (subsets_of d.entries)) (sym h.compressed)
@@ -297,7 +298,7 @@ module _ (form : Form) (records : List Record) (table : List Row) (sequences : L
     again_from = ap (λ r. map_err (fault.Template at) r >>= λ t. message_with at h.sections.head (parts_of_document again) (data_bits (header_in again).compressed (next_item table t) drafts_again))
         h.accepted.expands
 
-    -- and it is encoded to the same octets
+    -- Both documents are encoded to the same octets.
     pub encoded_again_same : IsProper d → encoding_in form table sequences d ≡ Ok octets → encoding_of table sequences again ≡ Ok octets
     encoded_again_same proper e =
         again_from

@@ -1,4 +1,4 @@
--- Numbers, digit by digit and at a scale, and octets as texts.
+-- The decimal text of numbers, digit by digit and at a scale, and the texts of octets.
 use Rattle.std.proofs.Common.{◌≡◌, ℕ, ◌≤◌, List, ◌++◌, length, take, drop, sym, ◌∙◌, ap, Option, None, Some, Ok, Err, append_assoc, ◌+◌, zero, suc, [], ◌∷◌, replicate, refl, subst, arith, append-nil, length-append, map, inl, inr, codes, ◌-◌, ◌<◌, Bool, true, false, ◌*◌, ◌/◌, ◌%◌, ◌^◌, ◌&&◌, T, eqb, eqb→eq, eq-zero-or-pos, get_or, length-drop, int_lt, ◌==◌, if◌then◌else◌, not, ℤ, pos, negsuc, min, option_map, Result, flat_map, decimal, unwrap_or, IsTrue, ◌↔◌, is_some, unsigned_abs, slice_index}
 use Rattle.std.proofs.lemmas.List.{take_rest, take-append-drop, length-take-le, take_all, length-replicate, at_drop_more, at_drop_all, take_more, length-set, take_more_set}
 use Rattle.bufr_text.specs.Prelude.{zero_padded, escaped, hex_pair, hex_text, is_unescaped, quoted}
@@ -21,7 +21,7 @@ use Rattle.std.proofs.lemmas.List.Folds.{list_all_more}
 use Rattle.bufr_bits.proofs.DecimalLemmas.{value-append}
 use Rattle.bufr_text.proofs.PushLemmas.{puts_retold, puts_then, puts_first, zeros_suc}
 
--- the digits that were passed write a number
+-- The first `at` octets are digits, and n is the number that they represent, at most 65,536.
 pub record IsNumberTo (text : List ℕ) (at n : ℕ) : Type 0 where
   pub digits : list_all is_ascii_digit (take at text) ≡ true
   pub value : n ≡ min (digits_value 10 (take at text)) 65536
@@ -32,26 +32,26 @@ step_long m n h1 h2 = grind (arith, nat_tests, common_steps, decimal_step, lengt
 step_short : (k n : ℕ) → n < 10 → zero_padded (suc k + 1) n ≡ zero_padded (suc k) (n / 10) ++ (48 + n % 10) ∷ []
 step_short k n h1 = grind (arith, nat_tests, common_steps, decimal_digit, zeros_suc)
 
--- the last digit of two or more
+-- If a number is padded to at least two digits, its last digit follows the others.
 zero_padded_step : (m n : ℕ) → 1 ≤ m → n < 2 ^ 64 → zero_padded (m + 1) n ≡ zero_padded m (n / 10) ++ (48 + n % 10) ∷ []
 zero_padded_step zero n some fits = absurd (omega arith)
 zero_padded_step (suc k) n some fits = elim (cases_lt n 10) [ inl few ↦ step_short k n few | inr long ↦ step_long (suc k) n long fits ]
 
--- one digit asks for no zero
+-- A number that is padded to one digit has no leading zero.
 zero_padded_one : (n : ℕ) → n < 2 ^ 64 → zero_padded 1 n ≡ decimal n
 zero_padded_one n h1 = grind (arith, nat_tests, common_steps, decimal_nonempty)
 
--- how long a number is with zeros before it
+-- the length of a number with leading zeros
 pub length_zero_padded : (digits n : ℕ) → length (zero_padded digits n) ≡ digits - length (decimal n) + length (decimal n)
 length_zero_padded digits n =
     length-append (replicate (digits - length (decimal n)) 48) (decimal n) ∙ ap (λ k. k + length (decimal n)) (length-replicate _ _)
 
--- a point before the last of some octets
+-- a point before the last `places` octets
 point_before : (whole fraction all : List ℕ) (places : ℕ) → whole ++ fraction ≡ all → length fraction ≡ places
     → whole ++ 46 ∷ fraction ≡ take (length all - places) all ++ 46 ∷ drop (length all - places) all
 point_before whole fraction all places h1 h2 = grind (arith, nat_tests, common_steps)
 
--- the two digits of a number are in the table
+-- whether `PAIRS` contains the two digits of each number below this one
 abbrev are_pairs : ℕ → Bool
 are_pairs zero = true
 are_pairs (suc p) = (eqb (get_or PAIRS (p * 2) 0) (48 + p / 10) && eqb (get_or PAIRS (p * 2 + 1) 0) (48 + p % 10)) && are_pairs p
@@ -64,11 +64,11 @@ pairs_below (suc n) p t h =
       | inr g ↦ pairs_below n p (and_r _ (are_pairs n) t) (omega arith)
     ]
 
--- four digits are two, and then two
+-- The digits of n / 100 are those of n / 10,000, followed by two more.
 pub decimal_hundreds : (n : ℕ) → 10000 ≤ n → n < 2 ^ 64 → decimal (n / 10000) ++ (48 + n / 100 % 100 / 10) ∷ (48 + n / 100 % 100 % 10) ∷ [] ≡ decimal (n / 100)
 decimal_hundreds n h1 h2 = grind (arith, nat_tests, common_steps, decimal_pair)
 
--- two more digits of those in at least so many
+-- The last two digits of a padded number follow its other digits.
 padded_pair : (m n : ℕ) → 1 ≤ m → n < 2 ^ 64 → zero_padded (m + 2) n ≡ zero_padded m (n / 100) ++ (48 + n % 100 / 10) ∷ (48 + n % 100 % 10) ∷ []
 padded_pair m n some fits =
     let ten : List ℕ = (48 + n / 10 % 10) ∷ [] in
@@ -81,7 +81,7 @@ padded_pair m n some fits =
     ∙ append_assoc (zero_padded m (n / 10 / 10)) ten one ∙ ap (λ k. zero_padded m k ++ (48 + n / 10 % 10) ∷ (48 + n % 10) ∷ []) a
     ∙ ap (λ t. zero_padded m (n / 100) ++ (48 + t) ∷ (48 + n % 10) ∷ []) b ∙ ap (λ t. zero_padded m (n / 100) ++ (48 + n % 100 / 10) ∷ (48 + t) ∷ []) c
 
--- numbers in two digits and in four
+-- numbers that are padded to two digits, and to four
 pub padded_two : (n : ℕ) → n < 100 → zero_padded 2 n ≡ (48 + n / 10) ∷ (48 + n % 10) ∷ []
 padded_two n few =
     zero_padded_step 1 n (omega arith) (omega arith) ∙ ap (λ t. t ++ (48 + n % 10) ∷ []) (zero_padded_one (n / 10) (omega arith) ∙ decimal_digit (n / 10) (omega arith))
@@ -89,7 +89,7 @@ padded_two n few =
 pub padded_four : (n : ℕ) → n < 10000 → zero_padded 4 n ≡ (48 + n / 100 / 10) ∷ (48 + n / 100 % 10) ∷ (48 + n % 100 / 10) ∷ (48 + n % 100 % 10) ∷ []
 padded_four n few = padded_pair 2 n (omega arith) (omega arith) ∙ ap (λ t. t ++ (48 + n % 100 / 10) ∷ (48 + n % 100 % 10) ∷ []) (padded_two (n / 100) (omega arith))
 
--- tenths and hundredths
+-- numbers with one digit after the point, and with two
 pub tenths_put : (n : ℕ) → n < 2 ^ 64 → decimal (n / 10) ++ 46 ∷ (48 + n % 10) ∷ [] ≡ pointed 1 (decimal n)
 tenths_put n fits =
     let last : List ℕ = (48 + n % 10) ∷ [] in
@@ -116,7 +116,7 @@ pointed_pair p n fits =
     let whole : take k short ++ (drop k short ++ pair) ≡ zero_padded (p + 2 + 1) n = sym (append_assoc (take k short) (drop k short) pair) ∙ ap (λ t. t ++ pair) (take-append-drop k short) ∙ split in
     append_assoc (take k short) (46 ∷ drop k short) pair ∙ point_before (take k short) (drop k short ++ pair) (zero_padded (p + 2 + 1) n) (p + 2) whole more
 
--- five digits after the point
+-- a number with five digits after the point
 pub five_places : (n : ℕ) → n < 2 ^ 64 → decimal (n / 100000) ++ 46 ∷ (48 + n / 10000 % 10) ∷ (48 + n / 100 % 100 / 10) ∷ (48 + n / 100 % 100 % 10) ∷ (48 + n % 100 / 10) ∷ (48 + n % 100 % 10) ∷ []
     ≡ pointed 5 (decimal n)
 five_places n fits =
@@ -131,13 +131,13 @@ five_places n fits =
 
 -- ---- A number at a scale, part by part.
 
--- a number that is not below zero, at a scale above 0
+-- an unsigned number at a positive scale
 pub unsigned_pointed : (n : ℕ) (scale : ℤ) (places : ℕ) → int_lt (pos 0) scale ≡ true → places ≡ unsigned_abs scale → pointed places (decimal n) ≡ unsigned_text n scale
 unfolding unsigned_text
 unsigned_pointed n (pos (suc m)) places h e = ap (λ (k : ℕ). pointed k (decimal n)) e
 unsigned_pointed n scale places h e = absurd cc
 
--- and at one of 0 or below
+-- an unsigned number at scale 0 or a negative scale
 pub unsigned_plain : (n : ℕ) (scale : ℤ) (places count : ℕ) → int_lt (pos 0) scale ≡ false → places ≡ unsigned_abs scale → count ≡ (if n == 0 then 0 else places)
     → decimal n ++ replicate count 48 ≡ unsigned_text n scale
 unfolding unsigned_text
@@ -155,7 +155,7 @@ pub signed_text : (v scale : ℤ) (size : ℕ) → size ≡ unsigned_abs v → s
 unfolding decimal_text_of
 signed_text v scale size e = ap (λ k. sign_of v ++ unsigned_text k scale) e
 
--- digits with a point before the last of them, where these are few or many
+-- digits with a point before the last `places` of them; if there are too few, zeros come first
 pub pointed_few : (digits zeros : List ℕ) (places count : ℕ) → length digits ≤ places → count ≡ places - length digits → zeros ≡ replicate count 48
     → 48 ∷ 46 ∷ (zeros ++ digits) ≡ pointed places digits
 pointed_few digits zeros places count h1 h2 h3 = grind (arith, nat_tests, common_steps)
@@ -164,7 +164,7 @@ pub pointed_many : (digits whole fraction : List ℕ) (places : ℕ) → places 
     → whole ++ 46 ∷ fraction ≡ pointed places digits
 pointed_many digits whole fraction places h1 h2 h3 = grind (arith, nat_tests, common_steps)
 
--- a number at scale 0, and at -1
+-- an unsigned number at scale 0, at scale -1, and at a positive scale
 pub unsigned_whole : (n : ℕ) (scale : ℤ) → scale ≡ pos 0 → decimal n ≡ unsigned_text n scale
 unfolding unsigned_text
 unsigned_whole n scale is = rw is refl
@@ -195,7 +195,7 @@ pub number-on : (text : List ℕ) (at n m : ℕ) → IsNumberTo text at n → at
     → IsNumberTo text (at + 1) m
 number-on text at n m h1 h2 h3 h4 = grind (arith, nat_tests, common_steps, list_all_more, value-on)
 
--- ---- Octets as hexadecimal digits and as a text in quotes, octet by octet.
+-- ---- Octets as hexadecimal digits and as quoted text, octet by octet.
 
 pub hex_next : (octets : List ℕ) (i : ℕ) → i < length octets → hex_text (drop i octets) ≡ hex_pair (get_or octets i 0) ++ hex_text (drop (i + 1) octets)
 unfolding hex_text
@@ -209,7 +209,7 @@ pub quoted_next : (octets : List ℕ) (i : ℕ) → i < length octets → quoted
 unfolding quoted
 quoted_next octets i within = at_drop_more quoted octets i 0 within
 
--- the first octet of a text, and the end of none
+-- the first octet of a quoted text, and the end of the text
 pub quoted_step : (rest more : List ℕ) (octet : ℕ) → rest ≡ octet ∷ more → quoted rest ≡ escaped octet ++ quoted more
 unfolding quoted
 quoted_step rest more octet is = rw is refl
@@ -224,13 +224,14 @@ pub quoted_more : (octets : List ℕ) (i : ℕ) → i < length octets → is_une
     → quoted octets ≡ take (i + 1) octets ++ quoted (drop (i + 1) octets)
 quoted_more octets i h1 h2 h3 = grind (arith, nat_tests, common_steps, quoted_next, append_assoc, take_more)
 
--- a flag is the digit of its number
+-- A flag is written as the digit 1 or 0.
 pub flag_digit : (on : Bool) (n : ℕ) → n ≡ from_bool on → decimal (from_bool on) ≡ (48 + n) ∷ []
 unfolding digits
 flag_digit true n is = rw is refl
 flag_digit false n is = rw is refl
 
--- the table says of each octet whether it needs an escape
+-- ---- The table `UNESCAPED` marks the octets that need no escape.
+
 abbrev same : Bool → Bool → Bool
 same true b = b
 same false b = not b
@@ -250,7 +251,7 @@ unescaped_below (suc n) c t h =
       | inr g ↦ unescaped_below n c (and_r _ (are_told n) t) (omega arith)
     ]
 
--- what closes the goals of single functions, and those of `numbers`
+-- rules for the goals of single functions, and for those of the functions in `numbers`
 pub ruleset run_steps = (length-set, take_more_set, take_more, quoted_more)
 
 pub ruleset number_steps = (

@@ -1,4 +1,4 @@
--- Texts that are pushed one after another, and the calls that show a reading.
+-- Texts that are pushed to a writer of lines, and the calls that show a reading.
 use Rattle.std.proofs.Common.{get_or, ◌≡◌, ℕ, ◌≤◌, ◌*◌, List, ◌++◌, length, take, drop, sym, ◌∙◌, ap, Option, None, Some, Ok, Err, append_assoc, ◌+◌, zero, suc, [], ◌∷◌, replicate, refl, subst, arith, append-nil, length-append, map, inl, inr, codes, ◌-◌, ◌<◌, Bool, true, false, ℤ, min, option_map, Result, flat_map, decimal, unwrap_or, IsTrue, ◌↔◌, is_some}
 use Rattle.std.specs.Io.KnownBytes.{Appends}
 use Rattle.std.proofs.KnownBytes.{Appends-trans}
@@ -21,7 +21,7 @@ use Rattle.bufr_walk.specs.Reading as outcome
 use Rattle.bufr_bits.proofs.CountLemmas.{empty_writes_after-some}
 use Rattle.std.specs.List.{concat}
 
--- one more write of the rest
+-- Another write extends the prefix that was written.
 pub more-written : (a b c : Option (List ℕ)) (octets rest rest' : List ℕ) (n : ℕ) → MovesPrefix a b octets rest → n ≤ length rest → Appends b c (take n rest) → rest' ≡ drop n rest
     → MovesPrefix a c octets rest'
 more-written a b c octets rest rest' n before within more is = record {
@@ -52,7 +52,7 @@ module _ (a b c : LineModel) (s t : List ℕ) where
     },
   )
 
-  -- the sink failed within the first text
+  -- The sink failed while the first text was pushed.
   stops : (f : RunFault) → b.status ≡ Err f → MovesOn a s b → StaysFailed f b c → MovesOn a (s ++ t) c
   stops f is first second =
       let moves = rw is at first.moves in
@@ -90,7 +90,7 @@ module _ (a b c : LineModel) (s t : List ℕ) where
   goes (Err f) (Ok y) is first second = absurd (let no : Err f ≡ Ok y = sym first.status ∙ is in cc)
   goes (Err f) (Err g) is first second = stays f g first is second
 
--- a text was pushed, and then another
+-- If two texts are pushed in turn, their concatenation is pushed.
 pub somehow_then : {a b c : LineModel} {s t : List ℕ} → PushesSomehow a s b → PushesSomehow b t c → PushesSomehow a (s ++ t) c
 somehow_then {a = a} {b = b} {c = c} {s = s} {t = t} first second = record {
   from = goes a b c s t a.status b.status refl first.from second.from;
@@ -119,7 +119,8 @@ holds_pushes {a = a} {b = b} {text = text} h1 h2 h3 h4 h5 h6 h7 h8 h9 = record {
 pub nothing_pushed : {a : LineModel} → Pushes a [] a
 nothing_pushed {a = a} = holds_pushes refl refl refl refl refl refl refl refl (sym (append-nil a.held))
 
--- two writes where the text did not fit, and one of a page
+-- A text that does not fit in the block causes at most two complete writes, and a page of buffered
+-- octets at most one.
 few_through : (x y g size h k : ℕ) → y ≤ x + 2 → g ≤ size → size < h → k ≡ 0 → y * g + 2 * k ≤ x * g + 2 * h
 few_through x y g size h k few least past none =
     let most : y * g ≤ (x + 2) * g = mul-le-mul_right g few in
@@ -145,18 +146,18 @@ page_pushes {a = a} {b = b} somehow none few page = record {
 pub retold_somehow : {a b : LineModel} {s t : List ℕ} → PushesSomehow a s b → s ≡ t → PushesSomehow a t b
 retold_somehow {a = a} {b = b} h is = subst (λ l. PushesSomehow a l b) is h
 
--- the same text in other words
+-- A push of a text is also a push of any equal text.
 pub retold : {a b : LineModel} {s t : List ℕ} → Pushes a s b → s ≡ t → Pushes a t b
 retold h1 h2 = grind (arith, nat_tests, common_steps)
 
--- the comment of a row ends its line
+-- `row_comment` is the comment of a row, with its line feed.
 pub comment_line : (row : Row) → comment_text (Some row) ++ 10 ∷ [] ≡ row_comment row
 comment_line row =
     ap (λ (xs : List ℕ). codes "  # " ++ xs)
     (append_assoc row.name (codes " [" ++ (row.unit ++ codes "]")) (10 ∷ []) ∙ ap (λ (xs : List ℕ). row.name ++ (codes " [" ++ xs)) (append_assoc row.unit (codes "]") (10 ∷ []))
     ∙ sym (append_assoc (row.name ++ codes " [") row.unit (codes "]\n") ∙ append_assoc row.name (codes " [") (row.unit ++ codes "]\n")))
 
--- the line of a number that was read by a row
+-- the line of a number that was read by a row of Table B
 pub number_line : (item : View) (row : Row) (n scale : ℤ) → item.fxy ≡ row.fxy → item.entry ≡ Some row → item.value ≡ shown_number n scale
     → row_line_start row ++ (decimal_text_of n scale ++ row_comment row) ≡ item_text item ++ 10 ∷ []
 number_line item row n scale fxy entry value =
@@ -164,7 +165,7 @@ number_line item row n scale fxy entry value =
     rw (fxy, entry, value)
     (ap (λ l. row_line_start row ++ l) (ap (λ l. text ++ l) (sym (comment_line row)) ∙ sym (append_assoc text (comment_text (Some row)) (10 ∷ []))))
 
--- the line of a missing value that was read by a row
+-- the line of a missing value that was read by a row of Table B
 pub missing_line : (item : View) (row : Row) → item.fxy ≡ row.fxy → item.entry ≡ Some row → item.value ≡ shown_missing
     → row_line_start row ++ (codes "MISSING" ++ row_comment row) ≡ item_text item ++ 10 ∷ []
 missing_line item row fxy entry value =
@@ -185,7 +186,7 @@ all_written {a = a} {c = c} {text = text} x first handed ok none empty h6 h7 h8 
     let moves = rw (none, append-nil text) at from.moves in
     rw (h8, ← h6, h7) (moved_all c.status a.taken c.taken text c.held empty moves)
 
--- what is held with a prefix of the free octets filled
+-- the buffered octets after a prefix of the free octets is filled with a text
 pub held_filled : (octets free text : List ℕ) (len n k : ℕ) → len ≤ length octets → n ≤ length free → take n free ≡ text → take (len + n) (put_mid len k octets free) ≡ take len octets ++ text
 held_filled octets free text len n k within fits is =
     let ahead : length (take len octets) ≡ len = length-take-le len octets within in
@@ -198,28 +199,28 @@ held_filled octets free text len n k within fits is =
     ap (take (len + n)) split ∙ ap (λ m. take m ((take len octets ++ take n free) ++ (drop n free ++ rest))) long ∙ take-append_seam (take len octets ++ take n free) (drop n free ++ rest)
     ∙ ap (λ l. take len octets ++ l) is
 
--- a text was put, in other words
+-- A copy of a text is also a copy of any equal text.
 pub puts_retold : (old new : List ℕ) (at : ℕ) (r : Option ℕ) {s t : List ℕ} → Puts old at s new r → s ≡ t → Puts old at t new r
 puts_retold old new at r h1 h2 = grind (arith, nat_tests, common_steps)
 
--- a text was put, and then another
+-- If two texts are copied in turn, their concatenation is copied.
 pub puts_then : (old mid new : List ℕ) (at end : ℕ) (r : Option ℕ) (s t : List ℕ) {all : List ℕ} → Puts old at s mid (Some end) → Puts mid end t new r → s ++ t ≡ all → Puts old at all new r
 puts_then old mid new at end r s t h1 h2 h3 = grind (arith, nat_tests, common_steps)
 
--- a prefix of a text is put, and then more of it
+-- After another part of a text is copied, the buffer contains a longer prefix of the text.
 pub text_put_on : (text rest here more old new : List ℕ) (at end : ℕ) → text ≡ take at old ++ rest → Puts old at here new (Some end) → rest ≡ here ++ more → text ≡ take end new ++ more
 text_put_on text rest here more old new at end so next is =
     so ∙ ap (λ l. take at old ++ l) is ∙ sym (append_assoc (take at old) here more) ∙ ap (λ l. l ++ more) (sym next.1)
 
--- a text is first
+-- A buffer that begins with a text contains a copy of it at index 0.
 pub puts_first : (s rest first : List ℕ) → first ≡ s → (length s ≤ length (first ++ rest)) × (take (length s) (first ++ rest) ≡ s)
 puts_first s rest first is = rw is (omega (arith, length-append s rest), take-append_seam s rest)
 
--- a prefix of the octets from a place on was filled
+-- A text fills a prefix of the octets from an index on.
 pub puts_from : (free part : List ℕ) (at n k : ℕ) {text : List ℕ} → at ≤ length free → n ≤ length part → take n part ≡ text → Puts free at text (put_mid at k free part) (Some (at + n))
 puts_from free part at n k h1 h2 h3 = grind (arith, nat_tests, common_steps, length-append, length-take-le, held_filled)
 
--- one more zero after some
+-- zeros, with one more zero at the end
 pub zeros_suc : (count : ℕ) → replicate {A = ℕ} count 48 ++ 48 ∷ [] ≡ replicate (suc count) 48
 zeros_suc zero = refl
 zeros_suc (suc count) = ap (λ (t : List ℕ). 48 ∷ t) (zeros_suc count)
@@ -227,7 +228,7 @@ zeros_suc (suc count) = ap (λ (t : List ℕ). 48 ∷ t) (zeros_suc count)
 pub zeros_more : (done : ℕ) → replicate {A = ℕ} done 48 ++ 48 ∷ [] ≡ replicate (done + 1) 48
 zeros_more done = zeros_suc done ∙ ap (λ n. replicate n 48) (let on : suc done ≡ done + 1 = omega arith in on)
 
--- a prefix of a text was pushed, and the rest is left
+-- A prefix of a text was pushed, and `rest` is the remaining text.
 pub record PushedSoFar (before after : LineModel) (text rest : List ℕ) : Type 0 where
   pub prefix : List ℕ
   pub parts : text ≡ prefix ++ rest
@@ -240,28 +241,28 @@ so_far_on {here = here} {more = more} before next pushes = record {
   pushes = before.pushes ⨾ pushes;
 }
 
--- what is left was pushed too
+-- The remaining text was pushed, too.
 pub so_far_last : {a b c : LineModel} {text rest last : List ℕ} → PushedSoFar a b text rest → rest ≡ last → Pushes b last c → Pushes a text c
 so_far_last before is pushes = retold (before.pushes ⨾ pushes) (sym (before.parts ∙ ap (λ l. before.prefix ++ l) is))
 
--- nothing is left
+-- No text remains.
 pub so_far_end : {a b : LineModel} {text rest : List ℕ} → PushedSoFar a b text rest → rest ≡ [] → Pushes a text b
 so_far_end before none = so_far_last before none nothing_pushed
 
 -- ---- The calls that show a reading, and what they push.
 
--- the text of calls
+-- the lines that calls push, as one text
 abbrev pub calls_text : List Timed → List ℕ
 calls_text calls = flat_map (λ t. call_line t.call ++ 10 ∷ []) calls
 
--- the items of a subset
+-- The calls for the items of a subset push the lines of these items.
 pub items-text : (table : List Row) (before : ℕ) (course : CountedCourse) (items : List (Item Content))
     → calls_text (item_calls table before course items) ≡ text_of_lines (map item_text (items_shown table items))
 items-text table before course [] = refl
 items-text table before course (i ∷ items) =
     ap (λ l. (call_line (item_call (view_of table i.spec i.content)) ++ 10 ∷ []) ++ l) (items-text table before (after plain course i) items)
 
--- a subset, and those after it
+-- The calls for a subset, and those for later subsets, push the lines of these subsets.
 subset-text : (number : ℕ) (calls more : List Timed) (lines suffix : List (List ℕ)) → calls_text calls ≡ text_of_lines lines → calls_text more ≡ text_of_lines suffix
     → (subset_line number ++ 10 ∷ []) ++ calls_text (calls ++ more) ≡ text_of_lines (subset_line number ∷ (lines ++ suffix))
 subset-text number calls more lines suffix h1 h2 = grind (arith, nat_tests, common_steps)
@@ -275,11 +276,11 @@ subsets-text table course before number (items ∷ subsets) =
     (map item_text (items_shown table items)) (subset_lines (number + 1) (map (items_shown table) subsets))
     (items-text table before course items) (subsets-text table course (before + (course (answers_in answer_of items)).turns) (number + 1) subsets)
 
--- the calls of a reading write its subsets
+-- The calls for a reading push the lines of all subsets.
 pub reading-text : (r : outcome.Read) (values : Values) → calls_text (calls_for r values) ≡ text_of_lines (subset_lines 1 (dump_items r.table r.source.subsets values))
 reading-text r values = subsets-text r.table (walk_shown r values) 0 1 (each_subset r.source.subsets values)
 
--- a text was written after all that was held
+-- A text was written while nothing was buffered.
 moved : (r : Result Unit RunFault) (old new : Option (List ℕ)) (octets held held' : List ℕ) → held ≡ [] → held' ≡ [] → Writes old new octets r → Moves old new (held ++ octets) held' r
 moved (Ok x) old new octets held held' e f writes = rw (e, f) (record { prefix = octets; parts = sym (append-nil octets); gains = writes })
 moved (Err why) old new octets held held' e f writes = rw e writes
@@ -302,25 +303,25 @@ pushed_through {b = b} {c = c} {octets = octets} first is none ok writes counts 
 pub fails_pushes : {a b : LineModel} {s : List ℕ} (t : List ℕ) (f : RunFault) → Pushes a s b → b.status ≡ Err f → Pushes a (s ++ t) b
 fails_pushes t f h1 h2 = grind (arith, nat_tests, common_steps)
 
--- a prefix of a text was pushed
+-- A prefix of a text was pushed.
 pub record PushesPrefix (before : LineModel) (text : List ℕ) (after : LineModel) : Type 0 where
   pub prefix : List ℕ
   pub suffix : List ℕ
   pub parts : text ≡ prefix ++ suffix
   pub pushes : PushesSomehow before prefix after
 
--- the first fault: that of a write, else want of memory
+-- The fault is that of the writer if there is one, and otherwise `Memory`.
 abbrev pub IsFirstFault : Result Unit RunFault → RunFault → Type 0
 IsFirstFault (Ok x) fault = fault ≡ Memory
 IsFirstFault (Err first) fault = fault ≡ first
 
--- What the calls of a showing push: all their lines, or a prefix where memory ran out.
+-- What the calls that show a reading push: all of their lines, or a prefix if memory ran out.
 abbrev pub PushesCalls : LineModel → List ℕ → Result (Unit {0}) (ShowFault RunFault) → LineModel → Type 0
 PushesCalls a text (Ok x) b = Pushes a text b
 PushesCalls a text (Err (show.Visitor f)) b = Pushes a text b × (b.status ≡ Err f)
 PushesCalls a text (Err show.Memory) b = PushesPrefix a text b
 
--- one call more before them
+-- A call pushes its line before the lines of later calls.
 calls-on : (a mid b : LineModel) (line text : List ℕ) (r : Result (Unit {0}) (ShowFault RunFault)) → Pushes a line mid → PushesCalls mid text r b → PushesCalls a (line ++ text) r b
 calls-on a mid b line text (Ok x) one more = one ⨾ more
 calls-on a mid b line text (Err (show.Visitor f)) one more = (one ⨾ more.0, more.1)
@@ -331,7 +332,7 @@ calls-on a mid b line text (Err show.Memory) one more = record {
   pushes = somehow_then one.somehow more.pushes;
 }
 
--- the call that ends them
+-- The showing stops at this call.
 calls-end : (a b : LineModel) (t : Timed) (text : List ℕ) (why : ShowFault RunFault) → EndsAt PushesCall a t.call why b → PushesCalls a ((call_line t.call ++ 10 ∷ []) ++ text) (Err why) b
 calls-end a b t text (show.Visitor f) here = (fails_pushes text f here.pushes (sym here.status), sym here.status)
 calls-end a b t text show.Memory here = rw here.0 (record { prefix = []; suffix = (call_line t.call ++ 10 ∷ []) ++ text; parts = refl; pushes = nothing_pushed.somehow })
@@ -347,7 +348,7 @@ calls-pushed a (t ∷ calls) turns (Err why) b steps (inl (here, made)) = calls-
 calls-pushed a (t ∷ calls) turns (Err why) b steps (inr (mid, one, more)) =
     calls-on a mid b (call_line t.call ++ 10 ∷ []) (calls_text calls) (Err why) one.pushes (calls-pushed mid calls turns (Err why) b steps more)
 
--- the steps of the calls of a showing
+-- A showing makes the steps of all turns, or if it stops early, the steps up to that point.
 pub calls-steps : (a : LineModel) (calls : List Timed) (turns : ℕ) (r : Result (Unit {0}) (ShowFault RunFault)) (b : LineModel) (steps : ℕ) → Shows PushesCall a calls turns r b steps
     → MakesSteps calls turns r steps
 calls-steps a [] turns (Ok x) b steps (same, made) = made
@@ -356,7 +357,7 @@ calls-steps a (t ∷ calls) turns (Ok x) b steps (mid, one, more) = calls-steps 
 calls-steps a (t ∷ calls) turns (Err why) b steps (inl (here, made)) = inl made
 calls-steps a (t ∷ calls) turns (Err why) b steps (inr (mid, one, more)) = inr (calls-steps mid calls turns (Err why) b steps more)
 
--- all turns are among those of a showing that was given up
+-- The steps of all turns are also possible for a showing that stops early.
 pub all-steps : (calls : List Timed) (turns steps : ℕ) → steps ≡ ticked 0 turns → StepsWithin calls turns steps
 all-steps [] turns steps made = made
 all-steps (t ∷ calls) turns steps made = inr (all-steps calls turns steps made)
@@ -365,7 +366,7 @@ pub steps-of : {X E : Type 0} (calls : List Timed) (turns steps : ℕ) (r : Resu
 steps-of calls turns steps (Ok x) made = made
 steps-of calls turns steps (Err fault) made = all-steps calls turns steps made
 
--- no step was made yet
+-- A showing that stops early may have made no steps.
 pub no-steps : (r : outcome.Read) → StepsWithin (calls_of r) (turns_shown r) 0
 no-steps r = by (each_subset r.source.subsets (values_read r))
   where
@@ -376,19 +377,19 @@ no-steps r = by (each_subset r.source.subsets (values_read r))
     by [] = refl
     by (items ∷ subsets) = inl refl
 
--- a prefix of a text was pushed, and with it one of a longer text
+-- A prefix of a text is also a prefix of any longer text.
 prefix-longer : {a b : LineModel} {s : List ℕ} (t : List ℕ) → PushesPrefix a s b → PushesPrefix a (s ++ t) b
 prefix-longer t h1 = grind (arith, nat_tests, common_steps)
 
 whole-prefix : {a b : LineModel} (s : List ℕ) → PushesSomehow a s b → PushesPrefix a s b
 whole-prefix s all = record { prefix = s; suffix = []; parts = sym (append-nil s); pushes = all }
 
--- what a writer that held nothing wrote
+-- The sink took a prefix of what was buffered and pushed.
 prefix-moved : (a b : LineModel) (text : List ℕ) (r : Result Unit RunFault) → Moves a.taken b.taken (a.held ++ text) b.held r → GrowsByPrefix a.taken b.taken (a.held ++ text)
 prefix-moved a b text (Ok x) moves = record { prefix = moves.prefix; back = b.held; parts = moves.parts; gains = moves.gains }
 prefix-moved a b text (Err f) moves = moves.1
 
--- what a dump leaves of the sink
+-- the effect of a dump on the sink of a writer of lines
 pub record LeavesSink {X : Type 0} (a : LineModel) (text : List ℕ) (r : Result X RunFault) (c : LineModel) : Type 0 where
   pub writes : WritesPrefix a.taken c.taken text r
   pub counts : CountsFaults a.failures c.failures a.empty_writes c.empty_writes r
@@ -435,7 +436,7 @@ module _ {a b c : LineModel} {head : List ℕ} (rest : List ℕ) (ok : a.status 
       }
   leaves-end (Err fault) more empty is = leaves-prefix fault (whole-prefix rest more) (rw (sym is) refl)
 
--- a showing of a reading, and what it leaves of the sink
+-- A reading was shown, with this effect on the sink.
 abbrev pub Shown : outcome.Read → LineModel → Result (Unit {0}) (ShowFault RunFault) → LineModel → ℕ → Type 0
 Shown r b o c steps = Shows PushesCall b (calls_of r) (turns_shown r) o c steps
 
@@ -443,8 +444,8 @@ abbrev pub Left : Sections → outcome.Read → LineModel → Result Unit RunFau
 Left s r a q c steps =
     LeavesSink a (text_of_lines (head_lines s) ++ (calls_text (calls_of r) ++ codes "end\n")) q c × MakesSteps (calls_of r) (turns_shown r) q steps
 
--- the head was pushed, and then the calls of a showing: all and the last line, up to a failed write,
--- or up to where memory ran out
+-- The lines before the subsets were pushed, and then the lines of the calls: all of them and the
+-- `end` line, or those up to a failed write, or those up to the point where memory ran out.
 module _ {a b c : LineModel} (s : Sections) (r : outcome.Read) (steps : ℕ) (ok : a.status ≡ Ok tt) (none : a.held ≡ []) (head : Pushes a (text_of_lines (head_lines s)) b) where
   pub left-whole : {d e : LineModel} (q : Result Unit RunFault) → Shown r b (Ok tt) c steps → Pushes c (codes "end\n") d → PushesSomehow d [] e → e.held ≡ [] → q ≡ e.status → Left s r a q e steps
   left-whole q shown last handed empty is =
@@ -478,7 +479,7 @@ pub all-counted-of : {a c : LineModel} {text : List ℕ} {f f' e e' : ℕ} (r : 
     → CountsFaults f f' e e' r
 all-counted-of r h h1 h2 h3 h4 = rw (sym h1, h2, sym h3, h4) h.counts
 
--- the dump text of a message, by a writer of lines over a sink
+-- A dump writes the dump text of its message, or a prefix of it.
 pub all-written-of : {a c : LineModel} {old new : Option (List ℕ)} (s : Sections) (read : outcome.Read) (r : Result Unit RunFault)
     → LeavesSink a (text_of_lines (head_lines s) ++ (calls_text (calls_of read) ++ codes "end\n")) r c → a.taken ≡ old → new ≡ c.taken
     → WritesPrefix old new (dump_text_of s (dump_items read.table read.source.subsets (values_read read))) r
@@ -491,13 +492,13 @@ all-written-of {a = a} {c = c} s read r h1 h2 h3 =
 key-on : (name value more : List ℕ) → name ++ (32 ∷ (value ++ (more ++ 10 ∷ []))) ≡ ((name ++ 32 ∷ []) ++ (value ++ more)) ++ 10 ∷ []
 key-on name value more = grind (arith, nat_tests, common_steps)
 
--- the values of the keys from one on, each after its lead
+-- the text of header values, each after the lead of its key; the first value has this key
 unfoldable pub header_text : (key : ℕ) → List ℕ → List ℕ
 header_text key [] = []
 header_text key (value ∷ more) =
     lead_of (get_or keys key []) ++ (decimal value ++ header_text (key + 1) more)
 
--- lines of keys, with the line feed before each in place of the one after it
+-- Header lines end with line feeds. In `header_text`, each line begins with its line feed instead.
 pub header-lines : (key : ℕ) (values : List ℕ) → 10 ∷ text_of_lines (header_lines key values) ≡ header_text key values ++ 10 ∷ []
 unfolding header_lines header_text
 header-lines key [] = refl
@@ -508,12 +509,12 @@ header-lines key (value ∷ more) =
     ∙ ap (λ l. name ++ (32 ∷ (decimal value ++ l))) (header-lines (key + 1) more)
     ∙ key-on name (decimal value) (header_text (key + 1) more))
 
--- no section 2, no lines
+-- An absent section 2 has no octets.
 pub section2-or : {X : Type 0} (f : X → List ℕ) (o : Option X) (none r : X) (section2 : Option (List ℕ)) → option_map f o ≡ section2 → r ≡ unwrap_or o none → f none ≡ [] → f r ≡ unwrap_or section2 []
 section2-or f (Some x) none r section2 h is empty = rw (is, ← h) refl
 section2-or f None none r section2 h is empty = rw (is, ← h) empty
 
--- one more descriptor of a line of at most eight
+-- another descriptor on a line of at most eight
 pub descriptors-next : (left left' : List ℕ) (done w : ℕ) → done < 8 → left ≡ w ∷ left' → descriptors_text (take (8 - done) left) ≡ (32 ∷ fxy_text w) ++ descriptors_text (take (8 - (done + 1)) left')
 unfolding descriptors_text
 descriptors-next left left' done w h1 h2 = grind (arith, nat_tests, common_steps)
@@ -523,7 +524,7 @@ left-next left left' all done w few is whole =
     let e : 8 - done ≡ suc (8 - (done + 1)) = omega arith in
     sym (ap (λ n. drop n (w ∷ left')) e) ∙ sym (ap (λ l. drop (8 - done) l) is) ∙ whole
 
--- no descriptor is left, or the line takes no more
+-- No descriptors remain, or the line is full.
 pub descriptors-none : (n : ℕ) (left : List ℕ) → left ≡ [] → descriptors_text (take n left) ≡ []
 unfolding descriptors_text
 descriptors-none n left h1 = grind (arith, nat_tests, common_steps)
@@ -532,16 +533,16 @@ pub descriptors-full : (n : ℕ) (left : List ℕ) → n ≡ 0 → descriptors_t
 unfolding descriptors_text
 descriptors-full n left full = ap (λ k. descriptors_text (take k left)) full
 
--- the lines before the subsets, one kind after another
+-- the lines before the subsets, group by group
 pub head-is : (s : Sections)
     → text_of_lines (codes "message" ∷ header_lines 0 (header_of s)) ++ (text_of_lines (map local1_line (runs_of 32 s.local1))
     ++ (text_of_lines (map section2_line (runs_of 32 (unwrap_or s.section2 []))) ++ text_of_lines (map descriptors_line (runs_of 8 s.descriptors))))
     ≡ text_of_lines (head_lines s)
 head-is s = grind (arith, nat_tests, common_steps)
 
--- ---- The lines of octets and of descriptors, one after another.
+-- ---- The lines of octets and of descriptors, line by line.
 
--- a list in runs: the first and the others
+-- The runs of a list are its first run and the runs of the other elements.
 runs-skip : (skip less : ℕ) (xs : List ℕ) → runs_after skip (suc less) xs ≡ runs_after 0 (suc less) (drop skip xs)
 unfolding runs_after
 runs-skip zero less xs = refl
@@ -552,7 +553,7 @@ pub runs-next : (less : ℕ) (xs : List ℕ) → 0 < length xs → runs_of (suc 
 unfolding runs_after
 runs-next less xs h1 = grind (arith, nat_tests, common_steps, runs-skip)
 
--- the lines of runs: the first and the others
+-- The lines of runs are the line of the first run and the lines of the others.
 pub lines-next : (f : List ℕ → List ℕ) (less : ℕ) (xs : List ℕ) → 0 < length xs
     → text_of_lines (map f (runs_of (suc less) xs)) ≡ (f (take (suc less) xs) ++ 10 ∷ []) ++ text_of_lines (map f (runs_of (suc less) (drop (suc less) xs)))
 lines-next f less xs some = ap (λ (l : List (List ℕ)). text_of_lines (map f l)) (runs-next less xs some)
@@ -562,11 +563,11 @@ unfolding runs_after
 lines-none f most [] none = refl
 lines-none f most (x ∷ xs) none = absurd (omega (arith, none))
 
--- a run that is cut at the end of the list
+-- Limiting a run to the length of the list does not change it.
 cut-run : (n m : ℕ) (xs : List ℕ) → m ≡ min (length xs) n → (take m xs ≡ take n xs) × (drop m xs ≡ drop n xs)
 cut-run n m xs h1 = grind (arith, nat_tests, common_steps)
 
--- the lines of octets after a word: the first and the others
+-- the same for a run that is limited to the length of the list
 pub octet-lines-next : (f : List ℕ → List ℕ) (less m : ℕ) (rest run suffix : List ℕ) → 0 < length rest → m ≡ min (length rest) (suc less) → run ≡ take m rest → suffix ≡ drop m rest
     → text_of_lines (map f (runs_of (suc less) rest)) ≡ (f run ++ 10 ∷ []) ++ text_of_lines (map f (runs_of (suc less) suffix))
 octet-lines-next f less m rest run suffix some is prefix back =
@@ -575,7 +576,7 @@ octet-lines-next f less m rest run suffix some is prefix back =
     ∙ ap (λ l. (f l ++ 10 ∷ []) ++ text_of_lines (map f (runs_of (suc less) (drop (suc less) rest)))) (sym (prefix ∙ cut.0))
     ∙ ap (λ l. (f run ++ 10 ∷ []) ++ text_of_lines (map f (runs_of (suc less) l))) (sym (back ∙ cut.1))
 
--- whether anything is left
+-- whether any elements remain
 pub some-left : (b : Bool) (xs : List ℕ) → IsTrue b ↔ (xs ≡ []) → b ≡ false → 0 < length xs
 some-left b xs h1 h2 = grind (arith, nat_tests, common_steps)
 
@@ -583,7 +584,7 @@ pub none-left : (b : Bool) (xs : List ℕ) → IsTrue b ↔ (xs ≡ []) → b �
 none-left true xs is e = let none : length xs ≡ 0 = ap length (is.0 refl) in omega (arith, none)
 none-left false xs is e = absurd cc
 
--- ---- The line of a message, from what a message answers.
+-- ---- The listing line, from the values that a message returns.
 
 pub is_some-map : {X Y : Type 0} (f : X → Y) (o : Option X) → is_some (option_map f o) ≡ is_some o
 is_some-map f (Some x) = refl
@@ -593,18 +594,18 @@ pub joined-append : (xs ys : List (List ℕ)) → concat xs ++ concat ys ≡ con
 joined-append [] ys = refl
 joined-append (x ∷ xs) ys = append_assoc x (concat xs) (concat ys) ∙ ap (λ l. x ++ l) (joined-append xs ys)
 
--- texts were pushed, and then others
+-- If two lists of texts are pushed in turn, all of their texts are pushed.
 pub joined_then : {a b c : LineModel} (xs ys : List (List ℕ)) → Pushes a (concat xs) b → Pushes b (concat ys) c → Pushes a (concat (xs ++ ys)) c
 joined_then xs ys first second = retold (first ⨾ second) (joined-append xs ys)
 
--- the stretches of the line, one after another
+-- The parts of a listing line are pushed in turn.
 pub line-pushed : {a one two b : LineModel} (offset : ℕ) (s : Sections) → Pushes a (concat (source_texts offset s.size s.head)) one → Pushes one (concat (time_texts s.head)) two
     → Pushes two (concat (counts_texts s.subsets s.observed s.compressed (is_some s.section2) (length s.descriptors))) b → Pushes a (ls_line offset s) b
 line-pushed offset s source time counts =
     let C = counts_texts s.subsets s.observed s.compressed (is_some s.section2) (length s.descriptors) in
     joined_then (source_texts offset s.size s.head) (time_texts s.head ++ C) source (joined_then (time_texts s.head) C time counts)
 
--- what closes the goals of single functions
+-- rules for the goals of single functions
 pub ruleset held_steps = (holds_pushes, held_filled)
 
 pub ruleset write_steps = (more-written, empty_writes_after-some, take_rest)

@@ -1,4 +1,4 @@
--- How a reading goes on, line feed by line feed, and what the calls of a reader do.
+-- How a text is parsed from line feed to line feed, and the effects of the steps of a reader.
 use Rattle.bufr_text.proofs.LineLemmas.{both, lines-cons, lines-none}
 use Rattle.std.proofs.Common.{◌≡◌, ℕ, ◌+◌, ◌<◌, ◌≤◌, ◌==◌, nat_lt, not, Bool, true, false, List, [], ◌∷◌, ◌++◌, length, refl, sym, ap, ◌∙◌, arith, append_assoc, append-nil, length-append, subst, if◌then◌else◌, ◌⊎◌, inl, inr, zero, suc, ◌&&◌, take, drop, Option, Some, None, ◌-◌, length-drop, Result, Ok, Err, OnErr, slice_index}
 use Rattle.std.proofs.lemmas.Bool.Decides.{nat_tests}
@@ -15,13 +15,13 @@ use Rattle.bufr_text.proofs.HeaderLemmas.{line_step-holds, said-sound}
 use Rattle.bufr_frame.specs.Prelude.{InputModel}
 use Rattle.bufr_text.specs.declared.fault.ReadFault.TheVariants as fault
 
--- the first line feed, or there is none
+-- This is the index of the first line feed, or there is no line feed.
 abbrev pub FeedAt : List ℕ → Option ℕ → Type 0
 FeedAt held None = has_no_feed held ≡ true
 FeedAt held (Some parsing) = (parsing < length held) × (has_no_feed (take parsing held) ≡ true)
     × (held ≡ take parsing held ++ 10 ∷ drop (parsing + 1) held)
 
--- what the end comes to, where no line is held
+-- The effect of the end of input if no line is buffered.
 abbrev pub HandlesEnd : ReaderModel → ReaderModel → Result (Option Document) ReadFault → Type 0
 HandlesEnd old new (Ok None) = (new ≡ old) × (new.held ≡ []) × (parse (position_of new) [] ≡ [])
 HandlesEnd old new (Err (fault.Line line why)) =
@@ -29,7 +29,7 @@ HandlesEnd old new (Err (fault.Line line why)) =
     × (new.fault ≡ Some (fault.Line line why)) × (new.ended ≡ old.ended) × (new.reads ≡ old.reads)
 HandlesEnd old new result = ⊥
 
--- after a fault nothing is reported
+-- After a fault, nothing is reported.
 stays-stopped : (at : ℕ) (d : Document) (meaning : Line) → line_step at (Stopped, d) meaning ≡ (Continues Stopped, d)
 unfolding line_step
 stays-stopped at d Passed = refl
@@ -49,7 +49,8 @@ stopped-reports-openly at d [] rest = by-length (nat_lt 4096 (length rest))
     by-length false = refl
 stopped-reports-openly at d (line ∷ lines) rest = rw (stays-stopped at d (read_line line)) (stopped-reports-openly (at + 1) d lines rest)
 
--- a line that is held whole
+-- ---- Lines that are buffered with their line feeds.
+
 no-feed-first : (c : ℕ) → not (c == 10) ≡ true → (c == 10) ≡ false
 no-feed-first c h = grind (arith, nat_tests, h)
 
@@ -83,14 +84,15 @@ still-open : (b c : Bool) → (b ≡ true → c ≡ true) → c ≡ false → b 
 still-open true c kept unended = sym (kept refl) ∙ unended
 still-open false c kept unended = refl
 
--- what was reported is followed by what is reported next
+-- If parsing continues in two steps, the results of both are reported.
 pub goes-further : (a b c : ReaderPosition) (x y : List ParseResult) → (b.ended ≡ true → c.ended ≡ true) → ContinuesParse a b x → ContinuesParse b c y → ContinuesParse a c (x ++ y)
 goes-further a b c x y h1 h2 h3 = grind (arith, nat_tests, common_steps)
 
 pub stays : (a : ReaderPosition) → ContinuesParse a a []
 stays a = record { whole = λ t none. refl; openly = λ unended t. refl }
 
--- a line that is too long is refused before its end is seen
+-- ---- A line that is too long is rejected before its end is known.
+
 onto-some : (c : ℕ) (ls : List (List ℕ)) → (more : List ℕ) × (rest : List (List ℕ)) × (onto_first c ls ≡ (c ∷ more) ∷ rest)
 onto-some c [] = ([], [], refl)
 onto-some c (line ∷ ls) = (line, ls, refl)
@@ -107,7 +109,7 @@ long-first (c ∷ d ∷ held) t h some =
     let (more, rest, e) = long-first (d ∷ held) t (and_second (not (c == 10)) (has_no_feed (d ∷ held)) h) (omega arith) in
     (more, rest, onto-line c ((d ∷ held) ++ t) (no-feed-first c (and_first (not (c == 10)) (has_no_feed (d ∷ held)) h)) ∙ ap (onto_first c) e)
 
--- the reading has met no fault
+-- The parser has not stopped at a fault.
 abbrev pub Reads : ParserState → Type 0
 Reads Stopped = ⊥
 Reads other = Unit {0}
@@ -117,7 +119,7 @@ unfolding line_step
 wrong-faults at (Stopped, d) r = absurd r
 wrong-faults at parsing r = refl
 
--- the first line or the rest is too long
+-- The first line begins with these octets. If there is no whole line, the incomplete line does.
 LongSplit : List ℕ → Split → Type 0
 LongSplit held s = (more : List ℕ) × (rest : List ℕ) × (lines : List (List ℕ)) × ((s ≡ record { whole = (held ++ more) ∷ lines; rest = rest }) ⊎ (s ≡ record { whole = []; rest = held ++ more }))
 
@@ -160,7 +162,7 @@ refuses-long at parsing held ended r h long = record {
       ∙ ap (λ (z : List ParseResult). Refused at NotAllowed ∷ z) (sym (stopped-reports at parsing.1 (lines_of (held ++ t))));
 }
 
--- at the end the last line may lack its line feed
+-- At the end of input, the last line may lack its line feed.
 pub one-line : (held : List ℕ) → has_no_feed held ≡ true → 0 < length held → lines_of held ≡ held ∷ []
 one-line [] h some = absurd (omega arith)
 one-line (c ∷ []) h some = onto-line c [] (no-feed-first c (and_first (not (c == 10)) true h)) ∙ ap (onto_first c) lines-none
@@ -173,7 +175,8 @@ pub ends-inside : (at : ℕ) (parsing : Parsing)
 unfolding parse_lines lines_of split_of
 ends-inside at parsing = grind (arith, nat_tests, common_steps)
 
--- where no whole line is held and the rest is short, nothing is reported before the end is known
+-- If no whole line is buffered, and the incomplete line is not too long, nothing is reported before
+-- the end of input.
 rest-alone : (held : List ℕ) → has_no_feed held ≡ true → split_of held ≡ record { whole = []; rest = held }
 unfolding split_of
 rest-alone [] h = refl
@@ -211,17 +214,17 @@ pub feed-at : (held : List ℕ) (r : Option ℕ) → IsFirstByte (is_byte 10) he
 feed-at held None h = nowhere held h
 feed-at held (Some n) h = (h.0.high, before held n h.0.high h.0.before, at-feed held n h.0.high h.1)
 
--- octets with a line feed
+-- Octets that contain a line feed are not empty.
 pub some-held : (held : List ℕ) → has_no_feed held ≡ false → 0 < length held
 some-held [] e = absurd (true≢false e)
 some-held (c ∷ held) e = omega arith
 
--- what holds anyway holds at a refusal
+-- A fact that is always true is also true after an error.
 pub refused-holds : {X E : Type 0} (r : Result X E) (P : Type 0) → P → OnErr r P
 refused-holds (Ok x) P p = tt
 refused-holds (Err e) P p = p
 
--- ---- Octets that end by a line feed.
+-- ---- Octets that end with a line feed.
 
 ends-tail : (c : ℕ) (xs : List ℕ) → ends_by_feed (c ∷ xs) ≡ true → ends_by_feed xs ≡ true
 ends-tail c [] e = refl
@@ -247,9 +250,10 @@ ends-none (c ∷ d ∷ more) e f =
     let none : d ∷ more ≡ [] = ends-none (d ∷ more) e (and_second (not (c == 10)) (has_no_feed (d ∷ more)) f) in
     absurd (omega (arith, ap length none))
 
--- ---- What is reported while the end is not known is the first of what is reported of the whole.
+-- ---- The results before the end of input are the first results of the whole text.
 
--- the whole lines, and what the rest becomes
+-- The lines of a text are the whole lines of its first part, and then those that begin with the
+-- incomplete line of this part.
 split-octet-before : (c : ℕ) (s t : List ℕ) (b : Bool) → (c == 10) ≡ b → lines_of (s ++ t) ≡ (split_of s).whole ++ lines_of ((split_of s).rest ++ t)
     → lines_of (c ∷ (s ++ t)) ≡ (split_of (c ∷ s)).whole ++ lines_of ((split_of (c ∷ s)).rest ++ t)
 unfolding split_of
@@ -275,7 +279,8 @@ IsPrefix results all = (more : List ParseResult) × (all ≡ results ++ more)
 prefix-more : (x results all : List ParseResult) → IsPrefix results all → IsPrefix (x ++ results) (x ++ all)
 prefix-more x results all (more, e) = (more, ap (λ (z : List ParseResult). x ++ z) e ∙ sym (append_assoc x results more))
 
--- a rest that is short reports nothing yet, one that is long is refused either way
+-- An incomplete line that is short reports nothing. One that is too long is rejected, whatever
+-- follows it.
 rest-prefix : (at : ℕ) (parsing : Parsing) (rest t : List ℕ) (b : Bool) → nat_lt 4096 (length rest) ≡ b → Reads parsing.0 → has_no_feed rest ≡ true
     → IsPrefix (parse_open_lines at parsing [] rest) (parse_lines at parsing (lines_of (rest ++ t)))
 unfolding parse_open_lines
@@ -301,14 +306,14 @@ lines-prefix [] at parsing rest t clean = any-prefix at parsing rest t clean
 lines-prefix (line ∷ lines) at parsing rest t clean =
     prefix-more (reported_at at (line_step at parsing (read_line line))) _ _ (lines-prefix lines (at + 1) (parsing_after (line_step at parsing (read_line line))) rest t clean)
 
--- the documents that are reported while the end is not known stay the first ones, whatever comes
--- after
+-- The results that are reported before the end of input are the first results of the whole text,
+-- whatever follows.
 pub open-prefix : (s t : List ℕ) → IsPrefix (open_documents_of s) (documents_of (s ++ t))
 open-prefix s t =
     let (more, e) = lines-prefix (split_of s).whole 1 between (split_of s).rest t (rest-clean s) in
     (more, ap (parse_lines 1 between) (lines-split s t) ∙ e)
 
--- ---- What is held of the text itself.
+-- ---- The buffered octets of the text itself.
 
 abbrev cut : List ℕ → List ℕ
 cut xs = take (length xs - 1) xs
@@ -323,7 +328,7 @@ none-kept : (b : Bool) → (if b then cut [] else []) ≡ []
 none-kept true = refl
 none-kept false = refl
 
--- what is cut off is the line feed that was lacking
+-- Only the line feed that was added is cut off.
 keeps-by : (a b : Bool) (h bs feed t k : List ℕ) → IsMissingFeed a b feed → (a ≡ true → (b ≡ true) × (bs ≡ [])) → (a ≡ false → b ≡ true → feed ≡ [] → k ≡ []) → (h ++ bs) ++ feed ≡ t ++ k
     → (taken : List ℕ) × ((if a then cut h else h) ++ bs ≡ taken ++ (if b then cut k else k))
 keeps-by a b h bs feed t [] missing kept fed same = (
@@ -349,7 +354,7 @@ pub call-keeps : (left left' : Option (List ℕ)) (old new : ReaderModel) (resul
 call-keeps left left' old new results bs call =
     keeps-by old.ended new.ended old.held bs call.lines.0 (text_of_lines call.lines.2.lines) new.held call.lines.1 (λ e. ((call.kept e).0, (call.kept e).1)) call.fed call.lines.2.octets
 
--- the same is held
+-- A step that does not change the buffer loses no octets.
 pub keeps-same : (old s new : ReaderModel) (bs : List ℕ) → KeepsUnread old s bs → new.held ≡ s.held → new.ended ≡ s.ended → KeepsUnread old new bs
 keeps-same old s new bs (taken, same) held ended = (
   taken,
@@ -357,9 +362,9 @@ keeps-same old s new bs (taken, same) held ended = (
       (ap (λ (b : Bool). if b then cut s.held else s.held) (sym ended) ∙ ap (λ (h : List ℕ). if new.ended then cut h else h) (sym held)),
 )
 
--- ---- Only an `end` line makes a document whole.
+-- ---- Only an `end` line completes a document.
 
--- a line that completes a document is an `end` line
+-- If the line completes a document, it is an `end` line.
 abbrev IsByEnd : Line → LineStep → Type 0
 IsByEnd line (Continues state, d) = Unit {0}
 IsByEnd line (Completes, d) = line ≡ Closes
@@ -372,9 +377,9 @@ line_step-end at parsing line = grind (arith, nat_tests, common_steps)
 completes-end : (at : ℕ) (parsing : Parsing) (line : Line) (effect : LineEffect) (d : Document) → effect ≡ Completes → (effect, d) ≡ line_step at parsing line → line ≡ Closes
 completes-end at parsing line effect d is e = subst (IsByEnd line) (sym e ∙ ap (λ (x : LineEffect). (x, d)) is) (line_step-end at parsing line)
 
--- ---- Lines that are taken one after another.
+-- ---- The lines that are taken, line by line.
 
--- a line with an item, in a subset
+-- the step of an item line in a subset
 item-line_step : (at subset : ℕ) (line : List ℕ) (d new : Document) (fxy : ℕ) (form : DraftValue) → length line ≤ 4096 → line_of line ≡ ItemLine fxy form
     → new ≡ with_entry d (Holds (draft at fxy form))
     → (Continues (Filling subset), new) ≡ line_step at (Filling subset, d) (read_line line)
@@ -391,7 +396,7 @@ item-taken old p line entries subset fxy form same inside short says more =
     (ap (λ es. record old.parts { entries = es }) (subst E same more))) in
     subst T (sym same) here
 
--- a line is taken
+-- One line is taken.
 line-taken : (new : Progress) (held : List ℕ) (from n : ℕ) (t : LineStep) (ended : Bool) → FeedAt (drop from held) (Some n)
     → t ≡ line_step new.at (parsing_of new) (read_line (take n (drop from held)))
     → ContinuesParse (position_with new.at (parsing_of new) (drop from held) ended) (position_with (new.at + 1) (parsing_after t) (drop (from + (n + 1)) held) ended) (reported_at new.at t)
@@ -422,14 +427,14 @@ passes-feed : (at at' : ℕ) (held : List ℕ) (from n : ℕ) → TakesWholeLine
     → TakesWholeLines at held (at' + 1) (drop (from + (n + 1)) held)
 passes-feed at at' held from n h1 h2 = grind (arith, nat_tests, common_steps, drop-drop, passes-line)
 
--- what holds after a line
+-- The state of the parser is valid after every line.
 holds-after : (new : Progress) (t : LineStep) (line : List ℕ) → IsParsing new.at (parsing_of new) → 0 < new.at → t ≡ line_step new.at (parsing_of new) (read_line line) → IsLineStep (new.at + 1) t
 holds-after new t line s some e = subst (IsLineStep (new.at + 1)) (sym e) (line_step-holds new.at (parsing_of new) (read_line line) some (said-sound line) s)
 
 further : (a b c : ReaderPosition) (x : List ParseResult) → b.ended ≡ c.ended → ContinuesParse a b [] → ContinuesParse b c x → ContinuesParse a c x
 further a b c x same f g = goes-further a b c [] x (λ e. sym same ∙ e) f g
 
--- lines were taken, and one more
+-- After the lines that were taken, another one is taken.
 one-further : (old new : Progress) (held : List ℕ) (from n : ℕ) (t : LineStep) (ended : Bool) → IsTaking old new held from → FeedAt (drop from held) (Some n)
     → t ≡ line_step new.at (parsing_of new) (read_line (take n (drop from held)))
     → ContinuesParse (position_with old.at (parsing_of old) held ended) (position_with (new.at + 1) (parsing_after t) (drop (from + (n + 1)) held) ended) (reported_at new.at t)
@@ -449,7 +454,7 @@ taking-goes old new held from n state d is feed e = record {
   passes = passes-feed old.at new.at held from n is.passes feed;
 }
 
--- a line that ends a document or is refused is the last
+-- A line that completes a document, or is invalid, is the last one that is taken.
 pub taking-ends : (old new : Progress) (held : List ℕ) (from n : ℕ) (effect : LineEffect) (last : Progress) → IsTaking old new held from → FeedAt (drop from held) (Some n) → last.at ≡ new.at + 1
     → ((state : ParserState) → effect ≡ Continues state → ⊥) → (effect, last.parts) ≡ line_step new.at (parsing_of new) (read_line (take n (drop from held)))
     → TakesLines old last held (from + (n + 1)) effect
@@ -484,7 +489,7 @@ state_of other (Continues state) = state
 state_of other Completes = other
 state_of other (Refuses fault) = other
 
--- no whole line is left
+-- No whole line remains.
 pub taking-more : (old new : Progress) (held : List ℕ) (from : ℕ) → IsTaking old new held from → has_no_feed (drop from held) ≡ true → TakesLines old new held from (Continues new.state)
 taking-more old new held from is none = record {
   goes = is.goes;
@@ -500,7 +505,7 @@ taking-more old new held from is none = record {
     same-state : (a b : ParserState) → ◌≡◌ {A = LineEffect} (Continues a) (Continues b) → b ≡ a
     same-state a b e = ap (λ (x : LineEffect). state_of b x) (sym e)
 
--- the next line adds to the document, and memory is wanted
+-- Memory ran out at the next line, which adds to the document.
 pub wants-at : (old new : Progress) (held : List ℕ) (from n : ℕ) → IsTaking old new held from → FeedAt (drop from held) (Some n)
     → adds new.state (read_line (take n (drop from held))) ≡ true → WantsAt old held
 wants-at old new held from n is feed more = record {
@@ -514,18 +519,18 @@ wants-at old new held from n is feed more = record {
   adds_to = more;
 }
 
--- ---- What the steps of a reader of dump texts do.
+-- ---- The steps of a reader of dump texts.
 
 abbrev pub reader : (at : ℕ) → Parsing → List ℕ → Bool → Option ReadFault → (reads room free : ℕ) → ReaderModel
 reader at parsing held ended fault reads room free = record { at = at; parsing = parsing; held = held; ended = ended; fault = fault; reads = reads; room = room; free = free }
 
--- what lines report that were taken
+-- the results of the lines that were taken
 pub takes-reports : (old new : Progress) (f f' : Option ReadFault) (held : List ℕ) (len : ℕ) (ended : Bool) (reads room free : ℕ) (effect : LineEffect) (p : Parsing)
     → TakesLines old new held len effect → p ≡ parsing_after (effect, new.parts)
     → ParsesHeldLines (reader old.at (parsing_of old) held ended f reads room free) (reader new.at p (drop len held) ended f' reads room free) (reported_at (new.at - 1) (effect, new.parts))
 takes-reports old new f f' held len ended reads room free effect p h1 h2 = grind (arith, nat_tests, common_steps)
 
--- the input skips them
+-- The lines that were taken are removed from the input buffer.
 pub taken-held : (old new : Progress) (before : ReaderModel) (f f' : Option ReadFault) (input input' : InputModel) (len : ℕ) (effect : LineEffect) (p : Parsing)
     → reader old.at (parsing_of old) input.held input.ended f input.reads input.room input.free ≡ before → TakesLines old new input.held len effect → p ≡ parsing_after (effect, new.parts)
     → input' ≡ record input { held = drop len input.held; gap = input.gap + len }
@@ -536,7 +541,7 @@ taken-held old new before f f' input input' len effect p is takes after skip =
     let I : InputModel → Type 0 = λ i. ParsesHeldLines before (reader new.at p i.held i.ended f' i.reads i.room i.free) results in
     subst I (sym skip) (subst B is (takes-reports old new f f' input.held len input.ended input.reads input.room input.free effect p takes after))
 
--- where memory was wanted
+-- The reader ran out of memory at the next line.
 pub wants-here : (old : Progress) (f : Option ReadFault) (held : List ℕ) (ended : Bool) (reads room free : ℕ) → WantsAt old held
     → WantsHere (reader old.at (parsing_of old) held ended f reads room free)
 wants-here old f held ended reads room free w =
@@ -549,12 +554,12 @@ wants-here old f held ended reads room free w =
       next = record { line = w.line; rest = w.rest; held = w.holds; single = w.single; adds_to = w.adds_to };
     }
 
--- a reader that skips octets
+-- The invariant of a reader remains true after octets are skipped.
 pub reader-skips : (f f' : Option ReadFault) (old new : Progress) (input : InputModel) (len : ℕ) → (f' ≡ None → IsProgress new (length (drop len input.held)) input.reads) → IsReader f old input
     → IsReader f' new (record input { held = drop len input.held; gap = input.gap + len })
 reader-skips f f' old new input len progress is = (omega (arith, is.0, length-drop len input.held), is.1, λ ended. ends-drop len input.held (is.2 ended), progress, is.4)
 
--- the progress of a reader that goes on
+-- the progress of a reader that can take more lines
 pub progress-more : (old new : Progress) (held : List ℕ) (len reads : ℕ) (state : ParserState) → TakesLines old new held len (Continues state) → IsProgress old (length held) reads
     → IsProgress new (length (drop len held)) reads
 progress-more old new held len reads state h1 h2 = grind (arith, nat_tests, common_steps)
@@ -563,7 +568,8 @@ pub progress-between : (old new d : Progress) (held : List ℕ) (len reads : ℕ
     → d.state ≡ Between → d.parts ≡ blank 0 → IsProgress d (length (drop len held)) reads
 progress-between old new d held len reads effect h1 h2 h3 h4 h5 = grind (arith, nat_tests, common_steps)
 
--- the end
+-- ---- The results at the end of input.
+
 pub reported-inside : (state : ParserState) (at : ℕ) → Reads state → (state ≡ Between → ⊥) → reported_at_end at state ≡ Refused at NotAllowed ∷ []
 reported-inside Between at reads inside = absurd (inside refl)
 reported-inside Stopped at reads inside = absurd reads
@@ -578,7 +584,7 @@ pub end-reports : (s : ReaderModel) → s.ended ≡ true → s.held ≡ [] → r
     → ParsesHeldLines s (stopped s (fault.Line s.at NotAllowed)) (Refused s.at NotAllowed ∷ [])
 end-reports s h1 h2 h3 = grind (arith, nat_tests, common_steps, ends-inside, passes-none)
 
--- the end inside of a document stops the reading
+-- If the end of input is inside a document, the reader stops.
 pub end-inside : (s s' : ReaderModel) (line : ℕ) (f : ReadFault) → s.ended ≡ true → s.held ≡ [] → reported_at_end s.at s.parsing.0 ≡ Refused s.at NotAllowed ∷ [] → line ≡ s.at
     → s' ≡ stopped s (fault.Line line NotAllowed) → f ≡ fault.Line line NotAllowed → HandlesEnd s s' (Err f)
 end-inside s s' line f ended held reports at new is =
@@ -587,7 +593,7 @@ end-inside s s' line f ended held reports at new is =
     let K : ℕ → Type 0 = λ k. HandlesEnd s (stopped s (fault.Line k NotAllowed)) (Err (fault.Line k NotAllowed)) in
     subst F (sym is) (subst N (sym new) (subst K (sym at) (end-reports s ended held reports, refl, refl, refl)))
 
--- where lines are taken no fault was met
+-- As long as lines are taken, the parser has not stopped.
 pub parsing-reads : (at : ℕ) (parsing : Parsing) → IsParsing at parsing → Reads parsing.0
 parsing-reads at (Between, d) is = tt
 parsing-reads at (Heading, d) is = tt
@@ -595,21 +601,21 @@ parsing-reads at (BeforeSubsets part, d) is = tt
 parsing-reads at (Filling subset, d) is = tt
 parsing-reads at (Stopped, d) is = is
 
--- a line that is too long
+-- A line that is too long stops the reader.
 pub long-reports : (s : ReaderModel) → Reads s.parsing.0 → has_no_feed s.held ≡ true → 4096 < length s.held
     → ParsesHeldLines s (stopped s (fault.Line s.at NotAllowed)) (Refused s.at NotAllowed ∷ [])
 long-reports s reads clean long = record { goes = refuses-long s.at s.parsing s.held s.ended reads clean long; passes = passes-none s.at s.held }
 
--- a reader that read
+-- the progress of a reader after another read
 pub progress-read : (d : Progress) (held held' reads : ℕ) → IsProgress d held reads → held' ≤ held + 4096 → IsProgress d held' (reads + 1)
 progress-read d held held' reads is few = record { holds = is.holds; some = is.some; near = omega (arith, is.near, few) }
 
--- the buffer is made at the first read
+-- The buffer is allocated at the first read.
 pub room-made : (reads reads' room room' : ℕ) → (0 < reads → 8192 ≤ room) → room ≤ room' → (reads ≡ 0 → 0 < reads' → 8192 ≤ room') → 0 < reads' → 8192 ≤ room'
 room-made zero reads' room room' made order first some = first refl some
 room-made (suc reads) reads' room room' made order first some = omega (arith, made (omega arith), order)
 
--- each line reports at most one document or fault, and so does the end
+-- Each line reports at most one document or fault, and so does the end of input.
 reported-few : (at : ℕ) (t : LineStep) → length (reported_at at t) ≤ 1
 reported-few at (Continues state, d) = omega arith
 reported-few at (Completes, d) = omega arith
@@ -629,5 +635,5 @@ spelled-few (line ∷ more) at parsing =
     let here = line_step at parsing (read_line line) in
     omega (arith, reported-few at here, spelled-few more (at + 1) (parsing_after here), length-append (reported_at at here) (parse_lines (at + 1) (parsing_after here) more))
 
--- what closes the goals of single functions
+-- rules for the goals of single functions
 pub ruleset more_steps = (length-append, ends-append, progress-read, room-made)

@@ -1,5 +1,5 @@
--- Worked examples of lines and documents that are refused: each bound from both sides, and of two
--- faults at one line, or in one document, the first.
+-- Worked examples of lines and documents that are rejected. Each bound is shown from both sides. If
+-- a line or a document has two faults, the example shows which one is reported.
 use Rattle.std.proofs.Common.{◌≡◌, ◌+◌, ◌++◌, ℕ, Bool, true, false, List, [], ◌∷◌, map, replicate, Result, Ok, Err, refl, codes}
 use Rattle.bufr_bits.specs.Prelude.{decimal_value_of}
 use Rattle.bufr_frame.specs.declared.section1.Head.{Head}
@@ -14,13 +14,13 @@ use Rattle.bufr_text.specs.declared.fault.DocumentFault.TheVariants as fault
 use Rattle.bufr_text.specs.Prelude.{leasts, mosts, in_range, without_prefix, hex_read, hex_text, fxy_read, descriptors_read, descriptors_text, quoted_read, is_hashed, Line, Header, Local1, Section2, Descriptors, Begins, ItemLine, Wrong, keys, value_read, worded, line_of, read_line, ParseResult, Refused, NotAllowed, SubsetCount, HeaderRange, line_step, parse_lines, lines_of, documents_of, Document, blank, Heading, BeforeSubsets, open_documents_of, split_of, parse_open_lines, text_of_lines, DocumentFault, encoding_of, encoding_in, message_of}
 use Rattle.bufr_text.proofs.EncodingExamples.{listed, table, document, number}
 
--- ---- What one line says, where an octet is on either side of a range.
+-- ---- The meaning of one line, with octets on both sides of each range.
 
 said : List (List ℕ) → List Line
 unfolding line_of worded without_prefix fxy_read value_read quoted_read is_hashed keys hex_read descriptors_read
 said lines = map read_line lines
 
--- A digit of local use is 0 to 9, A to F or a to f: each with its neighbours, last and first.
+-- The hexadecimal digits are 0 to 9, A to F, and a to f.
 -- rule: reading-hexadecimal
 hexadecimal_digits :
     (said (map (λ c. codes "local1 0" ++ c ∷ []) (47 ∷ 48 ∷ 57 ∷ 58 ∷ 64 ∷ 65 ∷ 70 ∷ 71 ∷ 96 ∷ 97 ∷ 102 ∷ 103 ∷ []))
@@ -30,7 +30,7 @@ hexadecimal_digits :
 unfolding said
 hexadecimal_digits = (refl, refl)
 
--- Lines of octets have 1 to 32 of them, and lines of descriptors 1 to 8.
+-- A line of octets has 1 to 32 of them, and a line of descriptors 1 to 8.
 -- rule: reading-long-lists, reading-hexadecimal
 most_of_a_line :
     (said (map (λ n. codes "local1 " ++ hex_text (replicate n 1)) (0 ∷ 1 ∷ 32 ∷ 33 ∷ [])) ≡ Wrong ∷ Local1 (1 ∷ []) ∷ Local1 (replicate 32 1) ∷ Wrong ∷ [])
@@ -39,7 +39,8 @@ most_of_a_line :
 unfolding said hex_text descriptors_text
 most_of_a_line = (refl, refl, refl)
 
--- In a text an octet from space to tilde is itself, but a quote and a backslash.
+-- In a quoted text, any octet from space to tilde represents itself, except a quote and a
+-- backslash.
 -- rule: reading-quoted
 octets_of_a_text : said (map (λ c. codes "205001 " ++ 34 ∷ c ∷ 34 ∷ []) (31 ∷ 32 ∷ 33 ∷ 34 ∷ 35 ∷ 91 ∷ 92 ∷ 93 ∷ 126 ∷ 127 ∷ 255 ∷ []))
     ≡ Wrong ∷ ItemLine 0x8501 (text_form (32 ∷ [])) ∷ ItemLine 0x8501 (text_form (33 ∷ [])) ∷ Wrong ∷ ItemLine 0x8501 (text_form (35 ∷ [])) ∷ ItemLine 0x8501 (text_form (91 ∷ []))
@@ -47,8 +48,8 @@ octets_of_a_text : said (map (λ c. codes "205001 " ++ 34 ∷ c ∷ 34 ∷ []) (
 unfolding said
 octets_of_a_text = refl
 
--- An escape is a quote, a backslash, or x and two digits of upper case. Fails where a digit of
--- lower case, one digit, or another letter is read.
+-- An escape is a backslash, followed by a quote, a backslash, or `x` and two hexadecimal digits in
+-- upper case. Fails if a lower-case digit, a single digit or another letter is accepted.
 -- rule: reading-quoted
 escapes_of_a_text :
     (said (map (λ c. codes "205001 " ++ 34 ∷ 92 ∷ codes "x0" ++ c ∷ 34 ∷ []) (47 ∷ 48 ∷ 57 ∷ 58 ∷ 64 ∷ 65 ∷ 70 ∷ 71 ∷ 97 ∷ 102 ∷ []))
@@ -59,7 +60,7 @@ escapes_of_a_text :
 unfolding said
 escapes_of_a_text = (refl, refl)
 
--- A number token has minus signs, points and digits: each with its neighbours.
+-- A number token consists of digits, minus signs and points.
 -- rule: reading-number
 octets_of_a_number :
     (said (map (λ c. codes "001001 " ++ c ∷ []) (44 ∷ 45 ∷ 46 ∷ 47 ∷ 48 ∷ 57 ∷ 58 ∷ []))
@@ -70,15 +71,15 @@ octets_of_a_number :
 unfolding said
 octets_of_a_number = (refl, refl)
 
--- An `R` line has a number and nothing else, with one space between.
+-- An `R` line has only a number as its value, after one space.
 -- rule: reading-reference, reading-after-a-value
 lines_of_references : said (codes "R 012101 -400" ∷ codes "R 012101 -400  # x" ∷ codes "R 012101 MISSING" ∷ (codes "R 012101 " ++ 34 ∷ 65 ∷ 34 ∷ []) ∷ codes "R 012101 -400 x" ∷ codes "R  012101 -400" ∷ codes "R 012101  -400" ∷ codes "R 01210 1" ∷ codes "R" ∷ codes "R 012101 " ∷ [])
     ≡ ItemLine 3173 (reference_token (codes "-400")) ∷ ItemLine 3173 (reference_token (codes "-400")) ∷ replicate 8 Wrong
 unfolding said
 lines_of_references = refl
 
--- After a value come spaces and `#`, or nothing. Fails where a comment after `R FXY N`, after
--- MISSING or after a text is refused, or where no space is wanted before it.
+-- After a value, only a comment is allowed, with at least one space before its `#`. Fails if a
+-- comment is rejected after a reference, `MISSING` or a text, or if the space is not required.
 -- rule: reading-after-a-value
 after_a_value :
     (said (codes "001001 MISSING # x" ∷ codes "001001 MISSING#" ∷ codes "001001 MISSING " ∷ codes "001001 MISSINGS" ∷ codes "001001 MISSIN" ∷ codes "001001 missing" ∷ (codes "205001 " ++ 34 ∷ 65 ∷ 34 ∷ codes " #") ∷ (codes "205001 " ++ 34 ∷ 65 ∷ 34 ∷ codes "#") ∷ [])
@@ -87,8 +88,8 @@ after_a_value :
 unfolding said
 after_a_value = (refl, refl)
 
--- A header number, and that of `subset`, is one or more digits after one space; any past 65,535 are
--- alike.
+-- The number of a header line, or of a `subset` line, has at least one digit, and comes after one
+-- space. All numbers above 65,535 are read as 65,536.
 -- rule: reading-header-number
 numbers_of_the_header :
     (said (map (λ c. codes "year " ++ c ∷ []) (47 ∷ 48 ∷ 57 ∷ 58 ∷ [])) ≡ Wrong ∷ Header 10 0 ∷ Header 10 9 ∷ Wrong ∷ [])
@@ -100,13 +101,15 @@ numbers_of_the_header = (refl, refl, refl, refl)
 
 -- ---- The ranges of the header.
 
--- whether each value, and one more, is within the range of its key, from a key on
+-- whether each value is in the range of its key, and whether the next number is; the first value
+-- has this key
 bounds : (edition key : ℕ) → List ℕ → List (Bool × Bool)
 unfolding leasts mosts
 bounds edition key [] = []
 bounds edition key (value ∷ more) = (in_range edition key value, in_range edition key (value + 1)) ∷ bounds edition (key + 1) more
 
--- The greatest value of each key, and one more, by edition; 0 is within, but for `edition`.
+-- For each edition, the greatest value of every key is in range, and the next number is not. 0 is
+-- in range for every key except `edition`.
 -- rule: reading-header-ranges
 greatest_of_the_header :
     (bounds 4 0 (4 ∷ 255 ∷ 65535 ∷ 65535 ∷ 255 ∷ 255 ∷ 255 ∷ 255 ∷ 255 ∷ 255 ∷ 65535 ∷ 255 ∷ 255 ∷ 255 ∷ 255 ∷ 255 ∷ 1 ∷ 1 ∷ 1 ∷ 65535 ∷ []) ≡ replicate 20 (true, false))
@@ -116,14 +119,14 @@ greatest_of_the_header :
 unfolding bounds
 greatest_of_the_header = (refl, refl, refl, refl)
 
--- ---- Which lines may come where.
+-- ---- The order of lines.
 
--- the documents of lines
+-- the documents in these lines
 documents_in : List (List ℕ) → List ParseResult
 unfolding line_of worded without_prefix fxy_read value_read quoted_read is_hashed keys leasts mosts hex_read descriptors_read parse_lines lines_of split_of line_step
 documents_in lines = documents_of (text_of_lines lines)
 
--- what lines after a header do, from line 22 on; in the end `x` is on a line
+-- the results of these lines and an invalid line after a header; the first line is line 22
 after_header : (optional subsets : ℕ) → List (List ℕ) → List ParseResult
 unfolding line_of worded without_prefix fxy_read value_read quoted_read is_hashed keys leasts mosts hex_read descriptors_read parse_lines line_step
 after_header optional subsets lines = parse_lines 22 (BeforeSubsets group.Local1, record (blank 1) { header = 4 ∷ 0 ∷ 98 ∷ 0 ∷ 0 ∷ 0 ∷ 0 ∷ 0 ∷ 14 ∷ 0 ∷ 2024 ∷ 1 ∷ 2 ∷ 3 ∷ 4 ∷ 5 ∷ 1 ∷ 0 ∷ optional ∷ subsets ∷ [] }) (lines ++ codes "x" ∷ [])
@@ -137,12 +140,13 @@ count_at n = Refused n SubsetCount ∷ []
 abbrev range_at : ℕ → List ParseResult
 range_at n = Refused n HeaderRange ∷ []
 
--- what lines do that come after `compressed`, from line 20 on; in the end `x` is on a line
+-- the results of these lines and an invalid line after the `compressed` line; the first line is
+-- line 20
 late_header : List (List ℕ) → List ParseResult
 unfolding line_of worded without_prefix fxy_read value_read quoted_read is_hashed keys leasts mosts hex_read descriptors_read parse_lines line_step
 late_header lines = parse_lines 20 (Heading, record (blank 1) { header = 4 ∷ 0 ∷ 98 ∷ 0 ∷ 0 ∷ 0 ∷ 0 ∷ 0 ∷ 14 ∷ 0 ∷ 2024 ∷ 1 ∷ 2 ∷ 3 ∷ 4 ∷ 5 ∷ 1 ∷ 0 ∷ [] }) (lines ++ codes "x" ∷ [])
 
--- The header ends with `subsets`, and no sooner.
+-- The header ends with the `subsets` line, and not before.
 -- rule: reading-header-order, fault-61
 end_of_the_header :
     map late_header ((codes "optional 1" ∷ codes "subsets 65535" ∷ codes "local1 01" ∷ []) ∷ (codes "optional 0" ∷ codes "local1 01" ∷ []) ∷ (codes "optional 0" ∷ codes "end" ∷ []) ∷ (codes "optional 0" ∷ codes "subsets 1" ∷ codes "subsets 1" ∷ [])
@@ -151,8 +155,9 @@ end_of_the_header :
 unfolding late_header
 end_of_the_header = refl
 
--- Octets of local use, those of section 2, descriptors and subsets come in this order, each kind as
--- often as it likes. Fails where one may come late, or where a second is refused.
+-- Octets for local use, octets of section 2, descriptors and subsets come in this order, each on
+-- any number of lines. Fails if one of them is accepted too late, or if its second line is
+-- rejected.
 -- rule: reading-section2, reading-long-lists, fault-50
 kinds_in_order :
     (after_header 1 1 (codes "local1 01" ∷ codes "local1 01" ∷ codes "section2 01" ∷ codes "section2 01" ∷ codes "descriptors 001001" ∷ codes "descriptors 001001" ∷ codes "subset 1" ∷ codes "001001 1" ∷ codes "R 012101 1" ∷ []) ≡ line_at 31)
@@ -161,13 +166,14 @@ kinds_in_order :
 unfolding after_header
 kinds_in_order = (refl, refl)
 
--- Section 2 may have octets where `optional` is 1 alone.
+-- Octets of section 2 are allowed only if `optional` is 1.
 -- rule: reading-section2
 section2_by_the_flag : (after_header 0 1 (codes "section2 01" ∷ []) ≡ line_at 22) × (after_header 1 1 (codes "section2 01" ∷ []) ≡ line_at 23) × (after_header 0 1 (codes "local1 01" ∷ []) ≡ line_at 23)
 unfolding after_header
 section2_by_the_flag = (refl, refl, refl)
 
--- An item comes after `subset`; a header line and `message` come neither before nor after it.
+-- Items are allowed only after a `subset` line. After the header, neither header lines nor
+-- `message` are allowed.
 -- rule: fault-50
 lines_out_of_place :
     (map (λ line. after_header 1 1 (line ∷ [])) (codes "001001 1" ∷ codes "R 012101 1" ∷ codes "message" ∷ codes "edition 4" ∷ codes "subsets 1" ∷ []) ≡ replicate 5 (line_at 22))
@@ -175,8 +181,9 @@ lines_out_of_place :
 unfolding after_header
 lines_out_of_place = (refl, refl)
 
--- A subset has the next number, and no number past `subsets`; at `end` there are so many. Fails
--- where a number is skipped, where it is not compared with `subsets`, or where fewer are enough.
+-- A subset has the next number, which is at most the number of subsets. At `end`, no subset may be
+-- missing. Fails if a number may be skipped or is not compared with `subsets`, or if too few
+-- subsets are accepted.
 -- rule: fault-57, reading-subsets
 numbers_of_subsets :
     (map (λ line. after_header 0 1 (line ∷ [])) (codes "subset 0" ∷ codes "subset 01" ∷ codes "subset 2" ∷ codes "end" ∷ []) ≡ count_at 22 ∷ line_at 23 ∷ count_at 22 ∷ count_at 22 ∷ [])
@@ -188,9 +195,9 @@ numbers_of_subsets :
 unfolding after_header
 numbers_of_subsets = (refl, refl, refl, refl, refl, refl)
 
--- ---- Of two faults at one line the first: 50, then 61 or 57.
+-- ---- If a line has two faults, 50 is reported before 61 and 57.
 
--- What is no line comes before a wrong count.
+-- An invalid line is reported before a wrong subset count.
 -- rule: fault-order-of-a-line
 line_before_count :
     (map (λ line. after_header 0 1 (line ∷ [])) (codes "subset 2 " ∷ codes "subset -1" ∷ codes "subset" ∷ codes "end " ∷ codes "end # x" ∷ []) ≡ replicate 5 (line_at 22))
@@ -200,7 +207,7 @@ line_before_count :
 unfolding after_header documents_in
 line_before_count = (refl, refl, refl, refl)
 
--- What is no line, or another key than the next, comes before a value past its range.
+-- An invalid line, or a key that is not the next one, is reported before a value out of range.
 -- rule: fault-order-of-a-line, reading-header-order
 line_before_range :
     (map (λ line. documents_in (codes "message" ∷ line ∷ [])) (codes "edition 5 " ∷ codes "edition x" ∷ codes "master 256" ∷ codes "edition 2" ∷ codes "edition 3" ∷ codes "edition 4" ∷ codes "edition 5" ∷ [])
@@ -212,10 +219,10 @@ line_before_range :
 unfolding after_header documents_in
 line_before_range = (refl, refl, refl, refl)
 
--- ---- Long lines, and where a text ends.
+-- ---- Long lines, and the end of a text.
 
--- A line has at most 4,096 octets, with its line feed or without, a comment too; one octet more is
--- refused before the line ends.
+-- A line has at most 4,096 octets, with or without a line feed after it, even if it is a comment. A
+-- longer line is rejected before its end is known.
 -- rule: reading-longest-line
 longest_line :
     (documents_of (35 ∷ replicate 4095 120) ≡ [])
@@ -225,8 +232,8 @@ longest_line :
 unfolding line_of parse_lines lines_of line_step parse_open_lines split_of
 longest_line = (refl, refl, refl, refl)
 
--- The text may end between documents alone, and the fault is at the next line; a line that is
--- refused ends all.
+-- A text may end only between documents. Otherwise, the fault is at the line after the last one.
+-- After an invalid line, nothing more is reported.
 -- rule: input-ends-early, fault-50
 where_a_text_ends :
     (map documents_of ([] ∷ codes "\n" ∷ codes "# x" ∷ codes "message" ∷ codes "message\n" ∷ codes "message\nedition 4\n" ∷ codes "message\nedition 4\n# x" ∷ codes "message\nx\ny\n" ∷ codes "message \n" ∷ codes "messages\n" ∷ [])
@@ -236,13 +243,13 @@ unfolding line_of worded without_prefix fxy_read value_read quoted_read is_hashe
     parse_open_lines split_of
 where_a_text_ends = (refl, refl)
 
--- ---- Of two faults of a document the first: 56, then that of an item, then 60.
+-- ---- If a document has two faults, 56 is reported before a fault of an item, and 60 last.
 
 encoded : Document → Result (List ℕ) DocumentFault
 unfolding table document number encoding_in tree_of level part_of inner_of next_item decimal_value_of
 encoded d = encoding_of table [] d
 
--- However much local use there is, the template goes first, and then the items.
+-- The template is checked first, and then the items, however many octets for local use there are.
 -- rule: fault-56-first-60-last
 template_then_items : (octets : List ℕ)
     → (encoded (record (document 0 1 (0x0101 ∷ 0x0102 ∷ []) (number 24 0x0101 (codes "127") ∷ Ends 25 ∷ [])) { local1 = octets }) ≡ Err (fault.Template 1 (template.UnknownElement 0x0102)))

@@ -31,11 +31,9 @@ use Rattle.std.specs.Int.{from_bool}
 abbrev pub parts_of_document : Document → (payload : List ℕ) → MessageParts
 parts_of_document d payload = parts_as (header_in d).compressed d payload
 
--- ---- The document of an accepted message is encoded to a message with the same reading.
+-- ---- A written message consists of octets, and is found in a stream, whatever follows it.
 
--- ---- A message that was written has octets, and is scanned as one message whatever is after it.
-
--- ---- octets
+-- ---- Octets.
 
 both : (a b : List ℕ) → AllByRecursion IsOctet a → AllByRecursion IsOctet b → AllByRecursion IsOctet (a ++ b)
 both [] b h g = g
@@ -105,7 +103,7 @@ octets_small h p head local1 section2 descriptors subsets payload few =
         let t = three_small (7 + length content) h in
         (t.0, (t.1.0, (t.1.1.0, (omega arith, (high_small subsets g, (low_small subsets, (f, w)))))))
 
--- ---- the scan
+-- ---- The scan.
 
 -- the shortest message
 least_message : List ℕ
@@ -118,7 +116,7 @@ verdict_frame m a b c d e = rw (a, b, c, d, e) refl
 at_least : (a b : ℕ) → b ≤ a → nat_lt a b ≡ false
 at_least a b h = grind (arith, nat_tests)
 
--- what is after a message that states its length n
+-- a message that states its length n, followed by the octets t
 module _ (m t : List ℕ) (n : ℕ) (is : stated_length (m ++ t) ≡ n) (long : length m ≡ n) where
   framed_by : (at : ℕ) → 12 ≤ n → classify (m ++ t) ≡ classify least_message → scan_from 0 at (m ++ t) ≡ FrameAt at m ∷ scan_from 0 (at + length m) t
   unfolding least_message
@@ -161,7 +159,7 @@ framed h p at t long =
     (at_least (length (m ++ t)) (stated_length (m ++ t)) (omega (arith, whole, is)))
     (at_least (stated_length (m ++ t)) 12 (omega (arith, is, least))) last)
 
--- ---- the text
+-- ---- The dump text.
 
 text_same : (a b : Sections) (items items' : List (List View)) → SaySame AsWritten a b → items' ≡ items → dump_text_of b items' ≡ dump_text_of a items
 text_same a b items items' h1 h2 = grind (arith, nat_tests, common_steps)
@@ -171,7 +169,7 @@ pub same_text : (table : List Row) (m : List ℕ) (s : Sections) (template : Tre
 same_text table m s template values octets h = text_same s h.sections (dump_items table s.subsets values) (dump_items table h.sections.subsets values) h.same
     (ap (λ n. dump_items table n values) h.same.subsets)
 
--- ---- the drafts of a dump
+-- ---- The drafts of a dump.
 
 abbrev drafts_from : (at : ℕ) → List View → List Draft
 drafts_from at [] = []
@@ -198,7 +196,7 @@ all_apart table at (items ∷ subsets) =
     subst (AreDumped (items ∷ subsets)) (sym (items_drafted (at + 1) line here (subset_entries line (map (items_shown table) subsets))))
     (apart_drafted table (at + 1) items, all_apart table line subsets)
 
--- ---- the octets of the data
+-- ---- The octets of the data.
 
 pub padded : (bits : List Bool) → length (bits ++ padding (length bits)) ≡ 8 * ((length bits + 7) / 8)
 padded bits = omega (arith, length-append bits (padding (length bits)), length-replicate ((8 - length bits % 8) % 8) false)
@@ -206,7 +204,8 @@ padded bits = omega (arith, length-append bits (padding (length bits)), length-r
 pub payload_bits : (bits : List Bool) → bits_of (octets_of_bits bits) ≡ bits ++ padding (length bits)
 payload_bits bits = octet_bits_again ((length bits + 7) / 8) (bits ++ padding (length bits)) (padded bits)
 
--- a document that is encoded
+-- ---- The encoding of a document.
+
 within : (a b : ℕ) → a ≤ b → nat_lt b a ≡ false
 within a b h = grind (arith, nat_tests)
 
@@ -217,7 +216,8 @@ pub encoded_to : (table : List Row) (sequences : List Sequence) (d : Document) (
 unfolding encoding_in
 encoded_to table sequences d template bits h1 h2 h3 = grind (arith, nat_tests, common_steps)
 
--- what the document of a message says
+-- ---- The values in the document of a message.
+
 pub bit_back : (b : Bool) → (from_bool b == 1) ≡ b
 bit_back true = refl
 bit_back false = refl
@@ -245,7 +245,7 @@ size_least s payload n h g =
 pub size_is : (m : List ℕ) (s : Sections) → sections_of m ≡ Ok s → s.size ≡ length m
 size_is m s e = ap (λ (x : Sections). x.size) (sections-ended m s e).is
 
--- the bits that are written for a message's values, and their reading
+-- the bits that are written for a message's values; reading these bits gives the same values
 pub record IsFilled (table : List Row) (template : Tree) (s : Sections) (values : Values) (entries : List DraftEntry) : Type 0 where
   pub out : List Bool
   pub fills : data_bits s.compressed (next_item table template) (subsets_of entries) ≡ Ok out
@@ -262,14 +262,14 @@ suffix out more bits e = ap (drop (length out)) e ∙ drop_at out more (length o
 pub fills_as : (b c : Bool) (course : Course) (drafts : List Subset) (out : List Bool) → b ≡ c → data_bits c course drafts ≡ Ok out → data_bits b course drafts ≡ Ok out
 fills_as b c course drafts out e h = ap (λ x. data_bits x course drafts) e ∙ h
 
--- how the bits that are written are read
+-- Octets that begin with these bits are read as the same values.
 pub reads_octets : (course : Course) (compressed : Bool) (n : ℕ) (values : Values) (out : List Bool)
     → ((more : List Bool) → HasReading course (record { compressed = compressed; subsets = n; bits = out ++ more }) values (length out))
     → (octets : List ℕ) (more : List Bool) → bits_of octets ≡ out ++ more → HasReading course (record { compressed = compressed; subsets = n; bits = bits_of octets }) values (length out)
 reads_octets course compressed n values out again octets more e =
     subst (λ bits. HasReading course (record { compressed = compressed; subsets = n; bits = bits }) values (length out)) (sym e) (again more)
 
--- the drafts of a dump are those of its items
+-- The drafts of a dump are those of the items.
 pub all_dumped : (table : List Row) (at n : ℕ) (values : Values) → AreDumped (each_subset n values) (subsets_of (subset_entries at (dump_items table n values)))
 all_dumped table at n (apart subsets) = all_apart table at subsets
 all_dumped table at n (together items) = all_apart table at (subsets_from n 0 items)
@@ -285,9 +285,9 @@ filled table template s values used at rows legal read =
       read = reads_octets (next_item table template) s.compressed s.subsets values w.0.out w.0.again;
     }
 
--- ---- the message
+-- ---- The whole message.
 
--- a message written again is longer only where its edition makes an odd section even
+-- A message that is written again grows only if an odd section is made even.
 at-most-even : (m : List ℕ) (s : Sections) → sections_of m ≡ Ok s → message_size s.head.edition (parts_in s) ≤ length m + extra_octets m
 at-most-even m s is = by (edition_of m == 3) (u24_at m (section3_begins m) % 2 == 1) (u24_at m (section4_begins m) % 2 == 1) refl refl refl
   where
@@ -312,7 +312,8 @@ at-most-even m s is = by (edition_of m == 3) (u24_at m (section3_begins m) % 2 =
     by true true c f g h = two f
     by true false true f g h = two f
 
--- a message of parts has octets, is found in a stream, and has the bits of its payload
+-- A message that is built from these parts consists of octets, is found in a stream, and has these
+-- data bits.
 pub record IsMessageOf (h : Head) (p : MessageParts) (out : List Bool) : Type 0 where
   pub octets : AllByRecursion IsOctet (message_octets h p)
   pub framed : (at : ℕ) (suffix : List ℕ) → scan_from 0 at (message_octets h p ++ suffix) ≡ FrameAt at (message_octets h p) ∷ scan_from 0 (at + length (message_octets h p)) suffix
@@ -387,7 +388,8 @@ if_err_so (Ok x) h f = h
 if_err_so (Err e) h f = f e h
 
 module _ (form : Form) (table : List Row) (sequences : List Sequence) (d : Document) where
-  -- a message that is written is the definition's
+  -- If its template and data have no fault, a document is encoded to the message of its data bits,
+  -- unless this message is too long.
   pub as_written : (template : Tree) (bits : List Bool) (payload : List ℕ) → tree_of (tables_of table sequences) d.descriptors ≡ Ok template
       → data_bits (compressed_as form d) (next_item table template) (subsets_of d.entries) ≡ Ok bits → payload ≡ octets_of_bits bits
       → encoding_in form table sequences d ≡ message_of d.line (header_in d).head (parts_as (compressed_as form d) d payload)
@@ -430,7 +432,7 @@ module _ (form : Form) (table : List Row) (sequences : List Sequence) (d : Docum
   no_template o (inr h) = inr (ap (λ r. r >>= λ t. map_err document_fault (data_bits (compressed_as form d) (next_item table t) (subsets_of d.entries)) >>= λ b. message_of d.line (header_in d).head
       (parts_as (compressed_as form d) d (octets_of_bits b))) h)
 
-  -- a document whose data are not written is refused
+  -- A document whose data cannot be written is rejected.
   pub refused_form : (made : Result Tree TemplateFault) (why : DocumentFault) (steps : ℕ) → tree_of (tables_of table sequences) d.descriptors ≡ made → WritesForm form table d made (Err why) steps
       → IsDocumentRefusal why (encoding_in form table sequences d)
   refused_form (Ok template) why steps e h = no_data template why e h.refuses
@@ -441,7 +443,7 @@ module _ (form : Form) (table : List Row) (sequences : List Sequence) (d : Docum
       same_fault : (a b : DocumentFault) → ◌≡◌ {A = Result (Vec ℕ Global) DocumentFault} (Err a) (Err b) → a ≡ b
       same_fault a b e = cc
 
-  -- its data, where they were written
+  -- The data of the document were written as these octets.
   pub record IsWrittenForm (octets : List ℕ) (steps : ℕ) : Type 0 where
     pub template : Tree
     pub is : tree_of (tables_of table sequences) d.descriptors ≡ Ok template

@@ -1,5 +1,5 @@
--- A document (the dump text of one message), what each line does to it, and the documents of a
--- text. (own)
+-- A document (the dump of one message), the effect of each line on it, and how input is parsed
+-- (own).
 -- Cited by public contracts.
 use Rattle.std.specs.Prelude.{ℕ, List, [], slice_index, ◌+◌, ◌==◌, nat_le, nat_lt, Bool, true, false, not, ◌&&◌, if◌then◌else◌, ◌∷◌, ◌++◌, length, ◌≡◌, ◌^◌, Option, Some, None}
 use Rattle.bufr_fill.specs.Prelude.{DraftEntry, draft, Holds, Ends}
@@ -15,26 +15,26 @@ use Rattle.bufr_text.specs.declared.document.LineEffect.TheVariants.{Continues, 
 use Rattle.bufr_text.specs.declared.document.LineGroup.{LineGroup}
 use Rattle.bufr_text.specs.declared.document.LineGroup.TheVariants as group
 
--- ---- A document as it is read. Its values are not interpreted yet. (own)
+-- ---- A document as read, before its values are interpreted. (own)
 
--- what the lines of a document say
+-- the contents of a document's lines
 pub record Document : Type 0 where
-  -- the number of its line `message`
+  -- the number of the `message` line
   pub line : ℕ
-  -- the values of its header lines, in the order of `keys`
+  -- the values of the header lines, in the order of `keys`
   pub header : List ℕ
   pub local1 : List ℕ
   pub section2 : List ℕ
   pub descriptors : List ℕ
-  -- the items of all subsets in order, with an end after each subset
+  -- the items of all subsets in order, with an `Ends` entry after each subset
   pub entries : List DraftEntry
 
--- a document of which only the line `message` was read
+-- a document of which only the `message` line has been read
 abbrev pub blank : (line : ℕ) → Document
 blank line =
     record { line = line; header = []; local1 = []; section2 = []; descriptors = []; entries = [] }
 
--- what the header lines say
+-- the contents of the header lines
 pub record DocumentHeader : Type 0 where
   pub head : Head
   pub observed : Bool
@@ -42,8 +42,8 @@ pub record DocumentHeader : Type 0 where
   pub optional : Bool
   pub subsets : ℕ
 
--- The header lines of a document by name; 0 for those that were not read yet. Keys 1 to 15 are
--- those of `head_by`.
+-- The values of a document's header lines, by name. Values that have not been read yet are 0. Keys
+-- 1 to 15 identify the section 1 values, which are numbered as in `head_by`.
 abbrev pub header_in : Document → DocumentHeader
 header_in d =
     let value : ℕ → ℕ = slice_index d.header in
@@ -55,19 +55,19 @@ header_in d =
       subsets = value 19;
     }
 
--- where the reader is, and the document so far
+-- the state of the parser, and the document that it has read so far
 abbrev pub Parsing : Type 0
 Parsing = ParserState × Document
 
--- between documents; the document here is not used
+-- the state between documents, in which the document is blank and unused
 abbrev pub between : Parsing
 between = (Between, blank 0)
 
--- what a line does, and the document after it
+-- the effect of a line, and the document after that line
 abbrev pub LineStep : Type 0
 LineStep = LineEffect × Document
 
--- a complete document, or the fault of a line, after which the text is not read any further
+-- a complete document, or the fault in a line; after a fault, the remaining input is not parsed
 pub data ParseResult : Type 0 where
   Complete : Document → ParseResult
   Refused : (line : ℕ) (fault : TextLineFault) → ParseResult
@@ -75,14 +75,14 @@ pub data ParseResult : Type 0 where
 abbrev pub with_entry : Document → DraftEntry → Document
 with_entry d entry = record d { entries = d.entries ++ entry ∷ [] }
 
--- Whether a value is in the range of its key, given the edition. The range of the edition itself
--- (key 0) does not depend on it.
+-- whether a value is within the range of its key in the given edition; the range of key 0, the
+-- edition itself, is the same in every edition
 abbrev pub in_range : (edition key value : ℕ) → Bool
 in_range edition key value = nat_le (slice_index leasts key) value
     && nat_le value (slice_index (mosts edition) key)
 
--- a header line: its key must be the next one, and its value in range; key 19 (`subsets`) is the
--- last one
+-- The effect of a line in the header. The line must have the next key and a value within the range
+-- of that key. The last key is `subsets` (19).
 -- rule: reading-header-order, fault-61, fault-order-of-a-line
 abbrev pub heading : Document → Line → LineStep
 heading d (Header key value) = if not (key == length d.header) then (Refuses NotAllowed, d)
@@ -92,32 +92,33 @@ heading d (Header key value) = if not (key == length d.header) then (Refuses Not
     )
 heading d line = (Refuses NotAllowed, d)
 
--- the line `subset` with a number, after `read` subsets: it must be the next one, and at most the
--- number of subsets
+-- the effect of a `subset` line after `read` subsets; the subset number must be the next one and
+-- must not exceed the number of subsets that the header declares
 -- rule: reading-subsets, fault-57
 abbrev pub beginning : (read : ℕ) → Document → (subset : ℕ) → LineEffect
 beginning read d subset = if (subset == read + 1) && nat_le subset (header_in d).subsets
     then Continues (Filling subset) else Refuses SubsetCount
 
--- the line `end` after `read` subsets: no subset may be missing
+-- the effect of an `end` line after `read` subsets; the header must declare exactly `read` subsets
 -- rule: reading-subsets, fault-57
 abbrev pub closing : (read : ℕ) → Document → LineEffect
 closing read d = if read == (header_in d).subsets then Completes else Refuses SubsetCount
 
--- whether a line `local1` is allowed after a line of this group; lines `local1` come first
+-- whether a `local1` line is allowed after a line in the given group; `local1` lines come first
 -- rule: reading-section2
 abbrev pub may_be_local1 : LineGroup → Bool
 may_be_local1 group.Local1 = true
 may_be_local1 group.Section2 = false
 may_be_local1 group.Descriptors = false
 
--- whether a line `section2` is allowed: before the lines `descriptors`, if there is a section 2
+-- whether a `section2` line is allowed after a line in the given group; it must come before the
+-- `descriptors` lines, and the header must declare a section 2
 abbrev pub may_be_section2 : LineGroup → Document → Bool
 may_be_section2 group.Local1 d = (header_in d).optional
 may_be_section2 group.Section2 d = (header_in d).optional
 may_be_section2 group.Descriptors d = false
 
--- a line between the header lines and the first subset
+-- the effect of a line between the header lines and the first subset
 abbrev pub before_subsets : LineGroup → Document → Line → LineStep
 before_subsets part d (Local1 octets) = if may_be_local1 part then (
   Continues (BeforeSubsets group.Local1),
@@ -135,7 +136,7 @@ before_subsets part d (Begins subset) = (beginning 0 d subset, d)
 before_subsets part d Closes = (closing 0 d, d)
 before_subsets part d line = (Refuses NotAllowed, d)
 
--- a line in a subset; `at` is its number
+-- the effect of a line within a subset; `at` is its line number
 -- rule: reading-subset-end
 abbrev pub in_subset : (at subset : ℕ) → Document → Line → LineStep
 in_subset at subset d (ItemLine fxy form) =
@@ -144,8 +145,8 @@ in_subset at subset d (Begins next) = (beginning subset d next, with_entry d (En
 in_subset at subset d Closes = (closing subset d, with_entry d (Ends at))
 in_subset at subset d line = (Refuses NotAllowed, d)
 
--- What the line with number `at` does. Empty lines and comments do nothing. Between documents only
--- `message` is allowed, and after an invalid line all others are ignored.
+-- The effect of line `at` on the document. Empty lines and comments have no effect. Between
+-- documents, only `message` lines are allowed. All lines after an invalid line are ignored.
 -- rule: reading-empty-lines, reading-between-documents, fault-50
 unfoldable pub line_step : (at : ℕ) → Parsing → Line → LineStep
 line_step at (state, d) Passed = (Continues state, d)
@@ -156,8 +157,7 @@ line_step at (BeforeSubsets part, d) line = before_subsets part d line
 line_step at (Filling subset, d) line = in_subset at subset d line
 line_step at (Stopped, d) line = (Continues Stopped, d)
 
--- whether a line adds to the document that is being read: octets, descriptors, an item, or the end
--- of a subset
+-- whether a line adds octets, descriptors, an item, or the end of a subset to the current document
 abbrev pub adds : ParserState → Line → Bool
 adds (BeforeSubsets part) (Local1 octets) = true
 adds (BeforeSubsets part) (Section2 octets) = true
@@ -167,11 +167,11 @@ adds (Filling subset) (Begins next) = true
 adds (Filling subset) Closes = true
 adds state line = false
 
--- the maximum number of octets in a line, without its line feed
+-- the maximum number of octets in a line, not counting the line feed
 abbrev pub max_line : ℕ
 max_line = 4096
 
--- what a line says; a line of more than 4,096 octets is `Wrong`
+-- the line that the octets represent, or `Wrong` if there are more than 4,096 of them
 -- rule: reading-longest-line
 abbrev pub read_line : List ℕ → Line
 read_line line = if nat_lt max_line (length line) then Wrong else line_of line
@@ -181,21 +181,22 @@ parsing_after (Continues state, d) = (state, d)
 parsing_after (Completes, d) = between
 parsing_after (Refuses fault, d) = (Stopped, d)
 
--- what is reported after the line with number `at`: a complete document, or the fault of the line
+-- the report after line `at`: a complete document, the fault in that line, or nothing
 abbrev pub reported_at : (at : ℕ) → LineStep → List ParseResult
 reported_at at (Continues state, d) = []
 reported_at at (Completes, d) = Complete d ∷ []
 reported_at at (Refuses fault, d) = Refused at fault ∷ []
 
--- what is reported at the end of the text: if the end is inside a document, a fault at the line
--- after the last one
+-- the fault that is reported at the end of the input if a document is incomplete; its line number
+-- is one more than that of the last line
 -- rule: fault-50, input-ends-early
 abbrev pub reported_at_end : (at : ℕ) → ParserState → List ParseResult
 reported_at_end at Between = []
 reported_at_end at Stopped = []
 reported_at_end at state = Refused at NotAllowed ∷ []
 
--- the documents and the fault in the remaining lines of a text, the first of which has number `at`
+-- the documents in the remaining lines of the input, which start with line `at`, and the first
+-- fault in those lines, if any
 -- rule: reading-line-numbers
 unfoldable pub parse_lines : (at : ℕ) → Parsing → List (List ℕ) → List ParseResult
 parse_lines at p [] = reported_at_end at p.0
@@ -203,12 +204,13 @@ parse_lines at p (line ∷ more) =
     let here = line_step at p (read_line line) in reported_at at here
     ++ parse_lines (at + 1) (parsing_after here) more
 
--- the lines of a text that have a line feed, and what comes after the last line feed
+-- the input lines that end with a line feed, and the octets after the last line feed
 pub record Split : Type 0 where
   pub whole : List (List ℕ)
   pub rest : List ℕ
 
--- one more octet before the first line, or before the rest if there is no line
+-- the split text with one more octet at the front of its first line or, if it has no lines, of
+-- `rest`
 abbrev pub onto_split : ℕ → List (List ℕ) → List ℕ → Split
 onto_split c [] rest = record { whole = []; rest = c ∷ rest }
 onto_split c (line ∷ more) rest = record { whole = (c ∷ line) ∷ more; rest = rest }
@@ -219,19 +221,19 @@ split_of (c ∷ more) =
     let s = split_of more in
     if c == 10 then record { whole = [] ∷ s.whole; rest = s.rest } else onto_split c s.whole s.rest
 
--- the lines of a text without their line feeds, which the last line may lack
+-- the lines of the input, without their line feeds; the last line need not have one
 -- rule: reading-last-line
 unfoldable pub lines_of : List ℕ → List (List ℕ)
 lines_of text =
     let s = split_of text in
     if length s.rest == 0 then s.whole else s.whole ++ s.rest ∷ []
 
--- the documents of a text, and the first fault of its lines, if any
+-- the documents in complete input, and its first fault, if any
 abbrev pub documents_of : List ℕ → List ParseResult
 documents_of text = parse_lines 1 between (lines_of text)
 
--- The documents in the lines of a text that may still grow. `rest` is the last line, which is not
--- complete; if it is too long already, its fault is certain.
+-- The documents in input that may continue, and its first fault, if any. `rest`, the incomplete
+-- last line, is reported as a fault if it is already too long.
 unfoldable pub parse_open_lines : (at : ℕ) → Parsing → List (List ℕ) → (rest : List ℕ)
     → List ParseResult
 parse_open_lines at p [] rest =
@@ -240,25 +242,25 @@ parse_open_lines at p (line ∷ more) rest =
     let here = line_step at p (read_line line) in reported_at at here
     ++ parse_open_lines (at + 1) (parsing_after here) more rest
 
--- the documents of a text that may still grow
+-- the documents in input that may continue, and its first fault, if any
 abbrev pub open_documents_of : List ℕ → List ParseResult
 open_documents_of text = parse_open_lines 1 between (split_of text).whole (split_of text).rest
 
--- the octets of section 2 of a document, if there is a section 2
+-- the octets of the document's section 2, if the header declares one
 abbrev pub section2_in : Document → Option (List ℕ)
 section2_in d = if (header_in d).optional then Some d.section2 else None
 
--- whether each value is in the range of its key; the first value has this key
+-- whether the values of consecutive keys, starting with `key`, are all within range
 abbrev pub are_in_range : (edition key : ℕ) → List ℕ → Bool
 are_in_range edition key [] = true
 are_in_range edition key (value ∷ more) =
     in_range edition key value && are_in_range edition (key + 1) more
 
--- The header is complete, and each value is in the range of its key.
+-- The header is complete, and all its values are within range.
 pub record IsHeaded (d : Document) : Type 0 where
   pub whole : length d.header ≡ 20
   pub ranges : are_in_range (header_in d).head.edition 0 d.header ≡ true
 
--- the maximum number of entries in an input of 2^32 reads of 4,096 octets
+-- the maximum number of entries in input from at most 2^32 reads of up to 4,096 octets each
 abbrev pub most_entries : ℕ
 most_entries = 2 ^ 44

@@ -1,4 +1,4 @@
--- The dump text of a message, line by line, and the line that lists a message. (own)
+-- The dump of a message, line by line, and the line that `ls` prints for a message (own).
 -- Cited by public contracts.
 use Rattle.std.specs.Prelude.{get_or, ℕ, ◌+◌, Bool, List, [], ◌∷◌, ◌++◌, length, map, flat_map, codes, decimal, Option, Some, None, is_some, unwrap_or, pos, ◌≡◌, ◌^◌, ◌<◌, ◌≤◌, true, unsigned_abs, replicate, ◌-◌}
 use Rattle.bufr_bits.specs.Prelude.{decimal_text_of}
@@ -12,7 +12,7 @@ use Rattle.std.specs.List.{concat, AllByRecursion}
 use Rattle.bufr_frame.specs.declared.section1.Head.{Head}
 use Rattle.std.specs.Int.{from_bool}
 
--- a decimal number with leading zeros up to this number of digits
+-- a number in decimal, padded with leading zeros to at least `least` digits
 -- rule: listing-time
 abbrev pub zero_padded : (least n : ℕ) → List ℕ
 zero_padded least n = replicate (least - length (decimal n)) 48 ++ decimal n
@@ -24,13 +24,13 @@ header_of s =
     s.head.edition ∷ values_of s.head ++ from_bool s.observed ∷ from_bool s.compressed
     ∷ from_bool (is_some s.section2) ∷ s.subsets ∷ []
 
--- the header lines of values, the first of which has this key
+-- the header lines with the given values and consecutive keys, starting with `key`
 unfoldable pub header_lines : (key : ℕ) → List ℕ → List (List ℕ)
 header_lines key [] = []
 header_lines key (value ∷ more) =
     (get_or keys key [] ++ 32 ∷ decimal value) ∷ header_lines (key + 1) more
 
--- the lines of octets for local use in section 1, of octets of section 2, and of descriptors
+-- the `local1` line for the given local-use octets of section 1
 -- rule: text-local1
 abbrev pub local1_line : List ℕ → List ℕ
 local1_line octets = codes "local1 " ++ hex_text octets
@@ -43,7 +43,7 @@ section2_line octets = codes "section2 " ++ hex_text octets
 abbrev pub descriptors_line : List ℕ → List ℕ
 descriptors_line words = codes "descriptors" ++ descriptors_text words
 
--- a shown value, as it appears in its line
+-- a value as shown on its item's line
 -- rule: text-number
 abbrev pub dump_value_of : ShownValue → DraftValue
 dump_value_of (shown_number v scale) = number_token (decimal_text_of v scale)
@@ -51,13 +51,13 @@ dump_value_of (shown_text octets) = text_form octets
 dump_value_of shown_missing = missing_form
 dump_value_of (shown_reference v) = reference_token (decimal_text_of v (pos 0))
 
--- the comment of an item that was read by a row of Table B: `  # NAME [UNIT]`, from that row
+-- the comment `  # NAME [UNIT]` for an item that Table B describes; other items have none
 -- rule: text-comment, text-no-comment
 abbrev pub comment_text : Option Row → List ℕ
 comment_text None = []
 comment_text (Some row) = concat (codes "  # " ∷ row.name ∷ codes " [" ∷ row.unit ∷ codes "]" ∷ [])
 
--- a descriptor and its value, as they appear in a line
+-- a descriptor and a value as shown on an item's line
 -- rule: text-quoted, text-missing, text-reference, text-inserted
 abbrev pub form_text : (fxy : ℕ) → DraftValue → List ℕ
 form_text fxy (number_token token) = fxy_text fxy ++ 32 ∷ token
@@ -68,11 +68,11 @@ form_text fxy (reference_token token) = codes "R " ++ fxy_text fxy ++ 32 ∷ tok
 abbrev pub item_text : View → List ℕ
 item_text item = form_text item.fxy (dump_value_of item.value) ++ comment_text item.entry
 
--- the line before the items of a subset
+-- the line that begins a subset
 abbrev pub subset_line : ℕ → List ℕ
 subset_line subset = codes "subset " ++ decimal subset
 
--- the lines of subsets, the first of which has this number
+-- the lines of the given subsets, numbered from `subset`
 -- rule: text-subset
 unfoldable pub subset_lines : (subset : ℕ) → List (List View) → List (List ℕ)
 subset_lines subset [] = []
@@ -85,36 +85,36 @@ head_lines s = codes "message" ∷ (header_lines 0 (header_of s)
     ++ (map section2_line (runs_of 32 (unwrap_or s.section2 []))
     ++ map descriptors_line (runs_of 8 s.descriptors))))
 
--- the lines of a message, whose subsets have these items
+-- the lines of the dump of a message whose subsets have the given items
 -- rule: text-lines-in-order
 abbrev pub dump_lines : Sections → List (List View) → List (List ℕ)
 dump_lines s subsets = head_lines s ++ (subset_lines 1 subsets ++ codes "end" ∷ [])
 
--- lines, each with a line feed after it
+-- the text of the given lines, with a line feed after each
 abbrev pub text_of_lines : List (List ℕ) → List ℕ
 text_of_lines lines = flat_map (λ line. line ++ 10 ∷ []) lines
 
 abbrev pub dump_text_of : Sections → List (List View) → List ℕ
 dump_text_of s subsets = text_of_lines (dump_lines s subsets)
 
--- the entries of items, the first of which is on line `at`
+-- the entries for the given items, which are on consecutive lines starting with line `at`
 unfoldable pub item_entries : (at : ℕ) → List View → List DraftEntry
 item_entries at [] = []
 item_entries at (item ∷ more) =
     Holds (draft at item.fxy (dump_value_of item.value)) ∷ item_entries (at + 1) more
 
--- the entries of subsets, the first of which begins on line `at`
+-- the entries for the given subsets, which are on consecutive lines starting with line `at`
 unfoldable pub subset_entries : (at : ℕ) → List (List View) → List DraftEntry
 subset_entries at [] = []
 subset_entries at (items ∷ more) = item_entries (at + 1) items
     ++ (Ends (at + 1 + length items) ∷ subset_entries (at + 1 + length items) more)
 
--- the number of lines before the subsets of a message
+-- the number of lines before the subsets in a message's dump
 abbrev pub lines_before : Sections → ℕ
 lines_before s = 21 + length (runs_of 32 s.local1) + length (runs_of 32 (unwrap_or s.section2 []))
     + length (runs_of 8 s.descriptors)
 
--- the document of a message whose dump text begins on line `at`
+-- the document that a message's dump represents if the dump begins on line `at`
 abbrev pub document_of : (at : ℕ) → Sections → List (List View) → Document
 document_of at s subsets = record {
   line = at;
@@ -125,9 +125,9 @@ document_of at s subsets = record {
   entries = subset_entries (at + lines_before s) subsets;
 }
 
--- ---- The items of a reading, as a dump text shows them. (own)
+-- ---- The items read from a message, as a dump shows them. (own)
 
--- the items of a subset as they are shown
+-- the items of a subset, as a dump shows them
 abbrev pub items_shown : List Row → List (Item Content) → List View
 items_shown table items = map (λ i. view_of table i.spec i.content) items
 
@@ -139,18 +139,19 @@ dump_items table n values = map (items_shown table) (each_subset n values)
 abbrev pub IsOctet : ℕ → Type 0
 IsOctet c = c < 256
 
--- a descriptor has 16 bits
+-- The descriptor fits in 16 bits.
 abbrev pub IsDescriptorWord : ℕ → Type 0
 IsDescriptorWord w = w < 65536
 
--- a number has at most 39 digits and a scale from -300 to 300, and a text has at most 255 octets
+-- A number has at most 39 digits and a scale from -300 to 300, and a string consists of at most 255
+-- octets.
 abbrev pub IsValue : ShownValue → Type 0
 IsValue (shown_number v scale) = (unsigned_abs v < 10 ^ 39) × (unsigned_abs scale ≤ 300)
 IsValue (shown_text octets) = AllByRecursion IsOctet octets × (length octets ≤ 255)
 IsValue shown_missing = Unit {0}
 IsValue (shown_reference v) = unsigned_abs v < 10 ^ 39
 
--- the name and the unit can occur in Table B
+-- If there is a comment, its name and unit are valid in Table B.
 abbrev pub IsComment : Option Row → Type 0
 IsComment None = Unit {0}
 IsComment (Some row) = (is_name row.name ≡ true) × (is_name row.unit ≡ true)
@@ -160,7 +161,8 @@ pub record IsItem (item : View) : Type 0 where
   pub value : IsValue item.value
   pub comment : IsComment item.entry
 
--- These sections and subsets can be dumped. There are as many subsets as the sections declare.
+-- A message with the given sections and subsets can be dumped. The number of subsets is the one
+-- that section 3 declares.
 pub record IsDumpable (s : Sections) (subsets : List (List View)) : Type 0 where
   pub head : IsFitting s.head
   pub local1 : AllByRecursion IsOctet s.local1
@@ -170,9 +172,10 @@ pub record IsDumpable (s : Sections) (subsets : List (List View)) : Type 0 where
   pub counted : length subsets ≡ s.subsets
   pub items : AllByRecursion (λ items. AllByRecursion IsItem items) subsets
 
--- ---- The line that lists a message.
+-- ---- The line that `ls` prints for a message.
 
--- the first part of a listing line: the location, origin, category and tables of a message
+-- the first part of the line that `ls` prints, with the message's location, origin, category and
+-- tables
 abbrev pub source_texts : (offset size : ℕ) → Head → List (List ℕ)
 source_texts offset size h =
     codes "offset=" ∷ decimal offset ∷ codes " length=" ∷ decimal size ∷ codes " edition="
@@ -187,7 +190,8 @@ time_texts h =
     codes " time=" ∷ zero_padded 4 h.year ∷ codes "-" ∷ zero_padded 2 h.month ∷ codes "-" ∷ zero_padded 2 h.day ∷
     codes "T" ∷ zero_padded 2 h.hour ∷ codes ":" ∷ zero_padded 2 h.minute ∷ codes ":" ∷ zero_padded 2 h.second ∷ []
 
--- the last part: the numbers of subsets and of descriptors, and between them the flags (1 or 0)
+-- the last part of the line that `ls` prints, with the number of subsets, the flags (1 or 0), and
+-- the number of descriptors
 -- rule: listing-flags
 abbrev pub counts_texts : (subsets : ℕ) (observed compressed optional : Bool)
     (descriptors : ℕ) → List (List ℕ)
@@ -197,7 +201,7 @@ counts_texts subsets observed compressed optional descriptors =
     ∷ codes " optional=" ∷ decimal (from_bool optional)
     ∷ codes " descriptors=" ∷ decimal descriptors ∷ codes "\n" ∷ []
 
--- the line that lists a message at an offset, with its line feed
+-- the line that `ls` prints for the message at the given offset, including the line feed
 -- rule: listing-line, listing-offset-and-length
 abbrev pub ls_line : ℕ → Sections → List ℕ
 ls_line offset s = concat (source_texts offset s.size s.head ++ (time_texts s.head

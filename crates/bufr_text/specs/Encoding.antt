@@ -1,5 +1,5 @@
--- The message that a document is encoded to, or the first fault. (WMO-No. 306, Volume I.2, FM 94:
--- sections 0 to 5; the order of the faults is our choice)
+-- The message that results from encoding a document, or the first fault (WMO-No. 306, Volume I.2,
+-- FM 94: sections 0 to 5). The order of the faults is our choice.
 -- Cited by public contracts.
 use Rattle.std.specs.Prelude.{Bool, true, false, ℕ, ◌+◌, ◌/◌, nat_lt, if◌then◌else◌, List, ◌++◌, length, Result, Ok, Err, ◌≡◌, Option, Some, None, ◌≤◌, [], ◌∷◌, Vec, ◌*◌, ◌≢◌, ◌⊎◌, codes, decimal}
 use Rattle.bufr_text.specs.declared.encode.Form.{Form}
@@ -24,9 +24,9 @@ use Rattle.bufr_fill.specs.declared.fault.DraftFault.TheVariants as draft_fault
 use Rattle.bufr_walk.specs.declared.walker.WalkStop.TheVariants as stops
 use Rattle.bufr_tables.specs.declared.fault.TemplateFault.TheVariants as template_fault
 
--- ---- The form in which the data of a document are written. (own)
+-- ---- The form in which a document's data are written (own).
 
--- whether data are compressed in a form; `written` is what the document says
+-- whether the data are compressed in the given form; `written` is the document's compression flag
 -- rule: writes-form
 abbrev pub compressed_by : Form → (written : Bool) → Bool
 compressed_by form.AsWritten written = written
@@ -38,29 +38,29 @@ abbrev pub form_of_flag : (compressed : Bool) → Form
 form_of_flag false = form.Plain
 form_of_flag true = form.Compressed
 
--- the fault of a document whose items have a fault
+-- the fault in a document whose items contain the given fault
 abbrev pub document_fault : DraftFault → DocumentFault
 document_fault (draft_fault.Item line why) = document.Item line why
 document_fault draft_fault.Memory = document.Memory
 
--- a fault of a document
+-- the number and the description of a fault in a document
 abbrev pub document_report : DocumentFault → ℕ × List (List ℕ)
 document_report (document.Item line why) = item_report why
--- its template has a fault: 56, and then the number and the text of that fault
+-- The template contains a fault, whose number and description follow the word `template`.
 document_report (document.Template line why) =
     (56, codes "template " ∷ decimal (template_report why).0 ∷ codes " " ∷ (template_report why).1)
--- the message would have more than 16,777,215 octets
+-- The message would have more than 16,777,215 octets.
 document_report (document.TooLong line) = (60, codes "too long" ∷ [])
 document_report document.Memory = (73, [])
 
--- the line of a fault; `Memory` has none
+-- the line number of a fault; `Memory` has none
 abbrev pub line_of_fault : DocumentFault → Option ℕ
 line_of_fault (document.Item line why) = Some line
 line_of_fault (document.Template line why) = Some line
 line_of_fault (document.TooLong line) = Some line
 line_of_fault document.Memory = None
 
--- bits as octets, with zero bits after them up to a whole octet
+-- bits packed into octets and padded with zero bits at the end
 -- rule: writes-section-4
 abbrev pub octets_of_bits : List Bool → List ℕ
 octets_of_bits bits = octets_in ((length bits + 7) / 8) (bits ++ padding (length bits))
@@ -82,15 +82,16 @@ parts_as compressed d payload =
 abbrev pub compressed_as : Form → Document → Bool
 compressed_as form d = compressed_by form (header_in d).compressed
 
--- the message of these parts, unless it is too long; `line` is where that is reported
+-- the message with the given parts or, if it would be too long, the fault `TooLong` for line `line`
 -- rule: fault-60
 abbrev pub message_of : (line : ℕ) → Head → MessageParts → Result (List ℕ) DocumentFault
 message_of line head parts =
     if nat_lt max_octets (message_size head.edition parts) then Err (document.TooLong line)
     else Ok (message_octets head parts)
 
--- The message of a document, or the first fault: of the template, which is reported at the line
--- `message`; then of the items; then of the length of the message, which is reported there, too.
+-- The message that results from encoding a document, or the first fault. The template is checked
+-- first, then the items, and finally the length of the message. Faults in the template or the
+-- length are reported for the `message` line.
 -- rule: fault-56, fault-56-first-60-last
 unfoldable pub encoding_in : Form → List Row → List Sequence → Document
     → Result (List ℕ) DocumentFault
@@ -100,52 +101,52 @@ encoding_in form table sequences d = do
       (data_bits (compressed_as form d) (next_item table template) (subsets_of d.entries))
   message_of d.line (header_in d).head (parts_as (compressed_as form d) d (octets_of_bits bits))
 
--- the message of a document in the form that the document specifies, or the first fault
+-- the message that results from encoding a document in its own form, or the first fault
 abbrev pub encoding_of : List Row → List Sequence → Document → Result (List ℕ) DocumentFault
 encoding_of = encoding_in AsWritten
 
--- The fault is the one that the definition specifies, or memory ran out.
+-- Memory ran out, or the fault is the error in `defined`.
 abbrev pub IsDocumentRefusal : {A : Type 0} → DocumentFault → Result A DocumentFault → Type 0
 IsDocumentRefusal why defined = (why ≡ document.Memory) ⊎ (defined ≡ Err why)
 
--- ---- The bits and turns of an encoding, up to its first fault if there is one. (our choice)
+-- ---- The bits and steps of encoding a document, up to the first fault, if any (our choice).
 
--- what is written of the data of a document, in this form and by this template
+-- the result of writing a document's data in the given form with the given template
 abbrev pub writing_in : Form → List Row → Document → Tree → Writing DraftFault
 writing_in form table d template =
     writing_of (compressed_as form d) (counted_item table template) (subsets_of d.entries)
 
--- a count of a template; 0 if there is no template
+-- a count for a template, or 0 if the template contains a fault
 abbrev pub of_template : (Tree → ℕ) → Result Tree TemplateFault → ℕ
 of_template counts (Ok template) = counts template
 of_template counts (Err why) = 0
 
--- the number of places in the template of a document
+-- the number of places in a document's template
 abbrev pub places_by : List Row → List Sequence → Document → ℕ
 places_by table sequences d = of_template places (tree_of (tables_of table sequences) d.descriptors)
 
--- the number of data bits of a document before the first fault; all of them if there is no fault
+-- the number of data bits written for a document before the first fault, if any
 abbrev pub bits_by : Form → List Row → List Sequence → Document → ℕ
 bits_by form table sequences d =
     of_template (λ template. length (writing_in form table d template).bits)
     (tree_of (tables_of table sequences) d.descriptors)
 
--- The number of turns in the encoding of a document, up to and including the turn at the first
--- fault. They are the turns of the template, with the counts that the items specify; without a
--- template, there are none. (WMO-No. 306, Volume I.2, FM 94: section 3, replications)
+-- The number of steps that it takes to encode a document, up to and including the step at the first
+-- fault, if any. The items specify the replication counts. If the template contains a fault, no
+-- steps are taken. (WMO-No. 306, Volume I.2, FM 94: section 3, replications)
 abbrev pub turns_by : Form → List Row → List Sequence → Document → ℕ
 turns_by form table sequences d =
     of_template (λ template. (writing_in form table d template).turns)
     (tree_of (tables_of table sequences) d.descriptors)
 
--- These turns were counted as steps. If memory ran out, some of them may be missing.
+-- The number of steps increased by `turns` or, if memory ran out, by at most `turns`.
 abbrev pub CountsSteps : (ran_out : Type 0) → (before turns after : ℕ) → Type 0
 CountsSteps ran_out before turns after =
     (ran_out × (after ≤ ticked before turns)) ⊎ (after ≡ ticked before turns)
 
--- ---- The fault of a walk over a document's data, plain or compressed.
+-- ---- The fault in a walk over a document's plain or compressed data.
 
--- the fault of a walk that stopped when the next entry was on this line
+-- the fault that stopped a walk before the entry on the given line
 abbrev pub stop_fault : (line : ℕ) → WalkStop DraftFault → DraftFault
 stop_fault line (stops.Width fxy) = at_line line (walk_refused (refusal.Width fxy))
 stop_fault line (stops.Defining fxy) = at_line line (walk_refused (refusal.Defining fxy))
@@ -154,12 +155,12 @@ stop_fault line stops.Memory = draft_fault.Memory
 
 -- ---- The result of writing data.
 
--- The octets are these data bits, with zero bits after them up to a whole octet.
+-- The octets contain the given data bits, padded with zero bits to whole octets.
 pub record AreOctetsOf (octets : List ℕ) (bits : List Bool) : Type 0 where
   pub same : bits_of octets ≡ bits ++ padding (length bits)
   pub count : length octets ≡ (length bits + 7) / 8
 
--- The data have no fault, and these are their octets and the steps made for them.
+-- The data were written as the given octets in the given number of steps.
 pub record IsData (places : ℕ) (compressed : Bool) (course : CountedCourse) (subsets : List Subset)
     (octets : List ℕ) (steps : ℕ) : Type 0 where
   pub out : List Bool
@@ -168,7 +169,8 @@ pub record IsData (places : ℕ) (compressed : Bool) (course : CountedCourse) (s
   pub made : steps ≡ ticked 0 (writing_of compressed course subsets).turns
   pub few : steps ≤ places * length (writing_of compressed course subsets).bits
 
--- The data have this fault, or memory ran out; and these are the steps made up to it.
+-- Writing stopped after the given number of steps because the data contained the given fault or
+-- memory ran out.
 pub record IsNoData (places : ℕ) (compressed : Bool) (course : CountedCourse)
     (subsets : List Subset) (why : DocumentFault) (steps : ℕ) : Type 0 where
   pub refuses : IsDocumentRefusal why
@@ -177,7 +179,7 @@ pub record IsNoData (places : ℕ) (compressed : Bool) (course : CountedCourse)
       steps
   pub few : steps ≤ places * (length (writing_of compressed course subsets).bits + 1)
 
--- The data of subsets were written with this result, in this number of steps.
+-- Writing the data of the subsets took the given number of steps and had the given result.
 abbrev pub WritesData : (places : ℕ) (compressed : Bool) → CountedCourse → List Subset
     → Result (Vec ℕ Global) DocumentFault → (steps : ℕ) → Type 0
 WritesData places compressed course subsets (Ok octets) steps =
@@ -185,8 +187,8 @@ WritesData places compressed course subsets (Ok octets) steps =
 WritesData places compressed course subsets (Err why) steps =
     IsNoData places compressed course subsets why steps
 
--- The data of a document were written by its template, with this result, in this number of steps.
--- If the template has a fault, the result is this fault, and no steps are made.
+-- Writing a document's data with its template took the given number of steps and had the given
+-- result. If the template contained a fault, that fault was the result, and no steps were taken.
 abbrev pub WritesForm : Form → List Row → Document → Result Tree TemplateFault
     → Result (Vec ℕ Global) DocumentFault → (steps : ℕ) → Type 0
 WritesForm form table d (Ok template) result steps = WritesData (places template)

@@ -1,22 +1,23 @@
--- the words and values in a line, what a line says, and the keys of the header
+-- the lines of a dump, and the words and values in them
 pub mod Line
--- a document, the effect of each of its lines, and the documents of a text
+-- a document, the effect of each of its lines, and how input is parsed
 pub mod Documents
--- the dump text of a message, line by line, its items, and the line that lists it
+-- the dump of a message, line by line, and the line that `ls` prints for it
 pub mod Dump
--- what a writer takes, the effect of a text on a writer of lines, and what a dump writes
+-- what a writer accepts, how text is appended to a line writer, and the steps of a dump
 pub mod Writing
--- private: the lines that all subsets of compressed data share
+-- the lines that are the same in all subsets of compressed data (for private functions)
 pub mod Alike
--- the effect of each call of a reader of dump texts, and its faults
+-- how documents are read, and the faults in their lines
 pub mod Reader
 -- the lines of a document, in order, and its normal text
 pub mod Spelling
--- private: how a document is stored while it is read, and how buffered lines are taken
+-- how a document is stored while it is read, and how buffered lines are processed (for private
+-- functions)
 pub mod Taking
--- the message to which a document is encoded, or the first fault, and the number of turns
+-- the message or first fault that results from encoding a document, and the number of steps
 pub mod Encoding
--- an accepted message, and the message to which its dump text is encoded, in either form
+-- an accepted message, and the message that results from encoding its dump in either form
 pub mod RoundTrip
--- the names that proofs and other crates cite, re-exported
+-- re-exports of the names that proofs and other crates use
 pub mod Prelude

@@ -1,4 +1,4 @@
--- The lines of a dump text: the words and values in them, and what each line says. (own)
+-- The lines and values of a dump, and how they are written and parsed (own).
 -- Cited by public contracts.
 use Rattle.std.specs.Prelude.{ℕ, zero, suc, ◌+◌, ◌==◌, nat_le, nat_lt, Bool, not, ◌&&◌, if◌then◌else◌, List, [], ◌∷◌, Option, Some, None, option_map, codes, length, replicate, ◌-◌, ◌++◌, take, drop, ◌≡◌, ◌*◌, ◌≤◌, ◌/◌, ◌%◌, min, true, false, ◌||◌, slice_index}
 use Rattle.std.specs.List.{position_from, position_or_len, prefix_len}
@@ -14,18 +14,18 @@ use Rattle.bufr_frame.specs.Prelude.{greatest_values}
 use Rattle.bufr_fill.specs.Prelude.{DraftValue, number_token, text_form, missing_form, reference_token}
 use Rattle.std.specs.Option.{option_zip}
 
--- the text after a word, if it begins with the word
+-- the text after the given word, if the text begins with it
 unfoldable pub without_prefix : (word text : List ℕ) → Option (List ℕ)
 without_prefix [] text = Some text
 without_prefix (w ∷ word) [] = None
 without_prefix (w ∷ word) (c ∷ text) = if c == w then without_prefix word text else None
 
--- the text after one space, if it begins with one
+-- the text after its leading space, if it has one
 abbrev pub without_space : List ℕ → Option (List ℕ)
 without_space text = without_prefix (32 ∷ []) text
 
--- runs of `most` elements each; the last run may be shorter. The first `skip` elements belong to
--- the run before.
+-- The elements, split into runs of `most` elements each. The last run may be shorter. The first
+-- `skip` elements are skipped because they belong to the previous run.
 unfoldable pub runs_after : (skip most : ℕ) → List ℕ → List (List ℕ)
 runs_after skip most [] = []
 runs_after (suc skip) most (x ∷ more) = runs_after skip most more
@@ -34,7 +34,7 @@ runs_after zero most (x ∷ more) = take most (x ∷ more) ∷ runs_after (most 
 abbrev pub runs_of : (most : ℕ) → List ℕ → List (List ℕ)
 runs_of most xs = runs_after 0 most xs
 
--- the upper-case hexadecimal digit of a number below 16
+-- the upper-case hexadecimal digit for a number below 16
 abbrev pub hex_digit : ℕ → ℕ
 hex_digit n = if nat_lt n 10 then 48 + n else 55 + n
 
@@ -48,37 +48,37 @@ upper_value c = if is_ascii_digit c then Some (c - 48) else if nat_le 65 c && na
 abbrev pub either_value : ℕ → Option ℕ
 either_value c = if nat_le 97 c && nat_le c 102 then Some (c - 87) else upper_value c
 
--- the octet that two hexadecimal digits represent, given their values
+-- the octet that two hexadecimal digits with the given values represent
 abbrev pub pair_value : Option ℕ → Option ℕ → Option ℕ
 pair_value high low = option_map (λ both. 16 * both.0 + both.1) (option_zip high low)
 
 abbrev pub hex_pair : ℕ → List ℕ
 hex_pair octet = hex_digit (octet / 16) ∷ hex_digit (octet % 16) ∷ []
 
--- two hexadecimal digits for each octet
+-- octets in hexadecimal, with two digits per octet
 -- rule: text-hexadecimal
 unfoldable pub hex_text : List ℕ → List ℕ
 hex_text [] = []
 hex_text (octet ∷ more) = hex_pair octet ++ hex_text more
 
--- an element before a list, if both could be read
+-- the list with the element inserted at the front, if both were parsed
 abbrev pub onto_read : {X : Type 0} → Option X → Option (List X) → Option (List X)
 onto_read x xs = option_map (λ both. both.0 ∷ both.1) (option_zip x xs)
 
--- the octets that hexadecimal digits represent, two for each octet, in upper or lower case
+-- the octets that hexadecimal digits represent, two digits per octet, in upper or lower case
 unfoldable pub hex_read : List ℕ → Option (List ℕ)
 hex_read [] = Some []
 hex_read (high ∷ []) = None
 hex_read (high ∷ low ∷ more) =
     onto_read (pair_value (either_value high) (either_value low)) (hex_read more)
 
--- the descriptor in the first six octets of a text, and the text after them
+-- the descriptor in the first six octets, and the remaining octets
 unfoldable pub fxy_read : List ℕ → Option (ℕ × List ℕ)
 fxy_read (a ∷ b ∷ c ∷ d ∷ e ∷ g ∷ more) =
     option_map (λ fxy. (fxy, more)) (fxy_of (a ∷ b ∷ c ∷ d ∷ e ∷ g ∷ []))
 fxy_read text = None
 
--- descriptors, each after one space
+-- the text of a descriptor list, with a space before each descriptor
 unfoldable pub descriptors_text : List ℕ → List ℕ
 descriptors_text [] = []
 descriptors_text (fxy ∷ more) = 32 ∷ fxy_text fxy ++ descriptors_text more
@@ -90,35 +90,36 @@ descriptors_read (s ∷ a ∷ b ∷ c ∷ d ∷ e ∷ g ∷ more) = if s == 32
     then onto_read (fxy_of (a ∷ b ∷ c ∷ d ∷ e ∷ g ∷ [])) (descriptors_read more) else None
 descriptors_read text = None
 
--- The unsigned number that a text represents. Numbers above 65,535 are all read as 65,536, which is
--- too large for every header line and every subset.
+-- The unsigned number that decimal digits represent. Numbers greater than 65,535 are read as
+-- 65,536, which is too large for any header line or subset number.
 -- rule: reading-header-number
 abbrev pub number_read : List ℕ → Option ℕ
 number_read text = only_if (is_digits text) (min (digits_value 10 text) 65536)
 
--- whether an octet is written as itself in a text: a printed one of ASCII, except `"` and `\`
+-- whether an octet is a printable ASCII character other than `"` and `\`; only such octets are
+-- written without an escape in a quoted string
 abbrev pub is_unescaped : ℕ → Bool
 is_unescaped c = nat_le 32 c && nat_le c 126 && not (c == 34) && not (c == 92)
 
--- an octet in a text: `"` and `\` have a backslash before them, and octets that are not printed are
--- `\xHH`
+-- an octet as written in a quoted string; `"` and `\` are preceded by a backslash, and octets that
+-- are not printable ASCII characters are written as `\xHH`
 -- rule: text-escapes
 abbrev pub escaped : ℕ → List ℕ
 escaped octet = if is_unescaped octet then octet ∷ []
     else if (octet == 34) || (octet == 92) then 92 ∷ octet ∷ [] else 92 ∷ 120 ∷ hex_pair octet
 
--- octets as a quoted text, without its opening quote
+-- octets as written in a quoted string, with the closing quote but without the opening one
 unfoldable pub quoted : List ℕ → List ℕ
 quoted [] = 34 ∷ []
 quoted (octet ∷ more) = escaped octet ++ quoted more
 
--- the token of `\xHH`, which is 4 octets long, if HH are hexadecimal digits in upper case
+-- the token for `\xHH` (four octets), or `Nothing` if HH are not upper-case hexadecimal digits
 abbrev pub says_pair : Option ℕ → QuotedToken
 says_pair (Some octet) = Octet octet 4
 says_pair None = Nothing
 
--- What begins with a backslash: `\"`, `\\` or `\xHH`. An index past the end of the text gives 0,
--- which none of them has.
+-- The token `\"`, `\\` or `\xHH` at the beginning of the text, or `Nothing`. Beyond the end of the
+-- text, octets are read as 0, which no token contains.
 abbrev pub escape_of : List ℕ → QuotedToken
 escape_of text = if (slice_index text 1 == 34) || (slice_index text 1 == 92)
     then Octet (slice_index text 1) 2 else if slice_index text 1 == 120 then says_pair
@@ -130,9 +131,9 @@ quoting_of text = if slice_index text 0 == 34 then Closed
     else if slice_index text 0 == 92 then escape_of text
     else if is_unescaped (slice_index text 0) then Octet (slice_index text 0) 1 else Nothing
 
--- One step of `quoted_read` (below): what it returns if the text begins with this token. `closed`
--- is the line after a closing quote. `more` reads on after an octet; its argument is how many of
--- the octets that represent it, without the first, are to be skipped.
+-- The result of `quoted_read` (below) for text that begins with the given token. `closed` is the
+-- text after the closing quote. `more` parses the text after the first octet; its argument is the
+-- number of octets to skip, which are the remaining octets of the token.
 abbrev pub quoted_on : QuotedToken → (closed : List ℕ) → (more : ℕ → Option (List ℕ × List ℕ))
     → Option (List ℕ × List ℕ)
 quoted_on Closed closed more = Some ([], closed)
@@ -140,34 +141,35 @@ quoted_on (Octet octet written) closed more =
     option_map (λ read. (octet ∷ read.0, read.1)) (more (written - 1))
 quoted_on Nothing closed more = None
 
--- The octets of a text, and the line after its closing quote. The first `skip` octets were read
--- before.
+-- The octets that a quoted string represents, and the text after its closing quote. The first
+-- `skip` octets are skipped because they belong to the previous token.
 unfoldable pub quoted_read : (skip : ℕ) → List ℕ → Option (List ℕ × List ℕ)
 quoted_read skip [] = None
 quoted_read (suc skip) (c ∷ more) = quoted_read skip more
 quoted_read zero (c ∷ more) = quoted_on (quoting_of (c ∷ more)) more (λ skip. quoted_read skip more)
 
--- whether an octet may be part of a number: a digit, `-` or `.`
+-- whether an octet is a digit, `-` or `.`, and can therefore be part of a number
 -- rule: reading-number
 abbrev pub is_number_octet : ℕ → Bool
 is_number_octet c = is_ascii_digit c || (c == 45) || (c == 46)
 
--- whether a text is any number of spaces, and then `#` and anything
+-- whether `#` is the first octet that is not a space
 unfoldable pub is_hashed : List ℕ → Bool
 is_hashed [] = false
 is_hashed (c ∷ more) = if c == 32 then is_hashed more else (c == 35)
 
--- what may come after a value: nothing, or one or more spaces and then `#` and anything
+-- whether nothing but a comment follows a value; the comment must begin with one or more spaces and
+-- `#`
 -- rule: reading-after-a-value
 abbrev pub is_passed_after : List ℕ → Bool
 is_passed_after [] = true
 is_passed_after (c ∷ more) = (c == 32) && is_hashed more
 
--- ---- What a line says, whatever its position.
+-- ---- Lines, parsed without regard to their position.
 
--- What a line of a dump text says. `Passed` is an empty line or a comment; `Opens`, `Begins` and
--- `Closes` are `message`, `subset` and `end`; `Header` has the index of its key in `keys`; and
--- `Wrong` is any other line.
+-- A parsed line of a dump. `Passed` is an empty line or a comment. `Opens`, `Begins` and `Closes`
+-- are `message`, `subset` and `end` lines. `Header` contains the index of the line's key in `keys`.
+-- `Wrong` is any invalid line.
 pub data Line : Type 0 where
   Passed : Line
   Opens : Line
@@ -180,7 +182,7 @@ pub data Line : Type 0 where
   Closes : Line
   Wrong : Line
 
--- the keys of the header lines, in their order; `optional` says whether there is a section 2
+-- the keys of the header lines, in order; `optional` is 1 if section 2 is present
 -- rule: text-header
 unfoldable pub keys : List (List ℕ)
 keys =
@@ -190,39 +192,39 @@ keys =
     ∷ codes "minute" ∷ codes "second" ∷ codes "observed" ∷ codes "compressed"
     ∷ codes "optional" ∷ codes "subsets" ∷ []
 
--- the least value of each key: 3 for the edition, and 0 for the others
+-- the minimum value of each key, which is 3 for the edition and 0 for all other keys
 -- rule: reading-header-ranges
 unfoldable pub leasts : List ℕ
 leasts = 3 ∷ replicate 19 0
 
--- the greatest value of each key in an edition: 4 for the edition, what the octets of section 1 can
--- store, 1 for each flag, and 65,535 subsets
+-- the maximum value of each key in an edition: 4 for the edition, 1 for a flag, 65,535 for the
+-- number of subsets and, for a section 1 value, the greatest number that fits in its octets
 unfoldable pub mosts : (edition : ℕ) → List ℕ
 mosts edition = 4 ∷ greatest_values edition ++ 1 ∷ 1 ∷ 1 ∷ 65535 ∷ []
 
--- a line made of what could be read, or else `Wrong`
+-- the line with the given content, or `Wrong` if it could not be parsed
 abbrev pub made : {X : Type 0} → (X → Line) → Option X → Line
 made line (Some x) = line x
 made line None = Wrong
 
--- a line with a list, which must have 1 to `most` elements
+-- the line with the given list, or `Wrong` if the list does not have 1 to `most` elements
 -- rule: reading-long-lists
 abbrev pub with_one_to : (most : ℕ) → (List ℕ → Line) → List ℕ → Line
 with_one_to most line xs =
     if nat_lt 0 (length xs) && nat_le (length xs) most then line xs else Wrong
 
--- an item line, if nothing but a comment follows the value
+-- an item line, or `Wrong` if anything other than a comment follows the value
 abbrev pub item_if_comment : (fxy : ℕ) → DraftValue × List ℕ → Line
 item_if_comment fxy (form, rest) = if is_passed_after rest then ItemLine fxy form else Wrong
 
--- the number at the beginning of a text, as a value of this form, and the text after it
+-- the number at the beginning of the text, as a value of the given form, and the remaining text
 abbrev pub number_value : (List ℕ → DraftValue) → List ℕ → Option (DraftValue × List ℕ)
 number_value form [] = None
 number_value form (c ∷ more) =
     let n = prefix_len is_number_octet (c ∷ more) in
     if is_number_octet c then Some (form (take n (c ∷ more)), drop n (c ∷ more)) else None
 
--- the value at the beginning of a text (quoted, a number or `MISSING`), and the text after it
+-- the quoted string, number or `MISSING` at the beginning of the text, and the remaining text
 unfoldable pub value_read : List ℕ → Option (DraftValue × List ℕ)
 value_read [] = None
 value_read (c ∷ more) =
@@ -230,16 +232,17 @@ value_read (c ∷ more) =
     else if is_number_octet c then number_value number_token (c ∷ more)
     else option_map (λ rest. (missing_form, rest)) (without_prefix (codes "MISSING") (c ∷ more))
 
--- an item line whose descriptor was read: one space and a value must follow; `read` reads the value
+-- an item line that begins with the given descriptor, which must be followed by a space and a
+-- value; `read` parses the value
 abbrev pub valued : (List ℕ → Option (DraftValue × List ℕ)) → ℕ × List ℕ → Line
 valued read (fxy, rest) = made (λ text. made (item_if_comment fxy) (read text)) (without_space rest)
 
--- an item line: a descriptor, one space and a value, which `read` reads
+-- an item line, which must begin with a descriptor, a space and a value; `read` parses the value
 abbrev pub item_line : (List ℕ → Option (DraftValue × List ℕ)) → List ℕ → Line
 item_line read text = made (valued read) (fxy_read text)
 
--- A line, given its first word and the text after this word. It is `Wrong` if that text is not what
--- the word needs. The last case is a header line, whose first word is a key.
+-- The line with the given first word and remaining text, or `Wrong` if that text is not valid after
+-- the word. The last case is a header line, whose first word is a key.
 -- rule: reading-reference
 unfoldable pub worded : (word rest : List ℕ) → Line
 worded word rest =
@@ -258,8 +261,8 @@ worded word rest =
     else made (λ index. made (λ text. made (Header index) (number_read text)) (without_space rest))
     (position_from (bytes_eq word) 0 keys)
 
--- what a line says: `#` begins a comment, a digit an item, and any other line has a first word, of
--- the n octets before the first space
+-- The line that the octets represent. A comment begins with `#`, and an item line with a digit. Any
+-- other line begins with a word, which ends before the first space.
 -- rule: reading-empty-lines, reading-carriage-return, reading-blanks
 unfoldable pub line_of : List ℕ → Line
 line_of [] = Passed
@@ -271,37 +274,39 @@ line_of (c ∷ more) =
 
 -- ---- The keys of the header, as the code stores them.
 
--- the octets before the value of a key: a line feed, the name of the key and a space
+-- the octets that precede the value of a key: a line feed, the key's name, and a space
 abbrev pub lead_of : (key : List ℕ) → List ℕ
 lead_of key = 10 ∷ (key ++ 32 ∷ [])
 
--- whether the octets between the first and the last one of `lead` are this name
+-- whether `lead` consists of one octet, the given name, and one more octet
 abbrev pub is_named : (lead name : List ℕ) → Bool
 is_named lead name = nat_le 2 (length lead) && bytes_eq name (take (length lead - 2) (drop 1 lead))
 
--- ---- Private: the results of parsing parts of a line.
+-- ---- The results of private functions that parse descriptors, hexadecimal digits and quoted
+-- strings.
 
--- the value of an item: a short decimal, or `MISSING` if there is none
+-- the item value for a short decimal, or `MISSING` if there is none
 abbrev pub short_form : Option ShortDecimal → DraftValue
 short_form (Some number) = number_token (short_text number)
 short_form None = missing_form
 
--- The descriptors in the text were written to the start of `out`, and the result is their number;
--- or this text makes a line `descriptors` invalid.
+-- Either the descriptors in the text were written to the start of `out`, and the result is their
+-- number, or the text is not valid in a `descriptors` line, and the result is `None`.
 abbrev pub Describes : (text out : List ℕ) → Option ℕ → Type 0
 Describes text out None = made (with_one_to 8 Descriptors) (descriptors_read text) ≡ Wrong
 Describes text out (Some count) = (count ≤ length out)
     × (made (with_one_to 8 Descriptors) (descriptors_read text) ≡ Descriptors (take count out))
 
--- The octets that the text represents, half as many as its digits, were written to the start of
--- `out`, and the result is their number; or the text is invalid.
+-- Either the octets that the text represents, one for every two digits, were written to the start
+-- of `out`, and the result is their number, or the text is invalid, and the result is `None`.
 abbrev pub Unhexes : (text out : List ℕ) → Option ℕ → Type 0
 Unhexes text out None = hex_read text ≡ None
 Unhexes text out (Some count) =
     (2 * count ≡ length text) × (count ≤ length out) × (hex_read text ≡ Some (take count out))
 
--- The octets of a quoted text were written to the start of `out`. The result is their number, and
--- the index after the closing quote; or the text is invalid.
+-- Either the octets of the quoted string were written to the start of `out`, and the result is
+-- their number and the index after the closing quote, or the text is invalid, and the result is
+-- `None`.
 abbrev pub Unquotes : (text out : List ℕ) → Option (ℕ × ℕ) → Type 0
 Unquotes text out None = quoted_read 0 text ≡ None
 Unquotes text out (Some (count, at)) = (count ≤ length out) × (at ≤ length text)

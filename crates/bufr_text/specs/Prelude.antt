@@ -1,4 +1,4 @@
--- Re-exports the names that proofs and other crates cite. Declares nothing.
+-- Re-exports the names that proofs and other crates use, and declares nothing.
 pub use Rattle.bufr_text.specs.Line.{runs_of, escaped, hex_pair, is_unescaped, without_space, is_number_octet, is_passed_after, onto_read, either_value, pair_value, QuotedToken, Closed, Octet, Nothing, upper_value, says_pair, escape_of, quoting_of, quoted_on, number_read, hex_digit, Line, Passed, Opens, Header, Local1, Section2, Descriptors, Begins, ItemLine, Closes, lead_of, Wrong, Describes, Unhexes, Unquotes, number_value, made, with_one_to, item_line, item_if_comment, short_form, valued, is_named}
 unfoldable pub use Rattle.bufr_text.specs.Line.{runs_after, descriptors_text, hex_text, quoted, without_prefix, hex_read, fxy_read, descriptors_read, quoted_read, is_hashed, keys, value_read, worded, line_of}
 pub use Rattle.bufr_text.specs.Dump.{zero_padded, counts_texts, ls_line, source_texts, time_texts, local1_line, section2_line, descriptors_line, subset_line, item_text, dump_value_of, IsOctet, IsDescriptorWord, IsItem, header_of, head_lines, dump_lines, dump_text_of, document_of, lines_before, IsDumpable, items_shown, text_of_lines, dump_items, IsValue, IsComment, comment_text, form_text}

@@ -1,4 +1,4 @@
--- What a reader of dump texts does, and the faults of lines. (own)
+-- How documents are read, and the faults in their lines (own).
 -- Cited by public contracts.
 use Rattle.std.specs.Prelude.{ℕ, ◌≡◌, ◌+◌, ◌==◌, Bool, true, false, not, List, [], ◌∷◌, ◌++◌, length, ◌⊎◌, ◌-◌, ◌*◌, ◌<◌, ◌≤◌, if◌then◌else◌, take, Option, Some, None, Result, Ok, Err, codes}
 use Rattle.bufr_frame.specs.Prelude.{run_report, max_reads, read_failures_after}
@@ -13,10 +13,11 @@ use Rattle.bufr_text.specs.Line.{Closes}
 use Rattle.std.specs.Io.KnownBytes.{Consumes, IsAtEnd}
 use Rattle.bufr_frame.specs.declared.fault.RunFault.TheVariants.{Read, Write, InputTooLong, Memory}
 
--- ---- The faults of a dump text, and their numbers. (own)
+-- ---- Faults in the lines of a document, and their numbers (own).
 
--- a fault of a line: it is not allowed there; a subset is not the next one, or is missing at `end`;
--- or the value of a header line is out of range
+-- The number and the description of a fault in a line. Fault 50 means that a line is not allowed at
+-- its position. Fault 57 means that a `subset` line has the wrong number, or that an `end` line
+-- comes before the last subset. Fault 61 means that the value in a header line is out of range.
 abbrev pub line_report : TextLineFault → ℕ × List (List ℕ)
 line_report NotAllowed = (50, codes "line" ∷ [])
 line_report SubsetCount = (57, codes "subset count" ∷ [])
@@ -26,43 +27,45 @@ abbrev pub number_of_read_fault : ReadFault → ℕ
 number_of_read_fault (Line line fault) = (line_report fault).0
 number_of_read_fault (Run fault) = (run_report fault).0
 
--- ---- How documents are read, piece by piece. (own)
+-- ---- How documents are read in parts (own).
 
--- whether there is no line feed among octets
+-- whether none of the octets is a line feed
 abbrev pub has_no_feed : List ℕ → Bool
 has_no_feed octets = list_all (λ c. not (c == 10)) octets
 
--- how far a text has been read: the number of the next line, the state of the parser with the
--- document so far, the buffered octets, and whether the end of input was reached
+-- a reader's position in the input: the number of the next line, the parser's state and the
+-- document so far, the buffered octets, and whether the end of the input has been reached
 pub record ReaderPosition : Type 0 where
   pub at : ℕ
   pub parsing : Parsing
   pub held : List ℕ
   pub ended : Bool
 
--- the results of the buffered octets and t, if the input ends after t
+-- the results of parsing the buffered octets and t, after which the input ends
 abbrev pub parse : ReaderPosition → List ℕ → List ParseResult
 parse s t = parse_lines s.at s.parsing (lines_of (s.held ++ t))
 
--- the results of the buffered octets and t, if more input may follow
+-- the results of parsing the buffered octets and t, after which more input may follow
 abbrev pub parse_open : ReaderPosition → List ℕ → List ParseResult
 parse_open s t =
     parse_open_lines s.at s.parsing (split_of (s.held ++ t)).whole (split_of (s.held ++ t)).rest
 
--- Whatever input follows, the old position has these results, and then those of the new position.
--- After the end of input, nothing follows.
+-- Whatever input follows, parsing it from the old position yields the given results, followed by
+-- those of parsing it from the new position. If the end of the input has been reached, nothing
+-- follows.
 pub record ContinuesParse (old new : ReaderPosition) (results : List ParseResult) : Type 0 where
   pub whole : (t : List ℕ) → (new.ended ≡ true → t ≡ []) → parse old t ≡ results ++ parse new t
   pub openly : new.ended ≡ false → (t : List ℕ) → parse_open old t ≡ results ++ parse_open new t
 
--- Whole lines were taken: `held` is these lines, each with its line feed, and then `rest`.
+-- Complete lines were processed. `held` consists of the processed lines, with their line feeds,
+-- followed by `rest`.
 pub record TakesWholeLines (at : ℕ) (held : List ℕ) (at' : ℕ) (rest : List ℕ) : Type 0 where
   pub lines : List (List ℕ)
   pub single : AllByRecursion (λ line. has_no_feed line ≡ true) lines
   pub counted : at' ≡ at + length lines
   pub octets : held ≡ text_of_lines lines ++ rest
 
--- Whole lines were taken, the last of which is an `end` line. `rest` is what follows it.
+-- Complete lines were processed, and the last one is an `end` line, followed by `rest`.
 pub record TakesEndLine (at : ℕ) (held : List ℕ) (at' : ℕ) (rest : List ℕ) : Type 0 where
   -- the number of the `end` line
   pub line : ℕ
@@ -72,26 +75,26 @@ pub record TakesEndLine (at : ℕ) (held : List ℕ) (at' : ℕ) (rest : List �
   pub closes : read_line last ≡ Closes
   pub counted : at' ≡ line + 1
 
--- the model of a reader
+-- the model of a document reader
 pub record ReaderModel : Type 0 where
   -- the number of the next line
   pub at : ℕ
-  -- the state of the parser, and the document so far
+  -- the state of the parser, and the document that it has read so far
   pub parsing : Parsing
-  -- the buffered octets: they were read and not yet taken as lines
+  -- the buffered octets, which have been read but not yet processed as lines
   pub held : List ℕ
-  -- whether the end of input was reached
+  -- whether the end of the input has been reached
   pub ended : Bool
   -- the fault that stopped the reader, if any
   pub fault : Option ReadFault
-  -- the number of reads made
+  -- the number of reads so far
   pub reads : ℕ
   -- the capacity of the buffer, in octets
   pub room : ℕ
   -- the free space after the buffered octets, in octets
   pub free : ℕ
 
--- a reader that has read nothing
+-- a reader that has not read anything yet
 abbrev pub new_reader : ReaderModel
 new_reader =
     record {
@@ -108,7 +111,7 @@ new_reader =
 abbrev pub position_of : ReaderModel → ReaderPosition
 position_of s = record { at = s.at; parsing = s.parsing; held = s.held; ended = s.ended }
 
--- the position of a reader with these octets appended to its buffer
+-- a reader's position after the given octets were appended to its buffer
 abbrev pub position_after : ReaderModel → List ℕ → ReaderPosition
 position_after s bs =
     record { at = s.at; parsing = s.parsing; held = s.held ++ bs; ended = s.ended }
@@ -119,24 +122,25 @@ parse_results (Ok (Some document)) = Complete document ∷ []
 parse_results (Err (Line line fault)) = Refused line fault ∷ []
 parse_results result = []
 
--- Nothing was added; or the end of input was reached, and the line feed that the last line lacked
--- was added.
+-- Either nothing was added, or the end of the input was reached and a line feed was added to the
+-- last line, which lacked one. `feed` contains the added octets.
 abbrev pub IsMissingFeed : (ended ended' : Bool) → List ℕ → Type 0
 IsMissingFeed ended ended' feed =
     (feed ≡ []) ⊎ ((ended ≡ false) × (ended' ≡ true) × (feed ≡ 10 ∷ []))
 
--- The buffered octets of the text itself. If the end of input was reached, the last buffered octet
--- is the line feed that was missing in the text, and is left out.
+-- The buffered octets that come from the text. After the end of the input, the last buffered octet
+-- is excluded because it is the line feed that the text lacked.
 abbrev pub unfed : ReaderModel → List ℕ
 unfed s = if s.ended then take (length s.held - 1) s.held else s.held
 
--- No octet is lost: the octets of the text that were buffered, and then those read, are those
--- taken, and then those buffered now.
+-- No octet of the text was lost. The octets that were buffered before the call or read by it are
+-- those that it processed, followed by those that are still buffered.
 abbrev pub KeepsUnread : (old new : ReaderModel) → List ℕ → Type 0
 KeepsUnread old new bs = (taken : List ℕ) × (unfed old ++ bs ≡ taken ++ unfed new)
 
--- Octets were read after those buffered before. Together they have these results, and then those of
--- the octets buffered now. Only whole lines were taken.
+-- Octets were read and appended to the buffer. Parsing the extended buffer yields the given
+-- results, followed by those of parsing the octets that are still buffered after the call. Only
+-- complete lines were processed.
 pub record ReadsLines (left left' : Option (List ℕ)) (old new : ReaderModel)
     (results : List ParseResult) (bs : List ℕ) : Type 0 where
   pub read : Consumes left left' bs
@@ -145,18 +149,19 @@ pub record ReadsLines (left left' : Option (List ℕ)) (old new : ReaderModel)
   pub goes : ContinuesParse (position_after old bs) (position_of new) results
   pub lines : (feed : List ℕ) × IsMissingFeed old.ended new.ended feed
       × TakesWholeLines old.at ((old.held ++ bs) ++ feed) new.at new.held
-  -- if the end of input has just been reached and no line feed was missing, nothing is buffered
+  -- If the end of the input has just been reached and no line feed was missing, nothing is
+  -- buffered.
   pub fed : old.ended ≡ false → new.ended ≡ true → lines.0 ≡ [] → new.held ≡ []
   pub kept : old.ended ≡ true → (new.ended ≡ true) × (bs ≡ []) × (new.reads ≡ old.reads)
   pub end : (old.ended ≡ true → IsAtEnd left) → new.ended ≡ true → IsAtEnd left'
 
--- The last line taken is an `end` line. The buffered octets are exactly those read after it.
+-- The last processed line is an `end` line, and exactly the octets after it are buffered.
 abbrev pub EndsAtEndLine : (old new : ReaderModel) → List ℕ → Type 0
 EndsAtEndLine old new bs = (feed : List ℕ) × IsMissingFeed old.ended new.ended feed
     × TakesEndLine old.at ((old.held ++ bs) ++ feed) new.at new.held
 
--- Before the last read, all whole lines had been taken and had reported nothing, and the incomplete
--- line was no longer than a line may be. This read returned at most 4,096 octets.
+-- The last read was made only after all complete lines had been processed without a result. The
+-- incomplete line then had at most 4,096 octets, and the read returned at most 4,096.
 pub record ReadsOnlyIfNoLine (left : Option (List ℕ)) (old : ReaderModel) (reads : ℕ)
     (bs : List ℕ) : Type 0 where
   pub before : List ℕ
@@ -173,19 +178,19 @@ pub record ReadsOnlyIfNoLine (left : Option (List ℕ)) (old : ReaderModel) (rea
   pub short : length mid.held ≤ max_line
   pub made : reads ≡ mid.reads + 1
 
--- The end of input was not reached, no whole line is buffered, and the buffered octets report
--- nothing.
+-- The end of the input has not been reached, no complete line is buffered, and parsing the buffered
+-- octets gives no result.
 abbrev pub HasNoWholeLine : ReaderModel → Type 0
 HasNoWholeLine s =
     (s.ended ≡ false) × (parse_open (position_of s) [] ≡ []) × (has_no_feed s.held ≡ true)
 
--- The end of input was reached, nothing is buffered, and nothing more is reported.
+-- The end of the input has been reached, nothing is buffered, and there are no further results.
 abbrev pub HasNoMoreLines : ReaderModel → Type 0
 HasNoMoreLines s = (s.ended ≡ true) × (s.held ≡ []) × (parse (position_of s) [] ≡ [])
 
--- How a call leaves the reader. `None` is returned only if there are no more lines. An input is too
--- long only after 2^32 reads. Memory runs out only if a whole line is buffered, or before the first
--- read.
+-- A call with the given result can leave the reader in state `new`. `None` is returned only if no
+-- lines remain, and `InputTooLong` only after 2^32 reads. Memory runs out only before the first
+-- read or if a complete line is buffered.
 abbrev pub LeavesReader : ReaderModel → Result (Option Document) ReadFault → Type 0
 LeavesReader new (Ok None) = (new.fault ≡ None) × HasNoMoreLines new
 LeavesReader new (Ok (Some document)) = new.fault ≡ None
@@ -197,7 +202,7 @@ LeavesReader new (Err (Run Memory)) =
     (new.fault ≡ Some (Run Memory)) × ((has_no_feed new.held ≡ false) ⊎ (new.reads ≡ 0))
 LeavesReader new (Err (Line line fault)) = new.fault ≡ Some (Line line fault)
 
--- The next line is buffered as a whole, and it adds to the document.
+-- The next line is completely buffered, and it adds to the document.
 pub record AddsNext (s : ReaderModel) : Type 0 where
   pub line : List ℕ
   pub rest : List ℕ
@@ -205,10 +210,10 @@ pub record AddsNext (s : ReaderModel) : Type 0 where
   pub single : has_no_feed line ≡ true
   pub adds_to : adds s.parsing.0 (read_line line) ≡ true
 
--- What a call reads and reports. If memory runs out, it reports nothing, and the octets buffered
--- after the call are not specified. This happens only if octets were buffered before the call or
--- the end of input was not reached; and, after the first read, only at a line that adds to the
--- document.
+-- A call read the given octets and returned the given result. If memory ran out, no document or
+-- line fault was reported, and the content of the buffer is not specified. Memory cannot run out if
+-- the call begins at the end of the input with an empty buffer. After the first read, memory can
+-- run out only at a line that adds to the document.
 abbrev pub ReadsDocument : (left left' : Option (List ℕ)) → (old new : ReaderModel)
     → Result (Option Document) ReadFault → List ℕ → Type 0
 ReadsDocument left left' old new (Ok (Some document)) bs =
@@ -220,18 +225,18 @@ ReadsDocument left left' old new (Err (Run Memory)) bs =
     × ((new.reads ≡ 0) ⊎ ((mid : ReaderModel) × ReadsLines left left' old mid [] bs × AddsNext mid))
 ReadsDocument left left' old new result bs = ReadsLines left left' old new (parse_results result) bs
 
--- A call returns the next document, or the reason why there is none.
+-- A call returned the next document, or the reason why there is none.
 pub record ReturnsNextDocument (left left' : Option (List ℕ)) (old new : ReaderModel)
     (result : Result (Option Document) ReadFault) : Type 0 where
   pub octets : List ℕ
   pub reads : ReadsDocument left left' old new result octets
   pub keeps : KeepsUnread old new octets
   pub waits : (new.reads ≡ old.reads) ⊎ ReadsOnlyIfNoLine left old new.reads octets
-  -- an input is too long only if each read returned at least one octet
+  -- `InputTooLong` is returned only if every read returned at least one octet.
   pub each : result ≡ Err (Run InputTooLong) → new.reads ≤ old.reads + length octets
   pub ends : LeavesReader new result
 
--- A read is needed: no whole line is buffered, and the lines that were taken report nothing.
+-- A read is needed because no complete line is buffered and the processed lines gave no result.
 pub record NeedsLine (old new : ReaderModel) : Type 0 where
   pub passes : (left : Option (List ℕ)) → ReadsLines left left old new [] []
   pub none : has_no_feed new.held ≡ true
@@ -239,7 +244,8 @@ pub record NeedsLine (old new : ReaderModel) : Type 0 where
   pub going : new.ended ≡ false
   pub sound : new.fault ≡ None
 
--- The buffered lines determine the next document, whatever reads came before; or a read is needed.
+-- Either the buffered lines determine the result of a call, whatever the call has already read, or
+-- the result is `None` because a read is needed.
 abbrev pub GivesHeldDocument : (old new : ReaderModel)
     → Option (Result (Option Document) ReadFault) → Type 0
 GivesHeldDocument old new (Some next) =
@@ -249,7 +255,7 @@ GivesHeldDocument old new (Some next) =
     → ReturnsNextDocument left mid first new next
 GivesHeldDocument old new None = NeedsLine old new
 
--- the count of failed reads after a call: `Run Read` adds one, and nothing else does
+-- the number of failed reads after a call with the given result; only `Run Read` increases it
 abbrev pub failures_by : {X : Type 0} → ℕ → Result X ReadFault → ℕ
 failures_by count (Err (Run fault)) = read_failures_after {X = Unit {0}} count (Err fault)
 failures_by count result = count

@@ -1,5 +1,5 @@
--- Only contracts need this file. An accepted message, and the message to which its dump text is
--- encoded, in either form.
+-- Only contracts need this file. An accepted message, and the message that results from encoding
+-- its dump in either form.
 use Rattle.std.specs.Prelude.{◌≡◌, ℕ, ◌+◌, ◌%◌, ◌≤◌, ◌==◌, ◌&&◌, ◌||◌, Bool, List, ◌∷◌, ◌++◌, length, if◌then◌else◌, Ok, Vec, Result, Err, [], take, drop, flat_map, ◌⊎◌}
 use Rattle.std.specs.List.{AllByRecursion}
 use Rattle.bufr_tables.specs.Prelude.{tree_of, tables_of, Row, Sequence, Tree}
@@ -17,8 +17,8 @@ use Rattle.bufr_text.specs.declared.fault.DocumentFault.TheVariants as document
 use Rattle.bufr_bits.specs.Prelude.{bits_of}
 use Rattle.bufr_text.specs.declared.encode.Form.TheVariants as form
 
--- The message m is accepted with these tables: it has sections, its descriptors expand to a
--- template, and its data have a reading.
+-- The message m is accepted with the given tables, which means that it can be split into sections,
+-- its descriptors expand into a template, and its data can be read.
 pub record IsAccepted (table : List Row) (sequences : List Sequence) (m : List ℕ) (s : Sections)
     (template : Tree) (values : Values) (used : ℕ) : Type 0 where
   pub octets : AllByRecursion IsOctet m
@@ -27,8 +27,8 @@ pub record IsAccepted (table : List Row) (sequences : List Sequence) (m : List �
   pub expands : tree_of (tables_of table sequences) s.descriptors ≡ Ok template
   pub read : HasReading (next_item table template) (data_of s) values used
 
--- The sections of two messages have the same content. The lengths and the data bits may differ. The
--- compression flag of the second message is that of the form.
+-- The sections of two messages have the same content, although their lengths and data bits may
+-- differ. The second message has the compression flag that the form specifies.
 pub record SaySame (form : Form) (a b : Sections) : Type 0 where
   pub head : b.head ≡ a.head
   pub local1 : b.local1 ≡ a.local1
@@ -38,22 +38,23 @@ pub record SaySame (form : Form) (a b : Sections) : Type 0 where
   pub observed : b.observed ≡ a.observed
   pub compressed : b.compressed ≡ compressed_by form a.compressed
 
--- the maximum number of octets by which a message grows when it is written again: two in edition 3
--- if section 3 or 4 is odd, since both become even
+-- the maximum number of octets by which a message grows when its dump is encoded, which is 2 in
+-- edition 3 if the length of section 3 or 4 is odd (because both lengths become even), and 0
+-- otherwise
 -- rule: becomes-canonical
 abbrev pub extra_octets : (m : List ℕ) → ℕ
 extra_octets m = if edition_of m == 3
     && (u24_at m (section3_begins m) % 2 == 1 || u24_at m (section4_begins m) % 2 == 1)
     then 2 else 0
 
--- `written` is a message with the same reading as the message m, whose sections are s. It is no
--- longer than m, except that in edition 3 up to two octets make odd sections even.
+-- The message `written` reads the same as m, whose sections are s. `written` is no longer than m,
+-- except for up to two octets that make the lengths of sections 3 and 4 even in edition 3.
 pub record HasSameReading (table : List Row) (m : List ℕ) (s : Sections) (template : Tree)
     (values : Values) (written : List ℕ) : Type 0 where
   pub no_longer : length written ≤ length m + extra_octets m
   pub few : length written ≤ max_octets
   pub octets : AllByRecursion IsOctet written
-  -- in a stream, it is one message, whatever follows it
+  -- In a stream, the octets form a single message, whatever follows.
   pub framed : (at : ℕ) (suffix : List ℕ) → scan_from 0 at (written ++ suffix)
       ≡ FrameAt at written ∷ scan_from 0 (at + length written) suffix
   pub sections : Sections
@@ -62,30 +63,30 @@ pub record HasSameReading (table : List Row) (m : List ℕ) (s : Sections) (temp
   pub used : ℕ
   pub read : HasReading (next_item table template) (data_of sections) values used
 
--- The document is encoded to a message with the same reading.
+-- Encoding the document gives a message that reads the same as m.
 pub record IsEncodedAgain (table : List Row) (sequences : List Sequence) (m : List ℕ) (s : Sections)
     (template : Tree) (values : Values) (d : Document) : Type 0 where
   pub octets : List ℕ
   pub is : encoding_of table sequences d ≡ Ok octets
   pub same : HasSameReading table m s template values octets
 
--- The document of a message is encoded in the form that it specifies, with this result: a message
--- with the same reading, or memory ran out.
+-- Encoding the document of m in its own form gave a message that reads the same as m, or memory ran
+-- out.
 abbrev pub EncodesAgain : List Row → List ℕ → Sections → Tree → Values
     → Result (Vec ℕ Global) DocumentFault → Type 0
 EncodesAgain table m s template values (Ok octets) =
     HasSameReading table m s template values octets.items
 EncodesAgain table m s template values (Err why) = why ≡ document.Memory
 
--- ---- The message to which the document of an accepted message is encoded in a form.
+-- ---- Encoding the document of an accepted message in a given form.
 
--- `written` is a message in this form. It has the same reading as the message whose sections are s,
--- except for the compression flag.
+-- `written` is a message in the given form. Except for its compression flag, `written` reads the
+-- same as the message whose sections are s.
 pub record HasReadingIn (form : Form) (table : List Row) (s : Sections) (template : Tree)
     (values : Values) (written : List ℕ) : Type 0 where
   pub few : length written ≤ max_octets
   pub octets : AllByRecursion IsOctet written
-  -- in a stream, it is one message, whatever follows it
+  -- In a stream, the octets form a single message, whatever follows.
   pub framed : (at : ℕ) (suffix : List ℕ) → scan_from 0 at (written ++ suffix)
       ≡ FrameAt at written ∷ scan_from 0 (at + length written) suffix
   pub sections : Sections
@@ -94,14 +95,15 @@ pub record HasReadingIn (form : Form) (table : List Row) (s : Sections) (templat
   pub found : Values
   pub used : ℕ
   pub read : HasReading (next_item table template) (data_of sections) found used
-  -- each subset has the same items
+  -- Each subset has the same items in both messages.
   pub each : each_subset s.subsets found ≡ each_subset s.subsets values
-  -- so the dump text has the same items
+  -- The dumps of both messages show the same items.
   pub items : dump_items table sections.subsets found ≡ dump_items table s.subsets values
 
--- The document of an accepted message may be refused in this form for this reason. In its own form,
--- it is never refused. In another form, it may be refused for its length; in compressed form also
--- for factors that differ between subsets, and for contents that no increments distinguish.
+-- The document of an accepted message can be rejected in the given form with the given fault. The
+-- document is never rejected in its own form. In plain or compressed form, the message may be too
+-- long. In compressed form, replication factors may also differ between subsets, or increments may
+-- be unable to represent the values.
 abbrev pub IsForForm : Form → DocumentFault → Type 0
 IsForForm form.AsWritten why = ⊥
 IsForForm form.Plain (document.TooLong line) = Unit {0}
@@ -110,47 +112,50 @@ IsForForm form.Compressed (document.Item line why) = IsUnlike why
 IsForForm form.Compressed (document.TooLong line) = Unit {0}
 IsForForm form.Compressed why = ⊥
 
--- The document of a message is encoded in a form: the result is a message with the same items, or a
--- fault that is possible in this form.
+-- Encoding a message's document in the given form gives a message with the same items, or a fault
+-- that is possible in that form.
 abbrev pub IsFormed : Form → List Row → Sections → Tree → Values
     → Result (List ℕ) DocumentFault → Type 0
 IsFormed form table s template values (Ok octets) = HasReadingIn form table s template values octets
 IsFormed form table s template values (Err why) = IsForForm form why
 
--- This fault is possible in the form, or memory ran out.
+-- The fault is possible in the given form, or memory ran out.
 abbrev pub IsFaultIn : Form → DocumentFault → Type 0
 IsFaultIn form why = (why ≡ document.Memory) ⊎ IsForForm form why
 
--- The document of a message is encoded in a form, with this result. Memory may run out.
+-- Encoding a message's document in the given form gave a message with the same items or a fault
+-- that is possible in that form, or memory ran out.
 abbrev pub EncodesForm : Form → List Row → Sections → Tree → Values
     → Result (Vec ℕ Global) DocumentFault → Type 0
 EncodesForm form table s template values (Ok octets) =
     HasReadingIn form table s template values octets.items
 EncodesForm form table s template values (Err why) = IsFaultIn form why
 
--- ---- A message as an encoder writes it. (own)
+-- ---- A message as an encoder writes it (own).
 
--- No redefined reference among these items, with which the bits begin, is written as minus zero.
+-- The bits begin with the given items, in which no redefined reference value is written as minus
+-- zero.
 abbrev pub HaveNoMinusZero : List (Item Content) → List Bool → Type 0
 HaveNoMinusZero [] bits = Unit {0}
 HaveNoMinusZero (i ∷ items) bits = (IsMinusZero i.spec.role (take i.spec.width bits) → ⊥)
     × HaveNoMinusZero items (drop i.spec.width bits)
 
--- The bits are these items of compressed data, each packed as an encoder packs its contents, and
--- then `suffix`.
+-- The bits are the given items of compressed data, packed as an encoder packs them, followed by
+-- `suffix`.
 abbrev pub ArePacked : List (Item (List Content)) → (bits suffix : List Bool) → Type 0
 ArePacked [] bits suffix = bits ≡ suffix
 ArePacked (i ∷ items) bits suffix =
     (out : List Bool) × (mid : List Bool) × (packing i.spec i.content ≡ Ok out)
     × (bits ≡ out ++ mid) × ArePacked items mid suffix
 
--- the data bits are as an encoder writes them
+-- The data bits are exactly those that an encoder writes.
 abbrev pub AreWritten : Values → (bits suffix : List Bool) → Type 0
 AreWritten (apart subsets) bits suffix = HaveNoMinusZero (flat_map (λ items. items) subsets) bits
 AreWritten (together items) bits suffix = ArePacked items bits suffix
 
--- Reserved octets and bits are zero, and no octet is superfluous. The data have as few octets as
--- possible (in edition 3, as few as make section 4 even), and zero bits fill the last one.
+-- The message is canonical, which means that its reserved octets and bits are zero, and that it has
+-- no unnecessary octets. The data take as few octets as possible (in edition 3, as few as give
+-- section 4 an even length), and zero bits pad the last octet.
 -- rule: canonical
 pub record IsCanonical (m : List ℕ) (s : Sections) (values : Values) (used : ℕ) : Type 0 where
   pub plain : IsPlain m
@@ -158,14 +163,14 @@ pub record IsCanonical (m : List ℕ) (s : Sections) (values : Values) (used : �
       (octets_of_bits (take used (bits_of s.payload)))
   pub bits : AreWritten values (bits_of s.payload) (drop used (bits_of s.payload))
 
--- ---- A document that was encoded reads back the same.
+-- ---- An encoded document is read back with the same content.
 
--- The values have the contents of the drafts.
+-- The drafts specify the given values.
 abbrev pub AreValuesOf : Values → List Subset → Type 0
 AreValuesOf values drafts = AreSaid (each_subset (length drafts) values) drafts
 
--- The octets are one message, which is accepted. It has the content of the document, in this form:
--- its items have the contents of the drafts, in a number of octets that is not specified.
+-- The octets are a single accepted message in the given form, with the content of the document and
+-- the values that its drafts specify. The length of the message is not specified.
 pub record IsReadAs (form : Form) (table : List Row) (sequences : List Sequence) (d : Document)
     (octets : List ℕ) : Type 0 where
   pub sections : Sections
@@ -173,7 +178,7 @@ pub record IsReadAs (form : Form) (table : List Row) (sequences : List Sequence)
   pub values : Values
   pub used : ℕ
   pub accepted : IsAccepted table sequences octets sections template values used
-  -- in a stream, it is one message, whatever follows it
+  -- In a stream, the octets form a single message, whatever follows.
   pub framed : (at : ℕ) (suffix : List ℕ) → scan_from 0 at (octets ++ suffix)
       ≡ FrameAt at octets ∷ scan_from 0 (at + length octets) suffix
   pub head : sections.head ≡ (header_in d).head

@@ -1,5 +1,5 @@
 -- Only contracts need this file. How a document is stored while it is read, and how buffered lines
--- are taken.
+-- are processed.
 use Rattle.std.specs.Prelude.{◌≡◌, ◌≤◌, length, take, ◌<◌, ◌+◌, ◌==◌, ℕ, true, false, [], List, ◌∷◌, ◌++◌, drop, Bool, Option, None, Some, ◌⊎◌, ◌*◌, ◌-◌, Result, Ok, Err}
 use Rattle.bufr_text.specs.declared.document.DocumentParts.TheInside.{Inside}
 use Rattle.std.specs.List.{AllByRecursion}
@@ -34,7 +34,7 @@ document_kept d = record {
 
 -- ---- The effect of a line.
 
--- what a parsed line says
+-- the model of a parsed line
 abbrev pub meaning : ParsedLine → line.Line
 meaning said.Passed = line.Passed
 meaning said.Opens = line.Opens
@@ -47,35 +47,36 @@ meaning (said.Item fxy form) = line.ItemLine fxy (form_in form)
 meaning said.Closes = line.Closes
 meaning said.Wrong = line.Wrong
 
--- Nothing was read after the header.
+-- Nothing after the header of the document has been read.
 pub record IsBare (d : Document) : Type 0 where
   pub local1 : d.local1 ≡ []
   pub section2 : d.section2 ≡ []
   pub descriptors : d.descriptors ≡ []
   pub entries : d.entries ≡ []
 
--- The octets and descriptors before the subsets are valid, and there are no octets of an absent
--- section 2.
+-- The octets and descriptors before the subsets are valid. Section 2 octets are present only if the
+-- header declares a section 2.
 pub record HasLineGroups (d : Document) : Type 0 where
   pub local1 : AllByRecursion IsOctet d.local1
   pub section2 : AllByRecursion IsOctet d.section2
   pub no_section2 : (header_in d).optional ≡ false → d.section2 ≡ []
   pub descriptors : AllByRecursion IsDescriptorWord d.descriptors
 
--- If an entry is an item with a text, the text consists of octets.
+-- If the value of an entry is a string, it consists of octets.
 abbrev pub EntryHasOctets : DraftEntry → Type 0
 EntryHasOctets (Holds item) = HasOctets item.form
 EntryHasOctets (Ends line) = Unit {0}
 
--- `ended` subsets are complete, and each text consists of octets.
+-- The document has `ended` complete subsets, and its strings consist of octets.
 pub record HasSubsets (ended : ℕ) (d : Document) : Type 0 where
   pub texts : AllByRecursion EntryHasOctets d.entries
   pub counted : length (subsets_of d.entries) ≡ ended
 
--- What holds if the line with number `at` is next. Between documents, the document is blank. While
--- the header is read, it is incomplete; after that, it is complete. The number of a subset is below
--- 65,536, and one more than the number of complete subsets. There are fewer entries than `at`,
--- since each of them has a line. After a fault, no line is next.
+-- The parser's state and document are possible before line `at`. Between documents, the document is
+-- blank. The header is incomplete while the header lines are being read, and complete afterwards.
+-- The number of the current subset is less than 65,536 and is one more than the number of complete
+-- subsets. The number of entries is less than `at` because each entry has its own line. After a
+-- fault, no more lines are processed.
 abbrev pub IsParsing : (at : ℕ) → Parsing → Type 0
 IsParsing at (Between, d) = d ≡ blank 0
 IsParsing at (Heading, d) = (length d.header < 20)
@@ -88,14 +89,14 @@ IsParsing at (Filling subset, d) =
     × ((ended : ℕ) × (subset ≡ ended + 1) × HasSubsets ended d)
 IsParsing at (Stopped, d) = ⊥
 
--- What holds after a line, if the line with number `at` is next. A document that is complete has a
--- line for each entry.
+-- The line before line `at` can have the given effect. A completed document is proper and has fewer
+-- than `at` entries.
 abbrev pub IsLineStep : (at : ℕ) → LineStep → Type 0
 IsLineStep at (Continues state, d) = IsParsing at (state, d)
 IsLineStep at (Completes, d) = IsProper d × (length d.entries < at)
 IsLineStep at (Refuses fault, d) = Unit {0}
 
--- ---- How buffered lines are taken.
+-- ---- How buffered lines are processed.
 
 abbrev pub parsing_of : Progress → Parsing
 parsing_of progress = (progress.state, progress.parts)
@@ -104,7 +105,7 @@ abbrev pub position_with : (at : ℕ) → Parsing → List ℕ → Bool → Read
 position_with at parsing held ended =
     record { at = at; parsing = parsing; held = held; ended = ended }
 
--- The buffered lines before an offset were taken, and the last of them had this effect.
+-- The buffered lines before `offset` were processed, and the last one had the given effect.
 pub record TakesLines (old new : Progress) (held : List ℕ) (offset : ℕ)
     (effect : LineEffect) : Type 0 where
   pub goes : (ended : Bool) → ContinuesParse (position_with old.at (parsing_of old) held ended)
@@ -119,7 +120,7 @@ pub record TakesLines (old new : Progress) (held : List ℕ) (offset : ℕ)
   pub passes : TakesWholeLines old.at held new.at (drop offset held)
   pub closes : effect ≡ Completes → TakesEndLine old.at held new.at (drop offset held)
 
--- The buffered lines before an offset were taken, and none of them has reported anything.
+-- The buffered lines before `offset` were processed, and none of them gave a result.
 pub record IsTaking (old new : Progress) (held : List ℕ) (offset : ℕ) : Type 0 where
   pub goes : (ended : Bool) → ContinuesParse (position_with old.at (parsing_of old) held ended)
       (position_with new.at (parsing_of new) (drop offset held) ended) []
@@ -129,8 +130,8 @@ pub record IsTaking (old new : Progress) (held : List ℕ) (offset : ℕ) : Type
   pub near : new.at ≤ old.at + offset
   pub passes : TakesWholeLines old.at held new.at (drop offset held)
 
--- Buffered lines were taken and reported nothing. The next line is buffered as a whole, and it adds
--- to the document.
+-- Buffered lines were processed and gave no result. The next line is completely buffered, and it
+-- adds to the document.
 pub record WantsAt (old : Progress) (held : List ℕ) : Type 0 where
   pub progress : Progress
   pub offset : ℕ
@@ -143,33 +144,33 @@ pub record WantsAt (old : Progress) (held : List ℕ) : Type 0 where
 
 -- ---- The steps of a reader.
 
--- whether there are no octets, or the last one is a line feed
+-- whether the list of octets is empty or ends with a line feed
 abbrev pub ends_by_feed : List ℕ → Bool
 ends_by_feed [] = true
 ends_by_feed (c ∷ []) = c == 10
 ends_by_feed (c ∷ d ∷ more) = ends_by_feed (d ∷ more)
 
--- The progress of a reader without a fault. Its line number is bounded by its reads, since each
--- line has at least one octet.
+-- A reader without a fault can have made the given progress. The number of reads limits the line
+-- number because each line has at least one octet.
 pub record IsProgress (progress : Progress) (held reads : ℕ) : Type 0 where
   pub holds : IsParsing progress.at (parsing_of progress)
   pub some : 0 < progress.at
   pub near : progress.at + held ≤ max_line * reads + 1
 
--- How a reader buffers its input. It buffers at most 8,192 octets. At the end of input, the last
--- line has a line feed. The buffer is allocated at the first read.
+-- A reader buffers at most 8,192 octets. At the end of the input, the last buffered line ends with
+-- a line feed. The buffer is allocated at the first read.
 abbrev pub IsReader : Option ReadFault → Progress → InputModel → Type 0
 IsReader fault progress input = (length input.held ≤ 2 * max_line) × (input.reads ≤ max_reads)
     × (input.ended ≡ true → ends_by_feed input.held ≡ true)
     × (fault ≡ None → IsProgress progress (length input.held) input.reads)
     × (0 < input.reads → 2 * max_line ≤ input.room)
 
--- Buffered lines were taken, and these are their results.
+-- Buffered lines were processed, with the given results.
 pub record ParsesHeldLines (old new : ReaderModel) (results : List ParseResult) : Type 0 where
   pub goes : ContinuesParse (position_of old) (position_of new) results
   pub passes : TakesWholeLines old.at old.held new.at new.held
 
--- Buffered lines were taken and reported nothing, and the next line adds to the document.
+-- Buffered lines were processed and gave no result, and the next line adds to the document.
 pub record WantsHere (old : ReaderModel) : Type 0 where
   pub mid : ReaderModel
   pub taken : ParsesHeldLines old mid []
@@ -177,7 +178,7 @@ pub record WantsHere (old : ReaderModel) : Type 0 where
   pub reads : mid.reads ≡ old.reads
   pub next : AddsNext mid
 
--- Taking the buffered lines had this result.
+-- Processing the buffered lines had the given result.
 abbrev pub TakesHeldLines : ReaderModel → ReaderModel → Result (Option Document) ReadFault → Type 0
 TakesHeldLines old new (Ok None) = ParsesHeldLines old new [] × (new.fault ≡ None)
     × (has_no_feed new.held ≡ true)
@@ -191,14 +192,14 @@ TakesHeldLines old new (Err (Run fault)) = ⊥
 TakesHeldLines old new (Err (Line line fault)) =
     ParsesHeldLines old new (Refused line fault ∷ []) × (new.fault ≡ Some (Line line fault))
 
--- the input buffer of a reader with these octets; its capacity and the gap before the octets are
--- set to 0, since they do not matter here
+-- a reader's input buffer with the given octets; its capacity and the gap before the octets are set
+-- to 0 because neither matters here
 abbrev pub text_input : ReaderModel → List ℕ → InputModel
 text_input s held =
     record { held = held; ended = s.ended; reads = s.reads; room = 0; free = s.free; gap = 0 }
 
--- One read: octets are appended to those buffered; or the end of input is reached, and a line feed
--- is appended if the last line lacks one. Memory runs out only before the first read.
+-- One read appended octets to the buffer or, at the end of the input, a line feed if the last line
+-- lacked one. Memory runs out only before the first read.
 pub record ReadsMoreText (left left' : Option (List ℕ)) (old new : ReaderModel)
     (result : Result (Unit {0}) RunFault) (bs : List ℕ) : Type 0 where
   pub fills : FillsInput left left' (text_input old old.held) (text_input new (old.held ++ bs))
@@ -212,13 +213,13 @@ pub record ReadsMoreText (left left' : Option (List ℕ)) (old new : ReaderModel
   pub parsing : new.parsing ≡ old.parsing
   pub fault : new.fault ≡ None
 
--- a reader that stopped because of a fault; after an invalid line, nothing more is reported
+-- a reader that was stopped by a fault; after an invalid line, it reports nothing more
 abbrev pub stopped : ReaderModel → ReadFault → ReaderModel
 stopped s (Run fault) = record s { fault = Some (Run fault) }
 stopped s (Line line fault) =
     record s { fault = Some (Line line fault); parsing = (Stopped, s.parsing.1) }
 
--- One read. A fault stops the reader.
+-- One read was made, and if it failed, its fault stopped the reader.
 abbrev pub FillsBuffer : (left left' : Option (List ℕ)) → ReaderModel → ReaderModel
     → Result (Unit {0}) ReadFault → List ℕ → Type 0
 FillsBuffer left left' old new (Ok u) bs = ReadsMoreText left left' old new (Ok u) bs

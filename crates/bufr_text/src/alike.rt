@@ -1,5 +1,5 @@
-//! The shared lines of compressed data, which are the same in all subsets. They are formatted once
-//! per message.
+//! Shared lines, which are the same in every subset of a compressed message. Shared lines are
+//! formatted once per message.
 ghost use Rattle.std.specs.Prelude.{◌≡◌, ◌≤◌, ◌<◌, ◌*◌, List, [], Ok, true, length, IfOk};
 ghost use Rattle.bufr_tables.specs.Prelude.{Row, places};
 ghost use Rattle.bufr_text.specs.Prelude.{PushesCall, item_lines, PushesAlike, AreStretches, AreGathered};
@@ -11,18 +11,18 @@ use bufr_frame::RunFault;
 use bufr_walk::{PackedItems, Reading, ShowFault, SpecCache, Steps, Visitor};
 use std::alloc::Global;
 
-/// Room for a line, which has at most 2,061 octets: a text takes up to 4 * 255, and a name and a
-/// unit up to 512 each.
+/// The number of octets reserved for one line. A line has at most 2,061 octets, including up to 4 *
+/// 255 for a string value and up to 512 each for a name and a unit.
 const LINE: usize = 2_560;
 
-/// Room for the shared lines of a message.
+/// The maximum total length, in octets, of the shared lines of a message.
 pub(crate) const TEXT: usize = 16_384;
 
-/// The maximum number of stretches in a message before the last one.
+/// The maximum number of stretches in a message, not counting the last one.
 const MAX_STRETCHES: usize = 1_024;
 
-/// A part of each subset: shared lines, which end at index `end` of the shared text, followed by
-/// the items whose indices are at least `from` and below `to`.
+/// A part of each subset, which consists of shared lines followed by the items whose indices are in
+/// `from..to`. The shared lines end at index `end` of the shared text.
 #[derive(Clone, Copy)]
 pub(crate) struct Stretch {
     end: usize,
@@ -30,8 +30,8 @@ pub(crate) struct Stretch {
     to: usize,
 }
 
-/// Returns whether more than an eighth of the items are the same in all subsets. If there are
-/// fewer, it is not worthwhile to gather their lines.
+/// Returns whether more than an eighth of the items are the same in every subset. If fewer items
+/// are the same, it is not worth gathering their lines.
 fn are_enough_alike(items: &PackedItems<'_, '_>) -> bool {
     let mut alike: usize = 0;
     'items: for index in 0..items.len() {
@@ -42,8 +42,9 @@ fn are_enough_alike(items: &PackedItems<'_, '_>) -> bool {
     alike > items.len() / 8
 }
 
-/// Pushes the lines of the items from index `from` on, as long as these are the same in all subsets
-/// and fewer than `room` octets are buffered. Returns the index after these items.
+/// Pushes the lines of consecutive items, starting at index `from`. Stops at the first item that
+/// may differ between subsets, or once at least `room` octets are buffered. Returns the index at
+/// which the function stopped.
 fn push_alike(
     items: &PackedItems<'_, '_>,
     from: usize,
@@ -63,7 +64,8 @@ fn push_alike(
     Ok(to)
 }
 
-/// Returns the index after an item and those directly after it that may differ between subsets.
+/// Skips the item at index `from` and any items directly after it that may differ between subsets.
+/// Returns the index of the next item.
 fn skip_different(items: &PackedItems<'_, '_>, from: usize) -> usize
     requires { from < length items.now.items }
     ensures more { from < result }
@@ -77,7 +79,7 @@ fn skip_different(items: &PackedItems<'_, '_>, from: usize) -> usize
     to
 }
 
-/// Pushes lines of a subset's items that were formatted before.
+/// Pushes lines that have already been formatted for a subset's items.
 #[inline(always)]
 fn push_made<W: Sink>(
     text: &[u8],
@@ -99,8 +101,8 @@ fn push_made<W: Sink>(
     }
 }
 
-/// The shared lines of a message, at most 16,384 octets, and at most 1,025 stretches. If nothing
-/// was gathered, there are no stretches.
+/// The shared lines of a message (at most 16,384 octets) and the stretches of its subsets (at most
+/// 1,025). If no lines were gathered, there are no stretches.
 #[derive(Drop)]
 pub(crate) struct AlikeLines {
     text: Vec<u8>,
@@ -108,7 +110,7 @@ pub(crate) struct AlikeLines {
 }
 
 impl AlikeLines {
-    /// Creates an empty collection. It does not allocate.
+    /// Creates an empty collection of shared lines. This function does not allocate.
     pub(crate) fn new(alloc: Global) -> AlikeLines {
         AlikeLines {
             text: Vec::new(alloc),
@@ -116,9 +118,9 @@ impl AlikeLines {
         }
     }
 
-    /// Replaces the lines by those of another message, which are formatted in `block`. If few items
-    /// are the same in all subsets, there is a single stretch with all items. If memory runs out,
-    /// there are no stretches.
+    /// Replaces the shared lines with those of another message. The new lines are formatted in
+    /// `block`. If few items are the same in every subset, a single stretch contains all items. If
+    /// memory runs out, there are no stretches.
     #[inline(never)]
     pub(crate) fn gather(&mut self, reading: &Reading<'_>, block: &mut [u8])
         ensures gathered { AreGathered reading.now self.new.text.items self.new.stretches.items }
@@ -140,7 +142,7 @@ impl AlikeLines {
         }
     }
 
-    /// Gathers the shared lines of some items. Returns `false` if memory ran out.
+    /// Gathers the shared lines of the given items. Returns `false` if memory ran out.
     fn gather_items(&mut self, items: &PackedItems<'_, '_>, room: usize, block: &mut [u8]) -> bool
         requires some { 0 < items.now.subsets }
         requires text { self.old.text.items ≡ [] }
@@ -176,7 +178,7 @@ impl AlikeLines {
         text.len() <= TEXT && self.text.extend_from_slice(text).is_ok()
     }
 
-    /// Pushes the lines of one subset, counted from 0.
+    /// Pushes the lines of one subset. Subsets are counted from 0.
     #[inline(always)]
     fn show_subset<W: Sink>(
         &self,
@@ -202,7 +204,7 @@ impl AlikeLines {
         Ok(())
     }
 
-    /// Pushes the lines of each subset.
+    /// Pushes the lines of all subsets.
     #[inline(always)]
     fn show_all<W: Sink>(
         &self,
@@ -221,8 +223,8 @@ impl AlikeLines {
         Ok(())
     }
 
-    /// Pushes the lines of a reading, as [`Reading::show_by`] does with `lines` as its visitor.
-    /// Uses the shared lines that were gathered for this reading.
+    /// Pushes the lines of a `Reading`, as [`Reading::show_by`] does with `lines` as its visitor,
+    /// but uses the shared lines gathered for this `Reading`.
     pub(crate) fn show<W: Sink>(
         &self,
         reading: &Reading<'_>,

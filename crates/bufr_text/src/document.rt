@@ -1,4 +1,4 @@
-//! Documents, and how they are built line by line.
+//! Documents, and the parser that builds them line by line.
 ghost use Rattle.std.specs.Prelude.{◌==◌, ◌≡◌, ◌+◌, ◌<◌, ◌≤◌, length, IsTrue, slice_index, option_map, true, IfOk, OnErr, ◌^◌, false};
 ghost use Rattle.bufr_fill.specs.Prelude.{subsets_of};
 ghost use Rattle.bufr_frame.specs.Prelude.{is_writable};
@@ -45,7 +45,8 @@ impl Model for DocumentParts {
 }
 
 impl DocumentParts {
-    /// Creates a document of which only the line `message`, with this number, has been read.
+    /// Creates a document of which only the `message` line has been read. `line` is the number of
+    /// that line.
     pub(crate) fn blank(alloc: Global, line: u64) -> DocumentParts
         ensures { result ≡ blank line }
     {
@@ -60,7 +61,7 @@ impl DocumentParts {
         }
     }
 
-    /// Clears the document, but keeps its memory allocated.
+    /// Clears the document, but keeps its memory for reuse.
     pub(crate) fn clear(&mut self)
         ensures { self.new ≡ blank 0 }
     {
@@ -72,7 +73,7 @@ impl DocumentParts {
         self.entries.clear();
     }
 
-    /// Returns the value of a header key, or 0 if it has not been read yet.
+    /// Returns the value of a header key, or 0 if that key has not been read yet.
     pub(crate) fn value(&self, key: usize) -> u16
         requires { key < 20 }
         ensures { result ≡ slice_index self.now.header key }
@@ -85,12 +86,13 @@ impl DocumentParts {
     }
 }
 
-/// The parsed dump of one message: the header, the octets for local use, the descriptors, and the
-/// items of its subsets, one after another. The items have not been checked yet. Whether they match
-/// the descriptors, and whether their numbers fit, is checked when the message is encoded.
+/// The parsed dump of one message, which consists of the header, the octets for local use, the
+/// descriptors, and the items of all subsets in order. The items have not been checked yet. When
+/// the document is encoded, the encoder checks whether the items match the descriptors and whether
+/// their numbers fit.
 ///
-/// Only a [`crate::DumpReader`] creates documents. Contracts see what the lines of the document
-/// say.
+/// Only a [`crate::DumpReader`] creates documents. In contracts, a document is represented by the
+/// information in its lines.
 #[derive(Drop)]
 pub struct Document {
     pub(crate) parts: DocumentParts,
@@ -108,14 +110,14 @@ impl Model for Document {
 }
 
 impl Document {
-    /// Returns the number of the line `message`, from 1.
+    /// Returns the number of the `message` line. Lines are numbered from 1.
     pub fn line(&self) -> u64
         ensures { result ≡ self.now.line }
     {
         self.parts.line
     }
 
-    /// Returns the value of a key whose values have one octet in both editions.
+    /// Returns the value of a header key whose values fit in one octet in both editions.
     #[tactic(auto, using(crate::proofs::HeaderLemmas::octet_steps))]
     fn octet(&self, key: usize) -> u8
         requires key { key < 20 }
@@ -125,8 +127,8 @@ impl Document {
         self.parts.value(key) as u8
     }
 
-    /// Returns the edition, which is 3 or 4, and the values of section 1. These values can always
-    /// be written.
+    /// Returns the edition (3 or 4) and the values of section 1. These values can always be written
+    /// to a message.
     #[tactic(auto, unfolding(crate::specs::Line::mosts))]
     pub fn head(&self) -> Head
         ensures value { result ≡ (header_in self.now).head }
@@ -152,7 +154,7 @@ impl Document {
         }
     }
 
-    /// Returns whether the data are observed (octet 7 of section 3, bit 1).
+    /// Returns whether the data are observed data (octet 7 of section 3, bit 1).
     pub fn observed(&self) -> bool
         ensures { result ≡ (header_in self.now).observed }
     {
@@ -180,7 +182,8 @@ impl Document {
         &self.parts.local1
     }
 
-    /// Returns the octets of section 2 from octet 5 on, or `None` if there is no section 2.
+    /// Returns the octets of the document's section 2, starting at octet 5, or `None` if the
+    /// document has no section 2.
     pub fn section2(&self) -> Option<&[u8]>
         ensures { option_map (λ octets. octets.now) result ≡ section2_in self.now }
     {
@@ -191,14 +194,15 @@ impl Document {
         }
     }
 
-    /// Returns the descriptors of section 3, each as its 16 bits.
+    /// Returns the descriptors of section 3, each as a 16-bit word.
     pub fn descriptors(&self) -> &[u16]
         ensures { result.now ≡ self.now.descriptors }
     {
         &self.parts.descriptors
     }
 
-    /// Returns the number of entries: the items of all subsets, and the end of each subset.
+    /// Returns the number of entries. Each item of a subset is one entry, and so is the end of each
+    /// subset.
     pub fn entries(&self) -> usize
         ensures value { result ≡ length self.now.entries }
         ensures few { result ≤ most_entries }
@@ -206,7 +210,8 @@ impl Document {
         self.parts.entries.len()
     }
 
-    /// Returns the items of all subsets and the lines that end them.
+    /// Returns the entries, which are the items and the ends of all subsets, each with its line
+    /// number.
     pub(crate) fn items(&self) -> &Entries
         ensures same { result.now ≡ self.now.entries }
         ensures few { length result.now ≤ most_entries }
@@ -216,7 +221,7 @@ impl Document {
     }
 }
 
-/// The groups of lines between the header and the subsets, in their order.
+/// The groups of lines between the header and the subsets, in the order in which they occur.
 #[derive(Clone, Copy)]
 pub(crate) enum LineGroup {
     Local1,
@@ -224,25 +229,25 @@ pub(crate) enum LineGroup {
     Descriptors,
 }
 
-/// The state of the reader of a text.
+/// The state of the parser of dump text.
 #[derive(Clone, Copy)]
 pub(crate) enum ParserState {
-    /// Between documents.
+    /// The parser is between documents.
     Between,
-    /// In the header lines.
+    /// The parser is within the header lines.
     Heading,
-    /// After the header lines and before the first subset, in this group of lines.
+    /// The parser is in this group of lines, between the header lines and the first subset.
     BeforeSubsets(LineGroup),
-    /// In the subset with this number.
+    /// The parser is within the subset with this number.
     Filling(u32),
-    /// After an invalid line; the rest of the text is ignored.
+    /// A line was invalid, and the remaining text is ignored.
     Stopped,
 }
 
-/// The effect of a line.
+/// The effect of a line on the parser.
 #[derive(Clone, Copy)]
 pub(crate) enum LineEffect {
-    /// Reading continues in this state.
+    /// Parsing continues in this state.
     Continues(ParserState),
     /// The document is complete.
     Completes,
@@ -250,7 +255,8 @@ pub(crate) enum LineEffect {
     Refuses(TextLineFault),
 }
 
-/// Returns the effect of a line `subset` with this number, after `read` subsets.
+/// Returns the effect of a `subset` line that follows `read` subsets. `subset` is the number on the
+/// line.
 // rule: reading-subsets, fault-57
 fn beginning(parts: &DocumentParts, read: u32, subset: u32) -> LineEffect
     requires { read < 65536 }
@@ -263,7 +269,7 @@ fn beginning(parts: &DocumentParts, read: u32, subset: u32) -> LineEffect
     }
 }
 
-/// Returns the effect of a line `end` after `read` subsets.
+/// Returns the effect of an `end` line that follows `read` subsets.
 // rule: reading-subsets, fault-57
 fn closing(parts: &DocumentParts, read: u32) -> LineEffect
     ensures { result ≡ closing read parts.now }
@@ -275,7 +281,8 @@ fn closing(parts: &DocumentParts, read: u32) -> LineEffect
     }
 }
 
-/// Adds a line to the document that is being read, and returns its effect in the given state.
+/// Adds a line to the document being read, and returns the line's effect on a parser in the given
+/// state.
 #[tactic(auto, unfolding(crate::specs::Documents::line_step))]
 // rule: fault-50, fault-61, fault-order-of-a-line, reading-header-order, reading-section2
 // rule: reading-subset-end, reading-between-documents
@@ -294,7 +301,7 @@ pub(crate) fn line_step(
         return Ok(LineEffect::Continues(state));
     }
     let effect = match state {
-        // The state is never `Stopped`: no line is taken after an invalid one.
+        // The state is never `Stopped`, because no line is processed after an invalid line.
         ParserState::Between | ParserState::Stopped => match said {
             ParsedLine::Opens => {
                 parts.line = at;
@@ -307,7 +314,8 @@ pub(crate) fn line_step(
                 if key != parts.known {
                     return Ok(LineEffect::Refuses(TextLineFault::NotAllowed));
                 }
-                // The edition is the first value, and its own range does not depend on an edition.
+                // The edition is the first header value, and the range of the edition itself is the
+                // same in both editions.
                 if !in_range(parts.value(0), key, value) {
                     return Ok(LineEffect::Refuses(TextLineFault::HeaderRange));
                 }
@@ -359,7 +367,8 @@ pub(crate) fn line_step(
     Ok(effect)
 }
 
-/// The progress of a reader: its state, and the document that is being read.
+/// The progress of the parser, which consists of its state, the next line number, and the document
+/// being built.
 #[derive(Drop)]
 pub(crate) struct Progress {
     pub(crate) state: ParserState,
@@ -368,8 +377,8 @@ pub(crate) struct Progress {
     pub(crate) parts: DocumentParts,
 }
 
-/// Takes a whole line. Items with a short decimal or a missing value are the most frequent lines,
-/// so these are tried first.
+/// Processes one complete line. Most lines are items with a short decimal number or a missing
+/// value, so the function first tries to parse such an item.
 #[inline(always)]
 // rule: reading-longest-line
 fn take_line(
@@ -401,8 +410,9 @@ fn take_line(
     line_step(progress.state, &mut progress.parts, progress.at, said)
 }
 
-/// Takes whole lines from `held`, up to the first that completes a document or is invalid. Returns
-/// the number of octets in these lines, and the effect of the last one.
+/// Processes complete lines from `held`, stopping after the first line that completes a document or
+/// is invalid. Returns the number of octets in the processed lines, and the effect of the last of
+/// those lines.
 // rule: reading-line-numbers
 pub(crate) fn take_lines(
     progress: &mut Progress,

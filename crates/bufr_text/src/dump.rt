@@ -1,4 +1,4 @@
-//! The dump of a message: the lines before its subsets, and a line for each item.
+//! The dump of a message, with the lines before the subsets and one line for each item.
 ghost use Rattle.std.specs.Prelude.{◌≡◌, ◌++◌, [], ◌∷◌, drop, map, take, unwrap_or, ◌≤◌, ◌*◌, vec_len, OnOk};
 ghost use Rattle.bufr_frame.specs.Prelude.{words_left};
 ghost use Rattle.bufr_text.specs.Prelude.{descriptors_line, head_lines, text_of_lines, dump_value_of, form_text, item_text, dump_text_of, dump_items, descriptors_text, hex_text, runs_of, Pushes, CountsFaults, MakesSteps, WritesPrefix, PushesCall, AreGathered};
@@ -14,14 +14,14 @@ use bufr_tables::{Entry, Fxy, TableB};
 use bufr_walk::{ItemView, Reading, ShowFault, SpecCache, Steps, Value, Visitor};
 use std::alloc::{AllocError, Global};
 
-/// The maximum number of octets of local use or of section 2 in a line.
+/// The maximum number of octets in one `local1` or `section2` line.
 const OCTETS: usize = 32;
 
-/// The maximum number of descriptors in a line.
+/// The maximum number of descriptors in one `descriptors` line.
 const DESCRIPTORS: usize = 8;
 
-/// Pushes lines that contain a word and octets in hexadecimal. Each line has 32 octets, except that
-/// the last may have fewer.
+/// Pushes lines that each contain a word followed by octets in hexadecimal. Each line contains 32
+/// octets, except that the last line may contain fewer.
 #[inline(always)]
 // rule: text-local1
 fn push_octet_lines<W: Sink>(lines: &mut LineWriter<'_, '_, W>, word: &[u8], octets: &[u8])
@@ -39,8 +39,8 @@ fn push_octet_lines<W: Sink>(lines: &mut LineWriter<'_, '_, W>, word: &[u8], oct
     }
 }
 
-/// Pushes the descriptors of a line: the next eight, or as many as are left, with a space before
-/// each.
+/// Pushes the descriptors of one line, each preceded by a space. The line contains the next eight
+/// descriptors, or all remaining descriptors if fewer than eight remain.
 fn push_descriptors<W: Sink>(lines: &mut LineWriter<'_, '_, W>, words: &mut Words<'_>)
     ensures pushes { Pushes lines.old (descriptors_text (take 8 (words_left words.old))) lines.new }
     ensures words { words_left words.new ≡ drop 8 (words_left words.old) }
@@ -54,7 +54,8 @@ fn push_descriptors<W: Sink>(lines: &mut LineWriter<'_, '_, W>, words: &mut Word
     }
 }
 
-/// Pushes the lines of the descriptors. Each line has eight, except that the last may have fewer.
+/// Pushes the lines that list the descriptors. Each line contains eight descriptors, except that
+/// the last line may contain fewer.
 // rule: text-descriptors
 fn push_descriptor_lines<W: Sink>(lines: &mut LineWriter<'_, '_, W>, message: &Message<'_>)
     ensures { Pushes lines.old
@@ -69,8 +70,8 @@ fn push_descriptor_lines<W: Sink>(lines: &mut LineWriter<'_, '_, W>, message: &M
     }
 }
 
-/// Pushes the lines before the subsets: `message`, a line for each key, the octets for local use,
-/// section 2 and the descriptors.
+/// Pushes the lines before the subsets (`message`, one line for each key, the octets for local use,
+/// section 2, and the descriptors).
 // rule: text-header, text-header-of-edition-3, text-section2
 pub(crate) fn push_head_lines<W: Sink>(lines: &mut LineWriter<'_, '_, W>, message: &Message<'_>)
     ensures { Pushes lines.old (text_of_lines (head_lines message.now)) lines.new }
@@ -103,7 +104,8 @@ pub(crate) fn push_head_lines<W: Sink>(lines: &mut LineWriter<'_, '_, W>, messag
     push_descriptor_lines(lines, message);
 }
 
-/// Pushes a descriptor and a space. An entry with this descriptor already contains this text.
+/// Pushes a descriptor followed by a space. If `entry` is the table entry for the descriptor, the
+/// text is copied from the entry.
 #[inline(always)]
 fn push_descriptor<W: Sink>(lines: &mut LineWriter<'_, '_, W>, fxy: Fxy, entry: Option<Entry<'_>>)
     ensures { Pushes lines.old (fxy_text fxy ++ 32 ∷ []) lines.new }
@@ -117,8 +119,8 @@ fn push_descriptor<W: Sink>(lines: &mut LineWriter<'_, '_, W>, fxy: Fxy, entry: 
     }
 }
 
-/// Pushes an item without its comment: `R ` if it is a redefined reference, the descriptor, and the
-/// value.
+/// Pushes an item without its comment. The descriptor and the value are pushed, with `R ` before
+/// them if the item is a redefined reference value.
 #[inline(always)]
 // rule: text-missing, text-number, text-reference
 fn push_any_form<W: Sink>(
@@ -152,7 +154,7 @@ fn push_any_form<W: Sink>(
     }
 }
 
-/// Pushes the line of any item: its descriptor, its value and its comment.
+/// Pushes the line of an item of any kind, with its descriptor, value and comment.
 #[inline(never)]
 // rule: text-comment
 fn push_any_item<W: Sink>(
@@ -172,8 +174,8 @@ fn push_any_item<W: Sink>(
     }
 }
 
-/// State that is reused between messages dumped with the same table: cached specs, and a block in
-/// which lines are collected.
+/// State that is reused between messages dumped with the same table, such as cached field specs and
+/// a block in which lines are collected.
 ///
 /// ```
 /// let mut memory = DumpMemory::new(alloc, &table_b);
@@ -181,18 +183,18 @@ fn push_any_item<W: Sink>(
 /// ```
 #[derive(Drop)]
 pub struct DumpMemory<'t> {
-    /// The allocator.
+    /// The allocator that dumps use.
     pub alloc: Global,
-    /// The cached specs of a template's cells.
+    /// The cached field specs for the cells of a template.
     pub specs: SpecCache<'t>,
-    /// The block in which lines are collected. It is empty until the first dump.
+    /// The block in which lines are collected. The block is empty until the first dump.
     block: Vec<u8>,
     /// The lines shared by all subsets of the last message.
     alike: AlikeLines,
 }
 
 impl<'t> DumpMemory<'t> {
-    /// Creates the state for dumps with `table`. It is empty and does not allocate.
+    /// Creates an empty state for dumps with `table`. This function does not allocate.
     pub fn new(alloc: Global, table: &'t TableB) -> DumpMemory<'t>
         ensures { result.specs ≡ table.now }
     {
@@ -204,7 +206,7 @@ impl<'t> DumpMemory<'t> {
         }
     }
 
-    /// Makes room for lines in the block.
+    /// Resizes the block to make room for lines.
     fn make_room(&mut self) -> Result<(), AllocError>
         ensures same { self.new.specs ≡ self.old.specs }
         ensures block { OnOk result (vec_len self.new.block ≡ 81920) }
@@ -212,7 +214,7 @@ impl<'t> DumpMemory<'t> {
         self.block.resize(PAGE + TEXT, 0)
     }
 
-    /// Makes room for lines in the block, and gathers the shared lines of a reading.
+    /// Makes room for lines in the block, and gathers the shared lines of a `Reading`.
     fn prepare(&mut self, reading: &Reading<'_>) -> Result<(), AllocError>
         ensures same { self.new.specs ≡ self.old.specs }
         ensures gathered { OnOk result (AreGathered reading.now self.new.alike.text.items
@@ -242,7 +244,7 @@ impl<'b, 'w, W: Sink> Visitor for LineWriter<'b, 'w, W> {
     // rule: one-write-a-line
     fn item(&mut self, item: &ItemView<'_>) -> Result<(), RunFault> {
         let (fxy, entry, value) = (item.fxy, item.entry, item.value);
-        // Most items are numbers that fit in 64 bits and were read by an entry.
+        // Most items are numbers that fit in 64 bits and have a Table B entry.
         if let Value::Number(number, scale) = value
             && let Some(entry) = entry
             && entry.fxy() == fxy
@@ -262,13 +264,13 @@ impl<'b, 'w, W: Sink> Visitor for LineWriter<'b, 'w, W> {
     }
 }
 
-/// Writes the dump of a message: the header, the octets for local use, section 2, the descriptors,
-/// the subsets with a line for each item, and `end`. An item that was read by an entry of Table B
-/// has the entry's name and unit as a comment.
+/// Writes the dump of a message, which consists of the header, the octets for local use, section 2,
+/// the descriptors, the subsets with one line for each item, and an `end` line. If an item was read
+/// using an entry of Table B, its line ends with the name and unit of that entry as a comment.
 ///
-/// Lines are collected in a block. Each write ends at the end of a line, once at least 65,536
-/// octets have been collected or at the end of the dump. Sets `steps` to the number of turns that
-/// the walk over the reading made, as [`Reading::show`] does.
+/// Lines are collected in a block. Every write ends at the end of a line. The block is written when
+/// it contains at least 65,536 octets, and at the end of the dump. Like [`Reading::show`], this
+/// function sets `steps` to the number of steps in the walks over the template.
 ///
 /// ```
 /// let reading = read_message(alloc, &message, &template, &table, &mut steps)?;
@@ -277,8 +279,8 @@ impl<'b, 'w, W: Sink> Visitor for LineWriter<'b, 'w, W> {
 ///
 /// # Errors
 ///
-/// [`RunFault::Write`] if the writer fails or takes nothing, and [`RunFault::Memory`] if memory
-/// runs out. In both cases, the writer has taken a prefix of the dump.
+/// [`RunFault::Write`] if the writer fails or accepts nothing, and [`RunFault::Memory`] if memory
+/// runs out. In both cases, the writer has accepted a prefix of the dump.
 pub fn write_dump<W: Sink>(
     alloc: Global,
     message: &Message<'_>,
@@ -287,12 +289,13 @@ pub fn write_dump<W: Sink>(
     w: &mut W,
 ) -> Result<(), RunFault>
     requires { reading.now.source ≡ data_of message.now }
-    // If the result is `Ok`, the writer took the whole dump, and otherwise a prefix of it.
+    // If the result is `Ok`, the writer accepted the whole dump. Otherwise, the writer accepted a
+    // prefix of the dump.
     ensures writes { WritesPrefix (W.taken w.old) (W.taken w.new) (dump_text_of message.now
         (dump_items reading.now.table reading.now.source.subsets (values_read reading.now)))
         result }
-    // If the result is `Ok`, the steps are all turns of the reading. Otherwise, they are the turns
-    // before a call of the visitor, or all turns.
+    // If the result is `Ok`, `steps` counts all steps of the walks over the template. Otherwise,
+    // `steps` counts either the steps before a call to the visitor, or all steps.
     ensures steps { MakesSteps (calls_of reading.now) (turns_shown reading.now) result steps.new }
     ensures counts { CountsFaults (W.failures w.old) (W.failures w.new) (W.empty_writes w.old)
         (W.empty_writes w.new) result }
@@ -308,7 +311,7 @@ pub fn write_dump<W: Sink>(
 ///
 /// # Errors
 ///
-/// The same as those of [`write_dump`].
+/// Returns the same errors as [`write_dump`].
 // rule: text-lines-in-order
 pub fn write_dump_by<W: Sink>(
     memory: &mut DumpMemory<'_>,
@@ -320,12 +323,13 @@ pub fn write_dump_by<W: Sink>(
     requires reads { reading.now.source ≡ data_of message.now }
     requires cached { memory.old.specs ≡ reading.now.table }
     ensures same { memory.new.specs ≡ memory.old.specs }
-    // If the result is `Ok`, the writer took the whole dump, and otherwise a prefix of it.
+    // If the result is `Ok`, the writer accepted the whole dump. Otherwise, the writer accepted a
+    // prefix of the dump.
     ensures writes { WritesPrefix (W.taken w.old) (W.taken w.new) (dump_text_of message.now
         (dump_items reading.now.table reading.now.source.subsets (values_read reading.now)))
         result }
-    // If the result is `Ok`, the steps are all turns of the reading. Otherwise, they are the turns
-    // before a call of the visitor, or all turns.
+    // If the result is `Ok`, `steps` counts all steps of the walks over the template. Otherwise,
+    // `steps` counts either the steps before a call to the visitor, or all steps.
     ensures steps { MakesSteps (calls_of reading.now) (turns_shown reading.now) result steps.new }
     ensures counts { CountsFaults (W.failures w.old) (W.failures w.new) (W.empty_writes w.old)
         (W.empty_writes w.new) result }

@@ -1,4 +1,4 @@
-//! A reader of the documents in an input.
+//! A reader that returns the documents in an input one at a time.
 ghost use Rattle.std.specs.Prelude.{◌≡◌, ◌≢◌, ◌≤◌, ◌<◌, ◌-◌, ◌*◌, ℕ, List, None, Some, Err, true, false, length, max, IfSome, IfOk};
 ghost use Rattle.bufr_text.specs.Prelude.{max_line, IsProper, has_no_feed, ReaderModel, new_reader, unfed, ReturnsNextDocument, failures_by, TakesHeldLines, GivesHeldDocument, FillsBuffer, ReadsMoreText, stopped, text_input};
 ghost use Rattle.bufr_bits.specs.Prelude.{counted};
@@ -12,12 +12,12 @@ use bufr_frame::{InputBuffer, RunFault};
 use std::alloc::Global;
 use std::marker::Model;
 
-/// A reader of the documents of a dump, one after another.
+/// A reader that returns the documents in dump text, one after another.
 ///
-/// It reads only if no whole line is buffered, so it returns a document before it reads the next
-/// one. A read requests at most 4,096 octets, and at most 8,192 are buffered. The only other memory
-/// that it allocates is that of the document, which can be returned to it for reuse
-/// ([`DumpReader::reuse`]).
+/// The reader reads more input only if no complete line is buffered, so it returns each document
+/// before it reads the next one. Each read requests at most 4,096 octets, and at most 8,192 octets
+/// are buffered. Apart from this buffer, the reader allocates memory only for the document. To
+/// reuse that memory, pass the document to [`DumpReader::reuse`].
 ///
 /// ```
 /// let mut reader = DumpReader::new(rt.alloc());
@@ -29,12 +29,12 @@ use std::marker::Model;
 #[derive(Drop)]
 pub struct DumpReader {
     alloc: Global,
-    /// The octets that were read but not yet taken. At the end of input, the last line has a line
-    /// feed.
+    /// The octets that have been read but not yet processed. At the end of input, a line feed is
+    /// added if the last line has none.
     input: InputBuffer,
-    /// The decoded octets of a line that contains hexadecimal digits or a quoted text.
+    /// The octets decoded from the hexadecimal digits or the quoted string in a line.
     scratch: [u8; MAX_LINE],
-    /// The state after the lines that were taken.
+    /// The state of the parser after the lines processed so far.
     progress: Progress,
     /// The fault that stopped the reader.
     fault: Option<ReadFault>,
@@ -61,7 +61,7 @@ impl Model for DumpReader {
 }
 
 impl DumpReader {
-    /// Creates a reader that has read nothing yet. This does not allocate.
+    /// Creates a reader that has read nothing yet. This function does not allocate.
     pub fn new(alloc: Global) -> DumpReader
         ensures { result ≡ new_reader }
     {
@@ -78,9 +78,9 @@ impl DumpReader {
         }
     }
 
-    /// Reuses the memory of a document for later documents, which saves an allocation for each of
-    /// them. Nothing else changes. If a document is being read, or after a fault, the memory is
-    /// freed instead.
+    /// Reuses the memory of a document for later documents, which saves one allocation per
+    /// document. Nothing else changes. If another document is being read, or if a fault has
+    /// occurred, the memory is freed instead.
     pub fn reuse(&mut self, document: Document)
         ensures { self.new ≡ self.old }
     {
@@ -90,13 +90,14 @@ impl DumpReader {
         }
     }
 
-    /// Returns the number of octets that were read but not yet taken as lines, at most 8,192.
+    /// Returns the number of octets (at most 8,192) that have been read but not yet processed.
     pub fn held(&self) -> usize
         ensures value { result ≡ length (unfed self.now) }
         ensures bound { result ≤ 2 * max_line }
     {
         let held = self.input.held().len();
-        // After the end of input, a line feed that the text lacked has been appended.
+        // At the end of input, a line feed may have been added to an incomplete last line. The
+        // added line feed was not read, so it is not counted.
         if self.input.ended() {
             held.saturating_sub(1)
         } else {
@@ -104,7 +105,7 @@ impl DumpReader {
         }
     }
 
-    /// Stops the reader: every later call returns this fault.
+    /// Stops the reader, so that every later call returns the given fault.
     fn stop(&mut self, fault: ReadFault) -> ReadFault
         requires { self.old.fault ≡ None }
         ensures new { self.new ≡ stopped self.old fault }
@@ -118,7 +119,7 @@ impl DumpReader {
         fault
     }
 
-    /// Takes the buffered lines, up to the end of a document.
+    /// Processes the buffered lines, up to the end of a document.
     fn take_held(&mut self) -> Result<Option<Document>, ReadFault>
         requires sound { self.old.fault ≡ None }
         ensures went { TakesHeldLines self.old self.new result }
@@ -151,7 +152,8 @@ impl DumpReader {
         }
     }
 
-    /// Reads once, after the buffered octets. At the end of input, completes the last line.
+    /// Reads once, and appends the octets to the buffer. At the end of input, adds a line feed to
+    /// an incomplete last line.
     #[tactic(auto, using(crate::proofs::ReaderLemmas::more_steps))]
     // rule: reading-last-line
     fn fill<R: Source>(&mut self, r: &mut R) -> Result<(), RunFault>
@@ -163,11 +165,12 @@ impl DumpReader {
         ensures failed { R.failures r.new ≡ read_failures_after (R.failures r.old) result }
         ensures sure { R.waits r.old ≡ false → result ≢ Err RunFault.Read }
         ensures counts { AddsReads (R.reads r.old) (R.reads r.new) self.old.reads self.new.reads }
-        // A read requests as many octets as fit, up to the maximum length of a line.
+        // A read requests as many octets as fit in the buffer, up to the maximum length of a line.
         ensures asked { R.asked r.new ≡ counted (R.asked r.old)
             (asked_by max_line (text_input self.old self.old.held)
             (text_input self.new self.new.held)) }
-        // The capacity becomes 8,192 octets at the first read, and does not grow after that.
+        // The capacity of the buffer becomes 8,192 octets at the first read, and does not grow
+        // after that.
         ensures least { 0 < self.new.reads → 2 * max_line ≤ self.new.room }
         ensures most { self.new.room ≤ max self.old.room (2 * max_line) }
     {
@@ -179,8 +182,8 @@ impl DumpReader {
     }
 
     /// Returns the next document, as [`DumpReader::next_document`] does, if the buffered lines
-    /// complete it. Returns `None` if a read is needed first ([`DumpReader::read_more`]): no whole
-    /// line is buffered, and the end of input was not reached.
+    /// complete it. Returns `None` if a read is needed first ([`DumpReader::read_more`]). A read is
+    /// needed if no complete line is buffered and the end of input has not been reached.
     #[inline(never)]
     pub fn next_held(&mut self) -> Option<Result<Option<Document>, ReadFault>>
         ensures gives { self.old.fault ≡ None → GivesHeldDocument self.old self.new result }
@@ -204,7 +207,7 @@ impl DumpReader {
             Ok(None) => {}
         }
         if self.input.ended() {
-            // At the end of input, the document must be complete.
+            // The input must not end within a document.
             if let ParserState::Between = self.progress.state {
                 return Some(Ok(None));
             }
@@ -218,13 +221,14 @@ impl DumpReader {
         None
     }
 
-    /// Reads once. Call this if [`DumpReader::next_held`] returned `None`. The input `r` must be
-    /// the same in every call.
+    /// Reads once from `r`, which must be the same input in every call. Call this function after
+    /// [`DumpReader::next_held`] has returned `None`.
     ///
     /// # Errors
     ///
-    /// [`ReadFault::Run`] under the same conditions as [`DumpReader::next_document`] if no line is
-    /// buffered. After a fault, every call returns the same fault and reads nothing.
+    /// [`ReadFault::Run`] if the read fails, if the end of input is not reached within 2^32 reads,
+    /// or if the buffer cannot be allocated before the first read. After a fault, every call
+    /// returns the same fault and reads nothing.
     pub fn read_more<R: Source>(&mut self, r: &mut R) -> Result<(), ReadFault>
         requires going { self.old.ended ≡ false }
         requires short { length self.old.held ≤ max_line }
@@ -235,11 +239,12 @@ impl DumpReader {
         ensures sure { self.old.fault ≡ None → R.waits r.old ≡ false
             → result ≢ Err (ReadFault.Run RunFault.Read) }
         ensures counts { AddsReads (R.reads r.old) (R.reads r.new) self.old.reads self.new.reads }
-        // A read requests as many octets as fit, up to the maximum length of a line.
+        // A read requests as many octets as fit in the buffer, up to the maximum length of a line.
         ensures asked { R.asked r.new ≡ counted (R.asked r.old)
             (asked_by max_line (text_input self.old self.old.held)
             (text_input self.new self.new.held)) }
-        // The capacity becomes 8,192 octets at the first read, and does not grow after that.
+        // The capacity of the buffer becomes 8,192 octets at the first read, and does not grow
+        // after that.
         ensures least { 0 < self.new.reads → 2 * max_line ≤ self.new.room }
         ensures most { self.new.room ≤ max self.old.room (2 * max_line) }
         ensures held { length self.new.held ≤ 2 * max_line }
@@ -256,21 +261,23 @@ impl DumpReader {
         }
     }
 
-    /// Returns the next document of the input `r`, which must be the same in every call. Returns
-    /// `None`, also in later calls, if the end of input was reached and no line is left. A document
-    /// agrees with its header: it has the declared number of subsets and nothing after them, and it
-    /// has octets of section 2 only if the header declares a section 2.
+    /// Returns the next document from `r`, which must be the same input in every call. Returns
+    /// `None` once the end of input has been reached and no lines remain; every later call also
+    /// returns `None`. Each document agrees with its header. The document has exactly the declared
+    /// number of subsets, nothing follows the subsets, and section 2 octets are present only if the
+    /// header declares a section 2.
     ///
     /// # Errors
     ///
-    /// [`ReadFault::Line`] if the next document is invalid. [`ReadFault::Run`] with
+    /// [`ReadFault::Line`] if the next document is invalid. [`ReadFault::Run`] with one of the
+    /// following faults:
     ///
-    /// - [`RunFault::Read`] if a read failed in this call;
-    /// - [`RunFault::InputTooLong`] if the end of input was not reached within 2^32 reads;
-    /// - [`RunFault::Memory`] if a document could not grow by a buffered line, or the buffer could
-    ///   not be allocated before the first read.
+    /// - [`RunFault::Read`] if a read fails;
+    /// - [`RunFault::InputTooLong`] if the end of input is not reached within 2^32 reads;
+    /// - [`RunFault::Memory`] if a document cannot grow to store a buffered line, or if the buffer
+    ///   cannot be allocated before the first read.
     ///
-    /// All complete documents before the fault have been returned. After a fault, every call
+    /// All complete documents before the fault are returned first. After a fault, every call
     /// returns the same fault and reads nothing.
     // rule: fault-50, input-ends-early
     pub fn next_document<R: Source>(&mut self, r: &mut R) -> Result<Option<Document>, ReadFault>

@@ -1,4 +1,4 @@
-//! Encoding a document as a message, in a form.
+//! Functions that encode documents as messages in a selected form.
 ghost use Rattle.std.specs.Prelude.{ℕ, ◌≡◌, ◌≢◌, ◌≤◌, ◌*◌, ◌+◌, ◌^◌, List, Bool, length, IfOk, IfErr, OnOk, OnErr, Ok, false, true};
 ghost use Rattle.bufr_tables.specs.Prelude.{Tree, places, Record, AreRows, tree_of, tables_of};
 ghost use Rattle.bufr_frame.specs.Prelude.{Sections};
@@ -14,7 +14,8 @@ use bufr_tables::{Fxy, TableB, TableD, Template, TemplateFault};
 use bufr_walk::{SpecCache, Steps, TemplateCache, WalkStop, walk_by};
 use std::alloc::{AllocError, Global};
 
-/// Returns the fault of a walk that stopped. `line` is the line of the next entry.
+/// Converts the reason why a walk stopped into a fault. `line` is the line number of the next
+/// entry.
 // rule: fault-62
 fn of_stop(stop: WalkStop<DraftFault>, line: u64) -> DraftFault
     ensures { result ≡ stop_fault line stop }
@@ -39,7 +40,7 @@ fn descriptors_of(alloc: Global, words: &[u16]) -> Result<Vec<Fxy>, AllocError>
     Ok(descriptors)
 }
 
-/// Writes entries as plain data with this number of subsets, and returns the octets.
+/// Encodes entries as plain data with the given number of subsets. Returns the encoded octets.
 fn write_plain(
     template: &Template,
     entries: &Entries,
@@ -64,7 +65,7 @@ fn write_plain(
     Ok(out.into_octets())
 }
 
-/// Writes entries as compressed data, and returns the octets.
+/// Encodes entries as compressed data. Returns the encoded octets.
 fn write_packed(
     template: &Template,
     entries: &Entries,
@@ -91,8 +92,8 @@ fn write_packed(
     }
 }
 
-/// Writes the data of a document in a form, using the template that was selected for it, and
-/// returns the octets.
+/// Encodes the data of a document in the given form, using the template that was selected for it.
+/// Returns the encoded octets.
 // rule: form-option, fault-56
 fn write_data(
     document: &Document,
@@ -120,7 +121,7 @@ fn write_data(
     }
 }
 
-/// Returns the message of a document, with `payload` as its data in this form.
+/// Builds the message for a document. `payload` contains the data, encoded in the given form.
 // rule: writes-local-use, fault-60
 fn write_whole(
     alloc: Global,
@@ -155,9 +156,9 @@ fn write_whole(
     }
 }
 
-/// Encodes a document as a message in a form, using the tables of `templates`. It does the same as
-/// [`encode_form`], for documents that repeat their descriptors: `templates` caches the most recent
-/// templates.
+/// Encodes a document as a message in the given form, using the tables of `templates`. The result
+/// is the same as that of [`encode_form`]. Because `templates` caches the most recent templates,
+/// this function is faster if many documents have the same descriptors.
 ///
 /// ```
 /// let mut templates = TemplateCache::new(alloc, &table_b, &table_d);
@@ -168,7 +169,7 @@ fn write_whole(
 ///
 /// # Errors
 ///
-/// The same as those of [`encode_form`].
+/// Returns the same errors as [`encode_form`].
 // rule: fault-56-first-60-last
 pub fn encode_by(
     alloc: Global,
@@ -182,7 +183,7 @@ pub fn encode_by(
     ensures octets { IfOk result (λ octets.
         encoding_in form templates.old.table_b templates.old.table_d document.now
         ≡ Ok octets.items) }
-    // The fault is the one that the definition specifies, or memory ran out.
+    // The fault is the one that the definition specifies, unless memory ran out.
     ensures fault { IfErr result (λ why. IsDocumentRefusal why
         (encoding_in form templates.old.table_b templates.old.table_d document.now)) }
     // If memory runs out, the fault is always `Memory`.
@@ -208,25 +209,25 @@ pub fn encode_by(
     write_whole(alloc, document, form, &payload?)
 }
 
-/// Encodes a document as a message in a form, using these tables. (WMO-No. 306, Volume I.2, FM 94:
-/// sections 0 to 5)
+/// Encodes a document as a message in the given form, using the given tables. (WMO-No. 306, Volume
+/// I.2, FM 94: sections 0 to 5)
 ///
-/// The template is built first. Then the items are written in the order of the template, and
-/// finally the length is checked. The form determines whether the data are compressed and how the
-/// flag of compression is set, whatever the document says. So the document of a message can also be
-/// encoded in the other form, if that form can hold it.
+/// The template is built first. Then the items are encoded in the order of the template. Finally,
+/// the length of the message is checked. The form determines whether the data are compressed and
+/// how the compression flag is set. A document can therefore be encoded in a form other than its
+/// own, if that form can represent it.
 ///
-/// Sets `steps` to the number of steps that were made, up to the greatest `u64`. Each turn of the
-/// template is one step: a descriptor that is taken (a replication, a factor, an element or an
-/// operator), the end of a pass, or the end of the template. The turns are made for each subset or,
-/// if the data are compressed, once for all subsets. If an item or the walk is rejected, the turn
-/// at which this happens is the last one. An item that is left over is rejected after the end of
-/// the template. If there are no subsets, or if the descriptors cannot be expanded to a template,
-/// there are no steps. If memory runs out, some of these steps may be missing.
+/// Sets `steps` to the number of steps in the walks over the template, or to `u64::MAX` if the
+/// number is greater. A step processes a descriptor (a replication, a factor, an element or an
+/// operator), the end of a pass, or the end of the template. The template is walked once for each
+/// subset or, if the data are compressed, once for all subsets. If a fault stops a walk, the step
+/// in which the fault occurs is the last one counted. Leftover items are rejected only after the
+/// end of the template. If there are no subsets, or if the descriptors cannot be expanded into a
+/// template, no steps are taken. If memory runs out, fewer steps may be taken.
 ///
-/// If the template has `p` places and the data have `n` bits, at most `p * n` steps are made. If
-/// the document is rejected, at most `p * (n + 1)` steps are made, where `n` is the number of data
-/// bits before the fault.
+/// If the template has `p` places and the encoded data are `n` bits long, at most `p * n` steps are
+/// taken. If the document is rejected, at most `p * (n + 1)` steps are taken, where `n` is the
+/// number of data bits before the fault.
 ///
 /// ```
 /// let document = reader.next_document(&mut r)?.ok_or("a document")?;
@@ -236,16 +237,17 @@ pub fn encode_by(
 ///
 /// # Errors
 ///
-/// The first of these faults:
-/// - [`DocumentFault::Template`] if the descriptors cannot be expanded to a template;
-/// - [`DocumentFault::Item`] for the first item that cannot be written. If it has several faults,
-///   the first of these is returned: [`ItemFault::Walk`]; then [`ItemFault::WrongDescriptor`],
-///   [`ItemFault::Number`], [`ItemFault::MissingForbidden`], [`ItemFault::TextLong`] and
-///   [`ItemFault::OutOfRange`], in compressed data for each subset in turn; then
-///   [`ItemFault::UnequalFactor`] and [`ItemFault::Increment`];
-/// - [`DocumentFault::TooLong`] if the message would have more than 16,777,215 octets.
+/// Returns the first of the following faults that occurs:
+/// - [`DocumentFault::Template`] if the descriptors cannot be expanded into a template;
+/// - [`DocumentFault::Item`] if an item cannot be encoded; the variant contains the fault in the
+///   first such item. If this item has several faults, the first in the following order is
+///   returned: [`ItemFault::Walk`]; then [`ItemFault::WrongDescriptor`], [`ItemFault::Number`],
+///   [`ItemFault::MissingForbidden`], [`ItemFault::TextLong`] and [`ItemFault::OutOfRange`] (for
+///   each subset in turn, if the data are compressed); then [`ItemFault::UnequalFactor`] and
+///   [`ItemFault::Increment`];
+/// - [`DocumentFault::TooLong`] if the message would be longer than 16,777,215 octets.
 ///
-/// [`DocumentFault::Memory`], and no other fault, if memory runs out.
+/// If memory runs out, the fault is always [`DocumentFault::Memory`].
 pub fn encode_form(
     alloc: Global,
     document: &Document,
@@ -256,7 +258,7 @@ pub fn encode_form(
 ) -> Result<Vec<u8>, DocumentFault>
     ensures octets { IfOk result
         (λ octets. encoding_in form table_b.now table_d.now document.now ≡ Ok octets.items) }
-    // The fault is the one that the definition specifies, or memory ran out.
+    // The fault is the one that the definition specifies, unless memory ran out.
     ensures fault { IfErr result (λ why. IsDocumentRefusal why
         (encoding_in form table_b.now table_d.now document.now)) }
     // If memory runs out, the fault is always `Memory`.
@@ -270,8 +272,9 @@ pub fn encode_form(
         * bits_by form table_b.now table_d.now document.now) }
     ensures refused { OnErr result (steps.new ≤ places_by table_b.now table_d.now document.now
         * (bits_by form table_b.now table_d.now document.now + 1)) }
-    // The document of an accepted message is encoded with the same reading in each form, except for
-    // the flag of compression. If memory does not run out, it is rejected only because of the form.
+    // If the document of an accepted message is encoded in any form, reading the encoded message
+    // gives the same result, except for the compression flag. Unless memory runs out, the document
+    // is rejected only if the form cannot represent it.
     ensures again { (records : List Record) (m : List ℕ) (s : Sections) (template : Tree)
         (values : Values) (used at : ℕ)
         → AreRows records table_b.now → IsAccepted table_b.now table_d.now m s template values used
@@ -282,8 +285,8 @@ pub fn encode_form(
     encode_by(alloc, document, form, &mut templates, steps)
 }
 
-/// Encodes a document as a message in the form that the document specifies. This is [`encode_form`]
-/// with [`Form::AsWritten`].
+/// Encodes a document as a message in the form that the document specifies. This function is
+/// equivalent to [`encode_form`] with [`Form::AsWritten`].
 ///
 /// ```
 /// let document = reader.next_document(&mut r)?.ok_or("a document")?;
@@ -293,7 +296,7 @@ pub fn encode_form(
 ///
 /// # Errors
 ///
-/// The same as those of [`encode_form`].
+/// Returns the same errors as [`encode_form`].
 pub fn encode_document(
     alloc: Global,
     document: &Document,
@@ -303,7 +306,7 @@ pub fn encode_document(
 ) -> Result<Vec<u8>, DocumentFault>
     ensures octets { IfOk result
         (λ octets. encoding_of table_b.now table_d.now document.now ≡ Ok octets.items) }
-    // The fault is the one that the definition specifies, or memory ran out.
+    // The fault is the one that the definition specifies, unless memory ran out.
     ensures fault { IfErr result (λ why. IsDocumentRefusal why
         (encoding_of table_b.now table_d.now document.now)) }
     // If memory runs out, the fault is always `Memory`.
@@ -317,9 +320,9 @@ pub fn encode_document(
         * bits_by AsWritten table_b.now table_d.now document.now) }
     ensures refused { OnErr result (steps.new ≤ places_by table_b.now table_d.now document.now
         * (bits_by AsWritten table_b.now table_d.now document.now + 1)) }
-    // The document of an accepted message is encoded with the same reading. The result is no longer
-    // than that message, except for up to two octets in edition 3. The document is rejected only if
-    // memory runs out.
+    // If the document of an accepted message is encoded, reading the encoded message gives the same
+    // result. The encoded message is no longer than the accepted one, except that in edition 3 it
+    // can be up to two octets longer. The document is rejected only if memory runs out.
     ensures again { (records : List Record) (m : List ℕ) (s : Sections) (template : Tree)
         (values : Values) (used at : ℕ)
         → AreRows records table_b.now → IsAccepted table_b.now table_d.now m s template values used
@@ -329,20 +332,21 @@ pub fn encode_document(
     encode_form(alloc, document, Form::AsWritten, table_b, table_d, steps)
 }
 
-/// The form in which the data of a document are written (WMO-No. 306, Volume I.2, FM 94: section 4,
-/// compression; that there is an option for it is our choice).
+/// The form in which the data of a document are encoded. (WMO-No. 306, Volume I.2, FM 94: section
+/// 4, compression. Offering an option for the form is our choice.)
 #[derive(Clone, Copy, Debug, PartialEq, Eq)]
 pub enum Form {
-    /// The form that the line `compressed` of the document specifies.
+    /// The form that the `compressed` line of the document specifies.
     AsWritten,
-    /// Plain: one subset after another.
+    /// The plain form, in which the subsets are encoded one after another.
     Plain,
-    /// Compressed: each item once for all subsets.
+    /// The compressed form, in which each item is encoded once for all subsets.
     Compressed,
 }
 
 impl Form {
-    /// Returns whether the data are compressed in this form. `written` is what the document says.
+    /// Returns whether the data are compressed in this form. `written` indicates whether the
+    /// document itself specifies compressed data.
     // rule: writes-form
     pub(crate) fn is_compressed(self, written: bool) -> bool
         ensures { result ≡ compressed_by self written }

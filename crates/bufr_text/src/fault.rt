@@ -1,5 +1,5 @@
-//! Faults of dump text, and reasons why a document cannot be encoded. (The numbers and their order
-//! are our choice.)
+//! Faults in dump text, and the reasons why a document cannot be encoded. (The numbers and their
+//! order are our choice.)
 ghost use Rattle.std.specs.Prelude.{◌≡◌};
 ghost use Rattle.bufr_text.specs.Prelude.{document_fault, document_report, line_of_fault, line_report, number_of_read_fault};
 ghost use Rattle.bufr_text.specs.declared.fault.DocumentFault.TheVariants.{Memory};
@@ -13,12 +13,12 @@ use thiserror::Error;
 /// The reason why a line is invalid.
 #[derive(Clone, Copy, Debug, PartialEq, Eq, Error)]
 pub enum TextLineFault {
-    /// The line is not allowed here, has more than 4,096 octets, or is missing because the input
-    /// ends inside a document.
+    /// The line is not allowed here, is longer than 4,096 octets, or is missing because the input
+    /// ends in the middle of a document.
     #[error("line")]
     NotAllowed,
-    /// The number of a line `subset` is not the next one or exceeds the number of subsets in the
-    /// header, or a line `end` comes before all subsets.
+    /// The number on a `subset` line is not the next one or exceeds the number of subsets in the
+    /// header, or an `end` line comes before all subsets have been read.
     #[error("subset count")]
     SubsetCount,
     /// The value of a header line is out of range.
@@ -27,7 +27,7 @@ pub enum TextLineFault {
 }
 
 impl TextLineFault {
-    /// Returns the number of this fault: 50, 57 or 61.
+    /// Returns the number of this fault (50, 57 or 61).
     pub fn number(self) -> u8
         ensures { result ≡ (line_report self).0 }
     {
@@ -42,17 +42,17 @@ impl TextLineFault {
 /// The reason why dump text cannot be read any further.
 #[derive(Clone, Copy, Debug, PartialEq, Eq, Error)]
 pub enum ReadFault {
-    /// The number of an invalid line, counted from 1 over all documents of the input, and its
-    /// fault.
+    /// The number of an invalid line and the fault in that line. Lines are numbered from 1 across
+    /// all documents in the input.
     #[error("{1}")]
     Line(u64, TextLineFault),
-    /// The run ends: a read failed, the input is too long, or memory ran out.
+    /// A read failed, the input is too long, or memory ran out.
     #[error("{0}")]
     Run(RunFault),
 }
 
 impl ReadFault {
-    /// Returns the number of this fault, which is that of the line fault or run fault.
+    /// Returns the number of the line fault or run fault that this fault contains.
     pub fn number(self) -> u8
         ensures { result ≡ number_of_read_fault self }
     {
@@ -66,14 +66,16 @@ impl ReadFault {
 /// The reason why a document cannot be encoded.
 #[derive(Clone, Copy, Debug, PartialEq, Eq, Error)]
 pub enum DocumentFault {
-    /// The line number of an item, from 1, and the fault. If an item is missing, the line is the
-    /// one that ends its subset.
+    /// The line number of an item, counted from 1, and the fault in that item. If an item is
+    /// missing, the line number is that of the line that ends the subset.
     #[error("{1}")]
     Item(u64, ItemFault),
-    /// The descriptors cannot be expanded to a template. The line is that of `message`.
+    /// The descriptors cannot be expanded into a template. The line number is that of the `message`
+    /// line.
     #[error("template {number} {why}", number = .1.number(), why = .1)]
     Template(u64, TemplateFault),
-    /// The message would have more than 16,777,215 octets. The line is that of `message`.
+    /// The message would be longer than 16,777,215 octets. The line number is that of the `message`
+    /// line.
     #[error("too long")]
     TooLong(u64),
     /// Memory ran out.
@@ -82,7 +84,7 @@ pub enum DocumentFault {
 }
 
 impl DocumentFault {
-    /// Returns the number of this fault: 51 to 56, 58 to 60, 62 or 73.
+    /// Returns the number of this fault (51 to 56, 58 to 60, 62 or 73).
     pub fn number(self) -> u8
         ensures { result ≡ (document_report self).0 }
     {
@@ -94,7 +96,7 @@ impl DocumentFault {
         }
     }
 
-    /// Returns the number of the fault's line, or `None` if memory ran out.
+    /// Returns the line number of the fault, or `None` if memory ran out.
     pub fn line(self) -> Option<u64>
         ensures { result ≡ line_of_fault self }
     {

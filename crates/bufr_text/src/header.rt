@@ -1,4 +1,4 @@
-//! The twenty keys in the header of a dump, and the descriptors of a line.
+//! The twenty header keys of a dump, and the parser for the descriptors on a line.
 ghost use Rattle.std.specs.Prelude.{get_or, ◌≡◌, ◌<◌, ◌++◌, [], ◌∷◌, length, map, position, true, IfSome, ◌+◌, ◌*◌, ◌≤◌, option_map};
 ghost use Rattle.bufr_text.specs.Prelude.{in_range, is_named, lead_of, keys, leasts, mosts, Describes, fxy_read};
 ghost use Rattle.std.specs.Str.{bytes_eq};
@@ -7,10 +7,11 @@ ghost use Rattle.std.specs.List.{position_from};
 use crate::slices::{is, prefix, suffix};
 use bufr_tables::Fxy;
 
-/// A key: the octets before its value, its minimum, and its maximum in edition 3 and in edition 4.
+/// A header key, which consists of the octets before its value, its minimum value, and its maximum
+/// values in editions 3 and 4.
 pub(crate) struct Key(pub(crate) &'static [u8], u16, u16, u16);
 
-/// The table of the keys, in the order of the header.
+/// The header keys, in the order in which they are written.
 pub(crate) static KEYS: [Key; 20] = [
     Key(b"\nedition ", 3, 4, 4),
     Key(b"\nmaster ", 0, 255, 255),
@@ -34,7 +35,7 @@ pub(crate) static KEYS: [Key; 20] = [
     Key(b"\nsubsets ", 0, 65535, 65535),
 ];
 
-/// Returns the keys, in the order of the header.
+/// Returns the header keys, in the order in which they are written.
 fn keys() -> &'static [Key]
     ensures count { length result.now ≡ 20 }
     ensures leads { map (λ key. key.0.now) result.now ≡ map lead_of keys }
@@ -45,7 +46,8 @@ fn keys() -> &'static [Key]
     &KEYS
 }
 
-/// Returns whether `lead`, the octets before a key's value, contains this name.
+/// Returns whether a key has the given name. `lead` contains the octets before the key's value,
+/// which are a line feed, the key's name, and a space.
 fn is_named(lead: &[u8], name: &[u8]) -> bool
     ensures { result ≡ is_named lead.now name.now }
 {
@@ -55,14 +57,14 @@ fn is_named(lead: &[u8], name: &[u8]) -> bool
     }
 }
 
-/// Returns the index of the first key with this name.
+/// Returns the index of the first key with the given name.
 fn position(keys: &[Key], name: &[u8]) -> Option<usize>
     ensures { result ≡ position (λ key. is_named key.0.now name.now) keys.now }
 {
     keys.iter().position(|key| is_named(key.0, name))
 }
 
-/// Returns the name of the key at an index, and the space after it.
+/// Returns the name of the key at the given index, followed by a space.
 pub(crate) fn word_at(index: usize) -> Option<&'static [u8]>
     ensures few { IfSome result (λ _. index < 20) }
     ensures word { IfSome result (λ word. word.now ≡ get_or keys index [] ++ 32 ∷ []) }
@@ -73,7 +75,7 @@ pub(crate) fn word_at(index: usize) -> Option<&'static [u8]>
     }
 }
 
-/// Returns the index of the key with this name.
+/// Returns the index of the key with the given name.
 pub(crate) fn key_index(name: &[u8]) -> Option<usize>
     ensures value { result ≡ position_from (bytes_eq name.now) 0 keys }
     ensures few { IfSome result (λ index. index < 20) }
@@ -81,7 +83,7 @@ pub(crate) fn key_index(name: &[u8]) -> Option<usize>
     position(keys(), name)
 }
 
-/// Returns whether a value is in the range of its key, which depends on the edition.
+/// Returns whether a value is within the range for its key. The range depends on the edition.
 #[tactic(auto, unfolding(crate::specs::Line::mosts))]
 // rule: reading-header-ranges
 pub(crate) fn in_range(edition: u16, key: usize, value: u32) -> bool
@@ -94,14 +96,14 @@ pub(crate) fn in_range(edition: u16, key: usize, value: u32) -> bool
     u32::from(key.1) <= value && value <= u32::from(most)
 }
 
-/// The number of octets that a descriptor takes in a line, including the space before it.
+/// The number of octets that a descriptor occupies in a line, including the space before it.
 const SPACED: usize = 7;
 
-/// The maximum number of descriptors in a line.
+/// The maximum number of descriptors in one line.
 pub(crate) const MOST_WORDS: usize = 8;
 
-/// Parses the descriptor in the first six digits of a text. Returns its 16 bits and the text after
-/// it.
+/// Parses a descriptor from the first six octets of `text`. Returns the descriptor as a 16-bit
+/// word, and the remaining octets.
 #[tactic(auto, using(crate::proofs::ItemLemmas::by_six))]
 pub(crate) fn fxy_prefix<'a>(text: &'a [u8]) -> Option<(u16, &'a [u8])>
     ensures value { option_map (λ read. (read.0, read.1.now)) result ≡ fxy_read text.now }
@@ -114,8 +116,8 @@ pub(crate) fn fxy_prefix<'a>(text: &'a [u8]) -> Option<(u16, &'a [u8])>
     Some((fxy.word(), suffix(text, 6)))
 }
 
-/// Parses 1 to 8 descriptors, each after one space. Writes them to the start of `out`, and returns
-/// how many there are.
+/// Parses 1 to 8 descriptors, each preceded by one space. Stores the descriptors at the start of
+/// `out`, and returns their number.
 #[tactic(auto, using(crate::proofs::ItemLemmas::describing_steps))]
 // rule: reading-descriptor
 pub(crate) fn describe(text: &[u8], out: &mut [u16]) -> Option<usize>

@@ -1,5 +1,5 @@
-//! The text formats of FM 94 BUFR messages: the line that lists a message, the dump of a message,
-//! and the reading and encoding of dumps.
+//! The text formats for FM 94 BUFR messages. This crate writes the line that lists a message and
+//! the dump of a message. The crate also reads dumps and encodes them as messages.
 #![tactic(auto)]
 
 mod alike;

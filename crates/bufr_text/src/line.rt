@@ -1,4 +1,5 @@
-//! The parser of a line: its first word, numbers, items, quoted texts and octets.
+//! The parser for a single line and its parts (the first word, numbers, items, quoted strings and
+//! octets).
 ghost use Rattle.std.specs.Prelude.{◌≡◌, ℕ, ◌<◌, ◌≤◌, ◌==◌, IfSome, List, length, take, drop, option_map, if◌then◌else◌, min, ◌+◌, ◌-◌, slice_index, Some, ◌*◌};
 ghost use Rattle.std.specs.List.{prefix_len};
 ghost use Rattle.bufr_text.specs.Prelude.{max_line, read_line, without_space, hex_read, number_read, without_prefix, is_number_octet, is_hashed, is_passed_after, is_unescaped, upper_value, quoting_of, either_value, Line, made, with_one_to, worded, line_of, value_read, item_line, number_value, ItemLine, item_if_comment, short_form, Unquotes, Unhexes, meaning, Wrong};
@@ -11,11 +12,10 @@ use bufr_fill::DraftValue;
 use bufr_tables::Fxy;
 use memchr::memchr;
 
-/// The maximum length of a line in octets, without its line feed.
+/// The maximum length of a line, in octets, without its line feed.
 pub(crate) const MAX_LINE: usize = 4096;
 
-/// The meaning of a line. Octets that the line writes as hexadecimal digits or as a quoted text are
-/// decoded.
+/// A parsed line. Hexadecimal digits and quoted strings are already decoded to octets.
 #[derive(Clone, Copy)]
 pub(crate) enum ParsedLine<'a> {
     Passed,
@@ -30,7 +30,8 @@ pub(crate) enum ParsedLine<'a> {
     Wrong,
 }
 
-/// Decodes the hexadecimal digits after one space into `scratch`. They represent 1 to 32 octets.
+/// Decodes the hexadecimal digits that follow one space, and stores the octets in `scratch`. The
+/// digits must encode 1 to 32 octets.
 // rule: reading-long-lists
 fn octets_after<'a>(rest: &[u8], scratch: &'a mut [u8]) -> Option<&'a [u8]>
     requires { length rest.now ≤ length scratch.old }
@@ -44,7 +45,7 @@ fn octets_after<'a>(rest: &[u8], scratch: &'a mut [u8]) -> Option<&'a [u8]>
     Some(prefix(scratch, count))
 }
 
-/// Parses the rest of a line that begins with this word.
+/// Parses a line that begins with the given word. `rest` is the text after the word.
 // rule: reading-long-lists
 #[tactic(auto, unfolding(crate::specs::Line::worded))]
 fn worded<'a>(
@@ -86,7 +87,8 @@ fn worded<'a>(
     Some(ParsedLine::Header { key, value })
 }
 
-/// Parses a line that is not too long. It is most likely the value of the key `next`.
+/// Parses a line of at most 4,096 octets. A header line with the key at index `next` is the most
+/// likely line, so that key is tried before the other words.
 #[tactic(auto, using(crate::proofs::ItemLemmas::read_steps))]
 fn line_said<'a>(
     line: &'a [u8],
@@ -117,7 +119,7 @@ fn line_said<'a>(
     worded(prefix(line, len), suffix(line, len), octets, words)
 }
 
-/// Parses a line. Stores the octets that it contains in `octets`, and the descriptors in `words`.
+/// Parses a line. Decoded octets are stored in `octets`, and descriptors in `words`.
 // rule: reading-empty-lines, reading-carriage-return, reading-blanks
 pub(crate) fn read_line<'a>(
     line: &'a [u8],
@@ -136,7 +138,7 @@ pub(crate) fn read_line<'a>(
     }
 }
 
-/// Returns the number that digits represent. All numbers greater than 65,535 give the same result.
+/// Parses a decimal number. All numbers greater than 65,535 give the same result.
 // rule: reading-header-number
 pub(crate) fn number(text: &[u8]) -> Option<u32>
     ensures { result ≡ number_read text.now }
@@ -162,7 +164,7 @@ fn is_number_octet(octet: u8) -> bool
     octet > b' ' && (octet.is_ascii_digit() || octet == b'-' || octet == b'.')
 }
 
-/// Returns the length of the number token at the start of the octets.
+/// Returns the length of the number token at the start of `text`.
 // rule: reading-number
 fn token(text: &[u8]) -> usize
     ensures within { result ≤ length text.now }
@@ -175,8 +177,8 @@ fn token(text: &[u8]) -> usize
     at
 }
 
-/// Parses a value, and returns it with the octets after it. The octets of a text are put into
-/// `scratch`.
+/// Parses a value. Returns the value and the octets after it. The octets of a quoted string are
+/// stored in `scratch`.
 #[tactic(auto, using(crate::proofs::ItemLemmas::value_steps))]
 fn value<'a>(text: &'a [u8], scratch: &'a mut [u8]) -> Option<(DraftValue<'a>, &'a [u8])>
     requires { length text.now ≤ length scratch.old }
@@ -196,7 +198,7 @@ fn value<'a>(text: &'a [u8], scratch: &'a mut [u8]) -> Option<(DraftValue<'a>, &
     }
 }
 
-/// Returns whether the octets are spaces followed by a comment, which begins with `#`.
+/// Returns whether `text` consists of spaces followed by a comment. A comment begins with `#`.
 #[tactic(auto, using(crate::proofs::ItemLemmas::hash_steps))]
 fn is_hashed(text: &[u8]) -> bool
     ensures { result ≡ is_hashed text.now }
@@ -209,7 +211,8 @@ fn is_hashed(text: &[u8]) -> bool
     false
 }
 
-/// Returns whether a value is followed by nothing or by a comment.
+/// Returns whether a value is followed by nothing or only by a comment. `text` contains the octets
+/// after the value.
 #[tactic(auto, using(crate::proofs::ItemLemmas::hash_steps))]
 // rule: reading-after-a-value
 fn is_passed_after(text: &[u8]) -> bool
@@ -221,8 +224,8 @@ fn is_passed_after(text: &[u8]) -> bool
     text.is_empty() || text[0] == b' ' && is_hashed(text)
 }
 
-/// Returns the descriptor at the start of an item line, if a space and at least one more octet
-/// follow it.
+/// Parses the descriptor at the start of an item line, if a space and at least one more octet
+/// follow the descriptor.
 #[inline(always)]
 fn spaced_fxy(line: &[u8]) -> Option<Fxy>
     ensures within { IfSome result (λ _. 7 ≤ length line.now) }
@@ -242,7 +245,7 @@ fn spaced_fxy(line: &[u8]) -> Option<Fxy>
         e.wrapping_sub(b'0'),
         f.wrapping_sub(b'0'),
     );
-    // One branch for all of these octets is faster than one for each.
+    // A single branch for all of these octets is faster than a separate branch for each octet.
     if !((a < 4) & (b < 10) & (c < 10) & (d < 10) & (e < 10) & (f < 10) & (*space == b' ')) {
         return None;
     }
@@ -254,13 +257,13 @@ fn spaced_fxy(line: &[u8]) -> Option<Fxy>
     Some(Fxy::from_word(u16::from(a) * 16384 + x * 256 + y))
 }
 
-/// Returns the descriptor and the value of an item line if the value is a short decimal, or `None`
-/// in place of the value if it is missing. Almost all items have such a value.
+/// Parses an item line if its value is a short decimal number or missing, as is usually the case.
+/// Returns the descriptor and the number, or `None` instead of the number if the value is missing.
 #[inline(always)]
 pub(crate) fn short_item(line: &[u8]) -> Option<(Fxy, Option<ShortDecimal>)>
     ensures { IfSome result (λ read. line_of line.now ≡ ItemLine read.0 (short_form read.1)) }
 {
-    // Texts are ruled out first, since their lines are parsed again.
+    // Strings are ruled out first, because their lines are parsed again.
     if octet_at(line, 7) == b'"' {
         return None;
     }
@@ -298,7 +301,7 @@ pub(crate) fn item<'a>(text: &'a [u8], scratch: &'a mut [u8]) -> Option<ParsedLi
     Some(ParsedLine::Item { fxy, form })
 }
 
-/// Parses the part of a redefined reference that follows `R` and a space.
+/// Parses the part of a redefined reference value's line that follows `R` and a space.
 #[tactic(auto, using(crate::proofs::ItemLemmas::reference_steps))]
 // rule: reading-reference
 pub(crate) fn reference<'a>(text: &'a [u8]) -> Option<ParsedLine<'a>>
@@ -317,18 +320,18 @@ pub(crate) fn reference<'a>(text: &'a [u8]) -> Option<ParsedLine<'a>>
     Some(ParsedLine::Item { fxy, form })
 }
 
-/// The start of the rest of a quoted text.
+/// The next token of a quoted string.
 #[derive(Clone, Copy)]
 pub(crate) enum QuotedToken {
-    /// The quote that ends the text.
+    /// The quote that ends the string.
     Closed,
-    /// An octet of the text, and the number of octets of the line that represent it.
+    /// An octet of the string, and the number of octets that represent it in the line.
     Octet { octet: u8, written: usize },
-    /// Something that is not allowed in a quoted text.
+    /// Octets that are not allowed in a quoted string.
     Nothing,
 }
 
-/// Returns the number that an upper-case hexadecimal digit represents.
+/// Returns the value of an upper-case hexadecimal digit.
 fn upper_value(octet: u8) -> Option<u8>
     ensures value { result ≡ upper_value octet }
     ensures few { IfSome result (λ n. n < 16) }
@@ -340,11 +343,12 @@ fn upper_value(octet: u8) -> Option<u8>
     }
 }
 
-/// For each octet, 1 if it appears unescaped in a quoted text, and 0 if it has an escape.
+/// For each octet, `1` if the octet can appear unescaped in a quoted string, and `0` if it needs an
+/// escape.
 static UNESCAPED: [u8; 256] =
     *b"0000000000000000000000000000000011011111111111111111111111111111111111111111111111111111111101111111111111111111111111111111111000000000000000000000000000000000000000000000000000000000000000000000000000000000000000000000000000000000000000000000000000000000";
 
-/// Returns whether an octet appears unescaped in a quoted text.
+/// Returns whether an octet can appear unescaped in a quoted string.
 #[inline(always)]
 pub(crate) fn is_unescaped(octet: u8) -> bool
     ensures { result ≡ is_unescaped octet }
@@ -352,7 +356,7 @@ pub(crate) fn is_unescaped(octet: u8) -> bool
     UNESCAPED[octet as usize] == b'1'
 }
 
-/// Returns the start of the rest of a quoted text.
+/// Returns the first token of `text`, which is the remainder of a quoted string.
 // rule: reading-quoted
 fn first_part(text: &[u8]) -> QuotedToken
     ensures { result ≡ quoting_of text.now }
@@ -383,8 +387,8 @@ fn first_part(text: &[u8]) -> QuotedToken
     }
 }
 
-/// Decodes a quoted text to the start of `out`. Returns the number of its octets, and the index
-/// after its closing quote.
+/// Decodes a quoted string, and stores its octets at the start of `out`. Returns the number of
+/// octets, and the index after the closing quote.
 pub(crate) fn decode_quoted(text: &[u8], out: &mut [u8]) -> Option<(usize, usize)>
     requires { length text.now ≤ length out.old }
     ensures { Unquotes text.now out.new result }
@@ -405,7 +409,7 @@ pub(crate) fn decode_quoted(text: &[u8], out: &mut [u8]) -> Option<(usize, usize
     None
 }
 
-/// Returns the number that a hexadecimal digit represents, in upper or lower case.
+/// Returns the value of a hexadecimal digit in upper or lower case.
 // rule: reading-hexadecimal
 fn either_value(octet: u8) -> Option<u8>
     ensures value { result ≡ either_value octet }
@@ -417,7 +421,8 @@ fn either_value(octet: u8) -> Option<u8>
     }
 }
 
-/// Decodes hexadecimal digits to the start of `out`. Returns the number of octets.
+/// Decodes hexadecimal digits, and stores the octets at the start of `out`. Returns the number of
+/// octets.
 #[tactic(auto, using(crate::proofs::ItemLemmas::unhexing_steps))]
 pub(crate) fn decode_hex(text: &[u8], out: &mut [u8]) -> Option<usize>
     requires { length text.now ≤ 2 * length out.old }
@@ -433,14 +438,14 @@ pub(crate) fn decode_hex(text: &[u8], out: &mut [u8]) -> Option<usize>
     (2 * count == text.len()).then_some(count)
 }
 
-/// Returns the octet at an index, or 0 past the end.
+/// Returns the octet at an index, or 0 if the index is past the end.
 pub(crate) fn octet_at(text: &[u8], index: usize) -> u8
     ensures { result ≡ slice_index text.now index }
 {
     if index < text.len() { text[index] } else { 0 }
 }
 
-/// Returns the octets after a word, if the line begins with it.
+/// Returns the octets after `word`, if `text` begins with that word.
 pub(crate) fn without_prefix<'a>(text: &'a [u8], word: &[u8]) -> Option<&'a [u8]>
     ensures value { option_map (λ s. s.now) result ≡ without_prefix word.now text.now }
     ensures within { IfSome result (λ s. length s.now ≤ length text.now) }
@@ -448,7 +453,7 @@ pub(crate) fn without_prefix<'a>(text: &'a [u8], word: &[u8]) -> Option<&'a [u8]
     text.strip_prefix(word)
 }
 
-/// Returns the octets after one space, if they begin with one.
+/// Returns the octets after the first octet, if that octet is a space.
 #[tactic(auto, using(crate::proofs::ItemLemmas::space_steps))]
 #[inline(always)]
 pub(crate) fn without_space<'a>(text: &'a [u8]) -> Option<&'a [u8]>

@@ -13,14 +13,15 @@ use bufr_tables::Entry;
 use itoa::Buffer;
 use std::marker::Model;
 
-/// At the end of a line, buffered octets are written to the sink if there are at least this many.
+/// The number of buffered octets that triggers a write. If at least this many octets are buffered
+/// at the end of a line, the buffered octets are written to the sink.
 pub(crate) const PAGE: usize = 65_536;
 
 /// A writer that buffers lines in a block of memory and writes them to a sink.
 ///
-/// If a text does not fit into the block, the buffered octets are written first and then the text,
-/// so the block may have any size. [`LineWriter::status`] reports the first fault; nothing is
-/// written after it.
+/// The block can be of any size. If pushed octets do not fit in the block, the buffered octets are
+/// written first, followed by the pushed octets. [`LineWriter::status`] reports the first fault.
+/// After a fault, nothing more is written.
 #[derive(Drop)]
 pub struct LineWriter<'b, 'w, W: Sink> {
     octets: &'b mut [u8],
@@ -50,18 +51,20 @@ impl<'b, 'w, W: Sink> Model for LineWriter<'b, 'w, W> {
     ghost invariant = { λ a. a.len ≤ length a.octets.now };
 }
 
-/// Writes all of `octets`.
+/// Writes all of `octets` to `w`.
 ///
 /// # Errors
 ///
-/// [`RunFault::Write`] if a write fails or takes no octets; a prefix of the octets was written.
+/// [`RunFault::Write`] if a write fails or accepts no octets. In that case, a prefix of `octets`
+/// has been written.
 #[tactic(auto, using(crate::proofs::PushLemmas::write_steps))]
 // rule: one-write-a-line
 pub fn write_all<W: Sink>(octets: &[u8], w: &mut W) -> Result<(), RunFault>
     ensures writes { Writes (W.taken w.old) (W.taken w.new) octets.now result }
     ensures counts { CountsWrites (W.failures w.old) (W.failures w.new) (W.empty_writes w.old)
         (W.empty_writes w.new) result }
-    // Each write is given all remaining octets, so at most one write takes all that it is given.
+    // Each write is passed all the remaining octets, so at most one write accepts all of its
+    // octets.
     ensures whole { W.whole_writes w.new ≤ counted (W.whole_writes w.old) 1 }
     ensures flushes { W.flushes w.new ≡ W.flushes w.old }
 {
@@ -76,7 +79,7 @@ pub fn write_all<W: Sink>(octets: &[u8], w: &mut W) -> Result<(), RunFault>
     Ok(())
 }
 
-/// Writes the octets before index `at`.
+/// Writes the octets before index `at` to `w`.
 fn write_prefix<W: Sink>(octets: &mut [u8], at: usize, w: &mut W) -> Result<(), RunFault>
     requires { at ≤ length octets.old }
     ensures writes { Writes (W.taken w.old) (W.taken w.new) (take at octets.old) result }
@@ -88,7 +91,7 @@ fn write_prefix<W: Sink>(octets: &mut [u8], at: usize, w: &mut W) -> Result<(), 
     write_all(&octets[..at], w)
 }
 
-/// Returns the upper-case hexadecimal digit of a number under 16.
+/// Returns the upper-case hexadecimal digit for a number below 16.
 fn hex_digit(n: u8) -> u8
     requires { n < 16 }
     ensures { result ≡ hex_digit n }
@@ -96,8 +99,8 @@ fn hex_digit(n: u8) -> u8
     if n < 10 { b'0' + n } else { b'A' - 10 + n }
 }
 
-/// Copies octets up to the first one that needs an escape, or until `free` is full. Returns the
-/// number of octets copied.
+/// Copies octets to `free`, stopping at the first octet that needs an escape or when `free` is
+/// full. Returns the number of octets copied.
 #[tactic(auto, using(crate::proofs::NumberLemmas::run_steps))]
 #[inline(always)]
 fn fill_run(octets: &[u8], free: &mut [u8]) -> usize
@@ -113,7 +116,7 @@ fn fill_run(octets: &[u8], free: &mut [u8]) -> usize
     len
 }
 
-/// Returns an octet of a text, escaped if necessary: an array that begins with the result, and the
+/// Escapes an octet of a string if necessary. Returns an array that begins with the result, and the
 /// length of the result (1, 2 or 4).
 #[inline(always)]
 // rule: text-escapes
@@ -131,8 +134,8 @@ fn escape(octet: u8) -> ([u8; 4], usize)
     ([b'\\', b'x', high, low], 4)
 }
 
-/// Puts an octet of a text at index `at`, escaped if necessary. There must be room for the longest
-/// escape (4 octets). Returns the index after it.
+/// Writes an octet of a string to `free` at index `at`, escaped if necessary. There must be room
+/// for the longest escape (4 octets). Returns the index after the octets that were written.
 #[inline(always)]
 fn put_escaped(octet: u8, free: &mut [u8], at: usize) -> usize
     requires { at + 4 ≤ length free.old }
@@ -143,9 +146,8 @@ fn put_escaped(octet: u8, free: &mut [u8], at: usize) -> usize
     at + count
 }
 
-/// Fills the beginning of `free` with octets from the beginning of a text, escaped if necessary, as
-/// far as there is room. Returns how many octets of the text were used, and how many octets of
-/// `free` were filled.
+/// Copies as much of a string as possible to the start of `free`, escaping octets if necessary.
+/// Returns the number of octets taken from the string, and the number of octets written to `free`.
 #[inline(always)]
 fn fill_text(octets: &[u8], free: &mut [u8]) -> (usize, usize)
     ensures within { result.0 ≤ length octets.now }
@@ -153,7 +155,7 @@ fn fill_text(octets: &[u8], free: &mut [u8]) -> (usize, usize)
     ensures text { quoted octets.now
         ≡ take result.1 free.new ++ quoted (drop result.0 octets.now) }
 {
-    // Most texts need no escapes.
+    // Most strings need no escapes.
     let mut taken = fill_run(octets, free);
     let mut len = taken;
     while taken < octets.len() && free.len() - len >= 4 {
@@ -171,7 +173,8 @@ fn fill_text(octets: &[u8], free: &mut [u8]) -> (usize, usize)
 }
 
 impl<'b, 'w, W: Sink> LineWriter<'b, 'w, W> {
-    /// Creates a writer with an empty buffer in the block `octets`, which writes to the sink `w`.
+    /// Creates a writer that buffers octets in the block `octets` and writes them to the sink `w`.
+    /// The buffer is empty at first.
     pub fn new(octets: &'b mut [u8], w: &'w mut W) -> LineWriter<'b, 'w, W>
         ensures held { result.held ≡ [] }
         ensures taken { result.taken ≡ W.taken w.old }
@@ -191,7 +194,8 @@ impl<'b, 'w, W: Sink> LineWriter<'b, 'w, W> {
         }
     }
 
-    /// Writes the buffered octets and then a text. If a write fails, what was not written is lost.
+    /// Writes the buffered octets to the sink, and then writes `octets`. If a write fails, the
+    /// octets that were not written are lost.
     #[inline(never)]
     fn push_through(&mut self, octets: &[u8])
         ensures pushes { PushesSomehow self.old octets.now self.new }
@@ -204,7 +208,8 @@ impl<'b, 'w, W: Sink> LineWriter<'b, 'w, W> {
         }
     }
 
-    /// Writes the buffered octets. If a write fails, those that were not written are lost.
+    /// Writes the buffered octets to the sink. If a write fails, the octets that were not written
+    /// are lost.
     #[inline(never)]
     pub fn hand_on(&mut self)
         ensures pushes { PushesSomehow self.old [] self.new }
@@ -218,7 +223,7 @@ impl<'b, 'w, W: Sink> LineWriter<'b, 'w, W> {
         }
     }
 
-    /// Ends a line: writes the buffered octets if there are at least [`PAGE`].
+    /// Ends a line. If at least [`PAGE`] octets are buffered, writes them to the sink.
     #[inline(always)]
     pub(crate) fn end_line(&mut self)
         ensures pushes { Pushes self.old [] self.new }
@@ -229,7 +234,8 @@ impl<'b, 'w, W: Sink> LineWriter<'b, 'w, W> {
         }
     }
 
-    /// Pushes octets.
+    /// Pushes octets. The octets are buffered or, if they do not fit in the block, written to the
+    /// sink.
     #[inline(always)]
     pub fn push(&mut self, octets: &[u8])
         ensures { Pushes self.old octets.now self.new }
@@ -243,7 +249,7 @@ impl<'b, 'w, W: Sink> LineWriter<'b, 'w, W> {
         }
     }
 
-    /// Pushes octets like [`LineWriter::push`], but is never inlined.
+    /// Pushes octets as [`LineWriter::push`] does, but is never inlined.
     #[inline(never)]
     fn push_out_of_line(&mut self, octets: &[u8])
         ensures { Pushes self.old octets.now self.new }
@@ -263,7 +269,7 @@ impl<'b, 'w, W: Sink> LineWriter<'b, 'w, W> {
         }
     }
 
-    /// Pushes a number in decimal digits.
+    /// Pushes a number in decimal.
     #[inline(always)]
     pub fn push_decimal(&mut self, value: u64)
         ensures { Pushes self.old (decimal value) self.new }
@@ -271,7 +277,7 @@ impl<'b, 'w, W: Sink> LineWriter<'b, 'w, W> {
         self.push_named(b"", value);
     }
 
-    /// Pushes a name and then a number in decimal digits.
+    /// Pushes a name, followed by a number in decimal.
     #[tactic(auto, using(crate::proofs::PushLemmas::held_steps))]
     #[inline(always)]
     pub fn push_named(&mut self, name: &[u8], value: u64)
@@ -283,7 +289,7 @@ impl<'b, 'w, W: Sink> LineWriter<'b, 'w, W> {
         }
     }
 
-    /// Pushes a name and then a number in decimal digits, in two pushes.
+    /// Pushes a name and then a number in decimal, in two separate pushes.
     #[inline(never)]
     fn push_named_parts(&mut self, name: &[u8], value: u64)
         ensures { Pushes self.old (name.now ++ decimal value) self.new }
@@ -292,7 +298,8 @@ impl<'b, 'w, W: Sink> LineWriter<'b, 'w, W> {
         self.push(Buffer::new().format(value).as_bytes());
     }
 
-    /// Pushes the line of an item that is a number, from its entry of Table B.
+    /// Pushes the line of a numeric item. The descriptor and the comment come from `entry`, the
+    /// item's entry in Table B.
     #[inline(always)]
     pub(crate) fn push_number_line(&mut self, entry: Entry<'_>, number: i64, scale: i16)
         ensures { Pushes self.old (row_line_start (row_of_entry entry.entry)
@@ -304,7 +311,7 @@ impl<'b, 'w, W: Sink> LineWriter<'b, 'w, W> {
         }
     }
 
-    /// Pushes the line of an item that is a number, in several pushes.
+    /// Pushes the line of a numeric item in several separate pushes.
     #[inline(never)]
     fn push_long_line(&mut self, entry: Entry<'_>, number: i64, scale: i16)
         ensures { Pushes self.old (row_line_start (row_of_entry entry.entry)
@@ -315,8 +322,8 @@ impl<'b, 'w, W: Sink> LineWriter<'b, 'w, W> {
         self.push(entry.comment());
     }
 
-    /// Pushes the decimal text of a number divided by 10 to the power of `scale`. With a negative
-    /// scale, zeros are appended, except to the number 0.
+    /// Pushes `value` divided by 10 to the power of `scale`, in decimal. If the scale is negative,
+    /// zeros are appended unless the value is 0.
     #[inline(never)]
     // rule: decimal-sign, decimal-point, decimal-zeros-after
     pub(crate) fn push_scaled(&mut self, value: i128, scale: i16)
@@ -343,7 +350,8 @@ impl<'b, 'w, W: Sink> LineWriter<'b, 'w, W> {
         self.push_zeros(if size == 0 { 0 } else { places });
     }
 
-    /// Pushes the line of an item whose value is missing, from its entry of Table B.
+    /// Pushes the line of an item whose value is missing. The descriptor and the comment come from
+    /// `entry`, the item's entry in Table B.
     #[inline(always)]
     pub(crate) fn push_missing_line(&mut self, entry: Entry<'_>)
         ensures { Pushes self.old (row_line_start (row_of_entry entry.entry)
@@ -355,7 +363,7 @@ impl<'b, 'w, W: Sink> LineWriter<'b, 'w, W> {
         }
     }
 
-    /// Pushes the line of an item whose value is missing, in several pushes.
+    /// Pushes the line of an item whose value is missing, in several separate pushes.
     #[inline(never)]
     fn push_long_missing(&mut self, entry: Entry<'_>)
         ensures { Pushes self.old (row_line_start (row_of_entry entry.entry)
@@ -366,7 +374,7 @@ impl<'b, 'w, W: Sink> LineWriter<'b, 'w, W> {
         self.push(entry.comment());
     }
 
-    /// Pushes `count` digits `0`.
+    /// Pushes the digit `0`, repeated `count` times.
     #[inline(always)]
     pub(crate) fn push_zeros(&mut self, count: usize)
         ensures { Pushes self.old (replicate count 48) self.new }
@@ -376,7 +384,7 @@ impl<'b, 'w, W: Sink> LineWriter<'b, 'w, W> {
         }
     }
 
-    /// Pushes a number in at least `digits` decimal digits, padded with leading zeros.
+    /// Pushes a number in decimal, padded with leading zeros to at least `digits` digits.
     #[inline(always)]
     // rule: listing-time
     pub fn push_padded(&mut self, value: u64, digits: usize)
@@ -388,7 +396,7 @@ impl<'b, 'w, W: Sink> LineWriter<'b, 'w, W> {
         self.push(text);
     }
 
-    /// Pushes two upper-case hexadecimal digits for each octet.
+    /// Pushes octets in hexadecimal, as two upper-case digits per octet.
     // rule: text-hexadecimal
     pub(crate) fn push_hex(&mut self, octets: &[u8])
         ensures { Pushes self.old (hex_text octets.now) self.new }
@@ -398,7 +406,7 @@ impl<'b, 'w, W: Sink> LineWriter<'b, 'w, W> {
         }
     }
 
-    /// Pushes an octet of a text, escaped if necessary.
+    /// Pushes an octet of a string, escaped if necessary.
     #[inline(never)]
     fn push_escaped(&mut self, octet: u8)
         ensures { Pushes self.old (escaped octet) self.new }
@@ -407,8 +415,8 @@ impl<'b, 'w, W: Sink> LineWriter<'b, 'w, W> {
         self.push(&block[..count]);
     }
 
-    /// Pushes octets from the beginning of a text, escaped if necessary, as far as there is room in
-    /// the block. Returns how many octets of the text were used.
+    /// Pushes as much of a string as fits in the block, escaping octets if necessary. Returns the
+    /// number of octets taken from the string.
     #[tactic(auto, using(crate::proofs::PushLemmas::held_steps))]
     #[inline(always)]
     fn push_start(&mut self, octets: &[u8]) -> usize
@@ -421,7 +429,7 @@ impl<'b, 'w, W: Sink> LineWriter<'b, 'w, W> {
         taken
     }
 
-    /// Pushes the octets of a text, escaped if necessary, and then the closing quote.
+    /// Pushes the octets of a string, escaped if necessary, followed by the closing quote.
     // rule: text-quoted, text-inserted
     pub(crate) fn push_quoted(&mut self, octets: &[u8])
         ensures { Pushes self.old (quoted octets.now) self.new }
@@ -438,11 +446,12 @@ impl<'b, 'w, W: Sink> LineWriter<'b, 'w, W> {
         self.push(b"\"");
     }
 
-    /// Returns whether everything pushed so far was written or is buffered.
+    /// Reports whether everything pushed so far has been written or is still buffered.
     ///
     /// # Errors
     ///
-    /// [`RunFault::Write`] if a write failed or took no octets; nothing was written after it.
+    /// [`RunFault::Write`] if a write failed or accepted no octets. Nothing has been written since
+    /// the failure.
     #[inline(always)]
     pub fn status(&self) -> Result<(), RunFault>
         ensures { result ≡ self.now.status }
@@ -450,7 +459,7 @@ impl<'b, 'w, W: Sink> LineWriter<'b, 'w, W> {
         self.status
     }
 
-    /// Returns the sink. Buffered octets are lost, so call [`LineWriter::hand_on`] first.
+    /// Returns the sink. Any buffered octets are lost, so call [`LineWriter::hand_on`] first.
     pub fn into_sink(self) -> &'w mut W
         ensures taken { W.taken result.now ≡ self.entry.taken }
         ensures failures { W.failures result.now ≡ self.entry.failures }
@@ -462,7 +471,7 @@ impl<'b, 'w, W: Sink> LineWriter<'b, 'w, W> {
     }
 }
 
-/// A sink that takes no octets, for a writer whose octets must stay in its block.
+/// A sink that accepts no octets. With this sink, a writer collects octets only in its block.
 #[derive(Drop)]
 pub(crate) struct NoSink {
     pub(crate) empty_writes: u64,

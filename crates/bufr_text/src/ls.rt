@@ -1,4 +1,4 @@
-//! The line that lists a message.
+//! The line that `bufr ls` prints for a message.
 ghost use Rattle.std.specs.Prelude.{◌≡◌};
 ghost use Rattle.bufr_text.specs.Prelude.{Pushes, Writes, CountsWrites, ls_line, source_texts, time_texts};
 ghost use Rattle.std.specs.List.{concat};
@@ -8,11 +8,12 @@ use crate::numbers::pair;
 use bufr_bits::Sink;
 use bufr_frame::{Message, RunFault};
 
-/// The size of the block in which the line is assembled. A line has at most 251 octets.
+/// The size, in octets, of the block in which the line is assembled. The line is at most 251 octets
+/// long.
 const LINE: usize = 256;
 
-/// Pushes where a message begins, its length and edition, where it comes from, what kind of data it
-/// contains, and its tables.
+/// Pushes the offset, length, edition, originating centre, update number, data category and table
+/// versions of a message.
 #[inline(always)]
 fn push_source<W: Sink>(line: &mut LineWriter<'_, '_, W>, offset: u64, message: &Message<'_>)
     ensures { Pushes line.old
@@ -33,8 +34,7 @@ fn push_source<W: Sink>(line: &mut LineWriter<'_, '_, W>, offset: u64, message: 
     line.push_named(b"/", u64::from(head.local_version));
 }
 
-/// Pushes the time in section 1. If no value has more digits than usual, the time is pushed as one
-/// text.
+/// Pushes the time from section 1, in a single push if no value has more digits than usual.
 #[inline(always)]
 // rule: listing-time
 fn push_time<W: Sink>(line: &mut LineWriter<'_, '_, W>, message: &Message<'_>)
@@ -75,8 +75,8 @@ fn push_time<W: Sink>(line: &mut LineWriter<'_, '_, W>, message: &Message<'_>)
     ]);
 }
 
-/// Writes the line that lists a message. The message begins at `offset`, in octets from 0. This
-/// does not allocate.
+/// Writes the line that lists a message. `offset` is the position of the message in the stream, in
+/// octets, counted from 0. This function does not allocate.
 ///
 /// ```
 /// write_ls(21, &message, &mut w)?; // offset=21 length=48 edition=4 ..
@@ -84,8 +84,8 @@ fn push_time<W: Sink>(line: &mut LineWriter<'_, '_, W>, message: &Message<'_>)
 ///
 /// # Errors
 ///
-/// [`RunFault::Write`] if the writer fails or takes nothing; it has then taken a prefix of the
-/// line.
+/// [`RunFault::Write`] if the writer fails or accepts nothing. In that case, the writer has
+/// accepted a prefix of the line.
 // rule: listing-line, listing-offset-and-length, listing-flags
 pub fn write_ls<W: Sink>(offset: u64, message: &Message<'_>, w: &mut W) -> Result<(), RunFault>
     ensures writes { Writes (W.taken w.old) (W.taken w.new) (ls_line offset message.now) result }

@@ -1,6 +1,7 @@
-//! Writing numbers directly to the free octets of a block, if there is room.
+//! Functions that write numbers directly to the free octets of a block, if there is room.
 //!
-//! The functions return the index after what they wrote, or `None` if they cannot write it.
+//! Each function returns the index after the octets that it wrote, or `None` if it cannot write
+//! them.
 #![tactic(auto, using(crate::proofs::NumberLemmas::number_steps))]
 
 ghost use Rattle.std.specs.Prelude.{◌≡◌, ◌≤◌, ◌<◌, ◌+◌, ◌/◌, ◌%◌, ◌++◌, [], ◌∷◌, decimal, take, ◌==◌, codes};
@@ -11,27 +12,27 @@ ghost use Rattle.bufr_text.specs.Prelude.{Puts};
 use bufr_tables::Entry;
 use itoa::Buffer;
 
-/// The number of digits of the greatest `u64`.
+/// The number of decimal digits in the greatest `u64`.
 const DIGITS: usize = 20;
 
-/// Room for a number of 64 bits at a common scale.
+/// The number of octets reserved for a 64-bit number with a common scale.
 const NUMBER: usize = 24;
 
-/// The size of the block with which the start of a line is copied: one octet more than this start
-/// has.
+/// The size, in octets, of the block that is copied for the start of a line. The block is one octet
+/// larger than the start of a line.
 const START: usize = 8;
 
-/// The size of the block with which a comment is copied. Few comments are longer.
+/// The size, in octets, of the block that is copied for a comment. Few comments are longer.
 const COMMENT: usize = 80;
 
-/// Room for the line of a number, with some to spare.
+/// The number of octets reserved for the line of a numeric item, including some spare room.
 const LINE: usize = 128;
 
-/// The two digits of each number below 100.
+/// The two decimal digits of each number below 100.
 static PAIRS: [u8; 200] =
     *b"00010203040506070809101112131415161718192021222324252627282930313233343536373839404142434445464748495051525354555657585960616263646566676869707172737475767778798081828384858687888990919293949596979899";
 
-/// Returns the two digits of a number below 100.
+/// Returns the two decimal digits of a number below 100.
 #[inline(always)]
 pub(crate) fn pair(value: u64) -> (u8, u8)
     requires { value < 100 }
@@ -42,7 +43,7 @@ pub(crate) fn pair(value: u64) -> (u8, u8)
     (PAIRS[from], PAIRS[from + 1])
 }
 
-/// Writes octets from index `at` on. Returns `None` if there is no room.
+/// Writes octets to `free`, starting at index `at`. Returns `None` if there is not enough room.
 #[inline(always)]
 pub(crate) fn put<const N: usize>(octets: [u8; N], free: &mut [u8], at: usize) -> Option<usize>
     ensures { Puts free.old at octets.entry free.new result }
@@ -54,8 +55,9 @@ pub(crate) fn put<const N: usize>(octets: [u8; N], free: &mut [u8], at: usize) -
     Some(at + N)
 }
 
-/// Writes the first `len` octets of a text from index `at` on, by copying a block of `N` octets.
-/// Returns `None` if the text or the room has fewer than `N` octets, or if `len` exceeds `N`.
+/// Writes the first `len` octets of `text` to `free`, starting at index `at`, by copying a block of
+/// `N` octets. Returns `None` if `text` or the free space has fewer than `N` octets, or if `len`
+/// exceeds `N`.
 #[inline(always)]
 fn put_block<const N: usize>(text: &[u8], len: usize, free: &mut [u8], at: usize) -> Option<usize>
     ensures { Puts free.old at (take len text.now) free.new result }
@@ -69,7 +71,7 @@ fn put_block<const N: usize>(text: &[u8], len: usize, free: &mut [u8], at: usize
     Some(at + len)
 }
 
-/// Writes the two digits of a number below 100 from index `at` on.
+/// Writes the two digits of a number below 100 to `free`, starting at index `at`.
 #[inline(always)]
 fn put_pair(value: u64, free: &mut [u8], at: usize) -> Option<usize>
     requires { value < 100 }
@@ -79,7 +81,7 @@ fn put_pair(value: u64, free: &mut [u8], at: usize) -> Option<usize>
     put([tens, ones], free, at)
 }
 
-/// Writes the digits of a number below 10,000 from index `at` on.
+/// Writes the digits of a number below 10,000 to `free`, starting at index `at`.
 #[inline(always)]
 fn put_four(value: u64, free: &mut [u8], at: usize) -> Option<usize>
     requires { value < 10000 }
@@ -99,7 +101,7 @@ fn put_four(value: u64, free: &mut [u8], at: usize) -> Option<usize>
     put_pair(value % 100, free, at)
 }
 
-/// Writes the digits of a number with at least five digits to the start of `free`.
+/// Writes the digits of a number to the start of `free`. The number must have at least five digits.
 #[inline(never)]
 fn fill_long(value: u64, free: &mut [u8]) -> Option<usize>
     requires { 10000 ≤ value }
@@ -119,7 +121,7 @@ fn fill_long(value: u64, free: &mut [u8]) -> Option<usize>
     put_pair(value % 100, free, at)
 }
 
-/// Writes the digits of a number from index `at` on.
+/// Writes the digits of a number to `free`, starting at index `at`.
 #[inline(always)]
 fn put_decimal(value: u64, free: &mut [u8], at: usize) -> Option<usize>
     ensures { Puts free.old at (decimal value) free.new result }
@@ -134,7 +136,7 @@ fn put_decimal(value: u64, free: &mut [u8], at: usize) -> Option<usize>
 }
 
 /// Writes a name, followed by the digits of a number, to the start of `free`. Returns `None` if
-/// there is no room for the name and 20 digits.
+/// there is not enough room for the name and 20 digits.
 #[inline(always)]
 pub(crate) fn fill_named(name: &[u8], value: u64, free: &mut [u8]) -> Option<usize>
     ensures { Puts free.old 0 (name.now ++ decimal value) free.new result }
@@ -153,7 +155,8 @@ pub(crate) fn fill_named(name: &[u8], value: u64, free: &mut [u8]) -> Option<usi
     put_decimal(value, free, name.len())
 }
 
-/// Writes a number of tenths from index `at` on: its digits, with a point before the last one.
+/// Writes a number of tenths to `free`, starting at index `at`, with a decimal point before its
+/// last digit.
 #[inline(always)]
 fn put_tenths(value: u64, free: &mut [u8], at: usize) -> Option<usize>
     ensures { Puts free.old at (pointed 1 (decimal value)) free.new result }
@@ -162,7 +165,8 @@ fn put_tenths(value: u64, free: &mut [u8], at: usize) -> Option<usize>
     put([b'.', b'0' + (value % 10) as u8], free, at)
 }
 
-/// Writes a number of hundredths from index `at` on: its digits, with a point before the last two.
+/// Writes a number of hundredths to `free`, starting at index `at`, with a decimal point before its
+/// last two digits.
 #[inline(always)]
 fn put_hundredths(value: u64, free: &mut [u8], at: usize) -> Option<usize>
     ensures { Puts free.old at (pointed 2 (decimal value)) free.new result }
@@ -172,8 +176,8 @@ fn put_hundredths(value: u64, free: &mut [u8], at: usize) -> Option<usize>
     put([b'.', tens, ones], free, at)
 }
 
-/// Writes a number at a scale to the start of `free`. Also returns `None` for scales that few
-/// elements have, and for 0 at scale -1.
+/// Writes `value`, divided by 10 to the power of `scale`, to the start of `free`. Returns `None` if
+/// there is not enough room, if the scale is uncommon, or if the value is 0 and the scale is -1.
 #[inline(never)]
 fn fill_scaled(value: u64, scale: i16, free: &mut [u8]) -> Option<usize>
     ensures { Puts free.old 0 (unsigned_text value scale) free.new result }
@@ -204,9 +208,9 @@ fn fill_scaled(value: u64, scale: i16, free: &mut [u8]) -> Option<usize>
     None
 }
 
-/// Writes the line of a number that was read by an entry to the start of `free`. Also returns
-/// `None` if the comment has more than 80 octets, if the entry is near the end of the table, or for
-/// scales that few elements have.
+/// Writes the line of a numeric item to the start of `free`. `entry` is the table entry that was
+/// used to read the item. Returns `None` if there is not enough room, if the comment is longer than
+/// 80 octets, if the entry is near the end of the table, or if the scale is uncommon.
 #[inline(always)]
 // rule: decimal-sign
 pub(crate) fn fill_number_line(
@@ -220,7 +224,7 @@ pub(crate) fn fill_number_line(
         free.new result }
 {
     let (row, len) = entry.line_on();
-    // After these checks, the compiler removes most of the checks in the calls below.
+    // These checks let the compiler remove most of the checks in the calls below.
     if row.len() < 7 + COMMENT || len > COMMENT || free.len() < LINE {
         return None;
     }
@@ -243,16 +247,16 @@ pub(crate) fn fill_number_line(
     put_block::<COMMENT>(&row[7..], len, free, at)
 }
 
-/// Writes the line of a missing value that was read by an entry to the start of `free`. Also
-/// returns `None` if the comment has more than 80 octets, or if the entry is near the end of the
-/// table.
+/// Writes the line of a missing value to the start of `free`. `entry` is the table entry that was
+/// used to read the value. Returns `None` if there is not enough room, if the comment is longer
+/// than 80 octets, or if the entry is near the end of the table.
 #[inline(always)]
 pub(crate) fn fill_missing_line(entry: Entry<'_>, free: &mut [u8]) -> Option<usize>
     ensures { Puts free.old 0 (row_line_start (row_of_entry entry.entry)
         ++ (codes "MISSING" ++ row_comment (row_of_entry entry.entry))) free.new result }
 {
     let (row, len) = entry.line_on();
-    // After these checks, the compiler removes most of the checks in the calls below.
+    // These checks let the compiler remove most of the checks in the calls below.
     if row.len() < 7 + COMMENT || len > COMMENT || free.len() < LINE {
         return None;
     }

@@ -1,4 +1,4 @@
--- Bounds on the items and the steps of readings and showings.
+-- Upper bounds on the numbers of items and steps of a reading, and of showing it.
 use Rattle.bufr_walk.proofs.PassLemmas.{pass_at_end, next_pass}
 use Rattle.bufr_walk.specs.Readers.{first_items, items_by_pass, place_at}
 use Rattle.std.proofs.lemmas.List.{length-map}
@@ -13,7 +13,7 @@ use Rattle.bufr_walk.proofs.WalkProgress.{in_one_turn, counted_ahead, counted_as
 use Rattle.bufr_walk.proofs.PackedShowing.{no_turns, no_turns_in}
 
 module _ (table : List Row) (n : ℕ) where
-  -- each item pays for n turns, and what follows for `a`
+  -- The turns up to what comes next are at most `a`, plus n for each item.
   abbrev pub Bounded : ℕ → Rest → Type 0
   Bounded a rest = (counts : List ℕ) (s : OperatorModel) (items : List Taken) → (counted_ahead table (rest counts) s items).turns ≤ a + n * length items
 
@@ -28,7 +28,7 @@ module _ (table : List Row) (n : ℕ) where
   operated_turns (Err why) go items a h = omega arith
   operated_turns (Ok s) go items a h = omega (arith, h s)
 
-  -- an operator, or a text of the template
+  -- The turn of an operator adds 1 to the bound, whether or not the operator inserts a text.
   operator_turns : (fxy : ℕ) (s : OperatorModel) (next : Turns) (items : List Taken) (a : ℕ)
       → ((s' : OperatorModel) (more : List Taken) → (counted_ahead table next s' more).turns ≤ a + n * length more)
       → (counted_ahead table (operator_turn fxy next) s items).turns ≤ 1 + a + n * length items
@@ -51,7 +51,8 @@ module _ (table : List Row) (n : ℕ) where
       by true q = omega (arith, near, asked_turns (inserted_spec s fxy) (λ t more. counted_ahead table next (after_field s fxy t) more) items a (λ t more. h (after_field s fxy t) more))
       by false q = operated_turns (after_operator s fxy) (λ s'. counted_ahead table next s' items) items z (λ s'. g q s')
 
-  -- a body that pays for itself
+  -- The body has at least one item, which accounts for n turns. Therefore, the body and what
+  -- follows it have the bound `size body`, plus the part of `a` that exceeds n.
   abbrev pub Pays : Tree → Type 0
   Pays body = (a : ℕ) (rest : Rest) → Bounded a rest → Bounded (size body + (a - n)) (unroll body rest)
 
@@ -124,7 +125,7 @@ module _ (table : List Row) (n : ℕ) where
               (bounded more (omega arith) g.1.1 a rest b)) counts s items,
         )
 
-  -- the same walk to its end, with n turns more there
+  -- If `rest` ends after these items, `rest'` has at least n more turns after them.
   abbrev Longer : Rest → Rest → Type 0
   Longer rest rest' = (counts : List ℕ) (s : OperatorModel) (items : List Taken) → (counted_ahead table (rest counts) s items).next ≡ at_end
       → (counted_ahead table (rest counts) s items).turns + n ≤ (counted_ahead table (rest' counts) s items).turns
@@ -181,7 +182,7 @@ module _ (table : List Row) (n : ℕ) where
   longer (delayed fxy body more) rest rest' h =
       delayed_longer fxy body more rest rest' (λ k. passes_longer body (longer body) k (unroll more rest) (unroll more rest') (longer more rest rest' h))
 
--- so many turns, and then the end
+-- k turns without a field, and then the end of the template
 abbrev groups : ℕ → Turns
 groups zero = finish
 groups (suc k) = group (groups k)
@@ -190,11 +191,11 @@ group_turns : (table : List Row) (k : ℕ) (s : OperatorModel) (items : List Tak
 group_turns table zero s items = refl
 group_turns table (suc k) s items = omega (arith, group_turns table k s items)
 
--- up to any next: at most n turns for each item, and n more
+-- The turns up to what comes next are at most `places t` for each item, and `places t` more.
 pub turns_before : (table : List Row) (t : Tree) (answers : List Taken) → IsSound t → (counted_item table t answers).turns ≤ places t * (length answers + 1)
 turns_before table t answers g = omega (arith, bounded table (1 + size t) t (omega arith) g.0 1 (λ _. finish) (λ counts s items'. omega arith) (counts_of answers) begin answers)
 
--- up to the end: at most n turns for each item
+-- If the template ends after these items, the turns are at most `places t` for each item.
 pub turns_in_all : (table : List Row) (t : Tree) (answers : List Taken) → IsSound t → (counted_item table t answers).next ≡ at_end → (counted_item table t answers).turns ≤ places t * length answers
 unfolding next_item
 turns_in_all table t answers g e =
@@ -218,7 +219,7 @@ ticks_at_most c t c' b h u = omega arith
 module _ {S E : Type 0} (takes : S → FieldSpec → Result Taken E → S → Type 0) (used : S → ℕ)
     (advances : (s : S) (spec : FieldSpec) (t : Taken) (s' : S) → takes s spec (Ok t) s' → used s < used s')
     (refuses : (s : S) (spec : FieldSpec) (e : E) (s' : S) → takes s spec (Err e) s' → used s' ≡ used s) where
-  -- each item uses a bit
+  -- Each item uses at least one bit.
   items_used : (n : CountedCourse) (s : S) (items : List TakenField) (s' : S) → Takes (oks takes) (uncounted n) s items s' → used s + length items ≤ used s'
   items_used n s [] s' w = omega (arith, ap used w)
   items_used n s (i ∷ items) s' w = omega (arith, advances s i.spec i.taken w.0 w.2, items_used (λ more. n (i.taken ∷ more)) w.0 items s' w.3)
@@ -242,9 +243,9 @@ module _ {S E : Type 0} (takes : S → FieldSpec → Result Taken E → S → Ty
       let bits : places t * (length w.0 + 1) ≤ places t * (used s' - used s + 1) = mul-le-mul_left (places t) (let h : length w.0 + 1 ≤ used s' - used s + 1 = omega (arith, same, paid) in h) in
       ticks_at_most c (counted_item table t (answers_of w.0)).turns c' _ w.4 (omega (arith, turns, bits))
 
--- ---- Bounds on the items and the steps of a showing.
+-- ---- Bounds on the numbers of items and steps when a reading is shown.
 
--- the items among calls
+-- the number of items that calls show
 called_more : (a b : List Timed) → items_called (a ++ b) ≡ items_called a + items_called b
 called_more [] b = omega arith
 called_more (t ∷ a) b = omega (arith, called_more a b)
@@ -265,11 +266,11 @@ called_subsets table course before number (items ∷ subsets) =
       called_subsets table course (before + (course (answers_in answer_of items)).turns) (number + 1) subsets,
     )
 
--- the items of all calls
+-- A reading has at most `max_values` items to show.
 pub few_items : (r : Read) (k : StoredItems) → IsStoredReading r k → items_called (calls_of r) ≤ max_values
 few_items r k h = let v = values_read r in omega (arith, called_subsets r.table (walk_shown r v) 0 1 (each_subset r.source.subsets v), h.most)
 
--- calls before each of which at most so many turns are made
+-- The walk makes at most `most` turns before each of these calls.
 abbrev AllWithin : ℕ → List Timed → Type 0
 AllWithin most [] = Unit {0}
 AllWithin most (t ∷ calls) = (t.turns ≤ most) × AllWithin most calls
@@ -292,7 +293,8 @@ shows_within sees most s (c ∷ calls) turns (Err why) s' steps h t g =
 gives_length : (items : List (Item Content)) → length (answers_in answer_of items) ≡ length items
 gives_length items = length-map items (λ i. answer_of i.spec i.content)
 
--- a bound on the turns up to what comes after some items
+-- The course continues after `done` items. The turns up to what comes next are at most n for each
+-- item, and n more.
 abbrev TurnsWithin : ℕ → ℕ → CountedCourse → Type 0
 TurnsWithin n done course = (answers : List Taken) → (course answers).turns ≤ n * (done + length answers + 1)
 
@@ -318,7 +320,7 @@ items_within n most table before paid done course (i ∷ items) h b m = (
     moved : (d l : ℕ) → d + suc l ≡ d + 1 + l
     moved d l = omega arith
 
--- the template ends after the items of each subset
+-- The template ends after the items of each subset.
 abbrev AllEnd : CountedCourse → List (List (Item Content)) → Type 0
 AllEnd course [] = Unit {0}
 AllEnd course (items ∷ subsets) = ((course (answers_in answer_of items)).next ≡ at_end) × AllEnd course subsets
@@ -371,7 +373,7 @@ untimed_within most table before number (items ∷ subsets) none = (
     one [] = tt
     one (i ∷ items) = (omega (arith, none), one items)
 
--- the steps of a showing
+-- Showing a reading takes at most `places r.template` steps for each bit.
 pub steps_within : {S E : Type 0} (sees : S → Call → Result (Unit {0}) E → S → Type 0) (r : Read) (k : StoredItems) (s s' : S) (result : Result (Unit {0}) (ShowFault E)) (steps : ℕ)
     → IsSound r.template → IsStoredReading r k
     → Shows sees s (calls_of r) (turns_shown r) result s' steps → steps ≤ places r.template * r.bits

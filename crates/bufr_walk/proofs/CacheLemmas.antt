@@ -1,4 +1,4 @@
--- What is cached: specs by their keys, and lists of descriptors in slots.
+-- What is cached: specs by their keys, and descriptor lists in slots.
 use Rattle.std.proofs.lemmas.Grind.{common_steps}
 use Rattle.std.proofs.Common.{◌==◌, ℤ, unsigned_abs, Bool, true, Option, Some, None, IfSome, if◌then◌else◌, ◌≡◌, ◌≢◌, ℕ, zero, suc, inl, inr, Contains, slice_set, get_or, drop, refl, ◌⊎◌, ◌∙◌, ◌-◌, ◌+◌, ◌*◌, ◌<◌, arith, sym, ◌^◌, false, List, Ok, ap, subst, ◌≤◌, [], ◌∷◌, ◌++◌, length, length-append, nat_lt}
 use Rattle.bufr_walk.specs.Prelude.{Lists, with_room, IsKept, MayStay, list_of, lists_of, OperatorModel, IsKey, is_defining, element_spec, factor_spec, unsigned_field, IsFieldKey, descriptor_of, key_word, spec_of, FieldSpec, is_reference, IsSpecBy, IsOther, TableField, IsSpecFor, IsSpecKey, spec_key, HasOctetOperands, Dependence, OnNothing, OnWidth, OnReference, by_reference, dependence, dependence_number, HasNumber, Redefined, redefined, current_reference, Kind, spec_by_kind, new_reference_spec, local_width_spec, listed_by}
@@ -14,7 +14,7 @@ use Rattle.std.proofs.lemmas.List.Elements.{All-append, All-drop, All-cons, All-
 use Rattle.bufr_walk.specs.declared.lists.Slot.{Slot}
 use Rattle.bufr_walk.specs.declared.operators.TableField.TheVariants as field
 
--- a word is added to the key of the operators
+-- The word of a field can be added to the key of the operators.
 pub with_word : (s : OperatorModel) (key word : ℕ) → IsKey s 0 key → IsKey s word (key + 1099511627776 * word)
 with_word s key word h = record {
   is = omega (arith, h.is);
@@ -23,11 +23,11 @@ with_word s key word h = record {
   octets = h.octets;
 }
 
--- the last octet of a number
+-- If two numbers are equal, so are their lowest octets, and what is above these.
 last_octet : (a b x y : ℕ) → a < 256 → b < 256 → a + 256 * x ≡ b + 256 * y → (a ≡ b) × (x ≡ y)
 last_octet a b x y p q e = (omega arith, omega arith)
 
--- five octets and what is above them
+-- the same for the five lowest octets
 five_octets : (a b c d e v : ℕ) (a' b' c' d' e' w : ℕ) → a < 256 → b < 256 → c < 256 → d < 256 → e < 256 → a' < 256 → b' < 256 → c' < 256 → d' < 256 → e' < 256
     → a + 256 * b + 65536 * c + 16777216 * d + 4294967296 * e + 1099511627776 * v ≡ a' + 256 * b' + 65536 * c' + 16777216 * d' + 4294967296 * e' + 1099511627776 * w
     → (a ≡ a') × (b ≡ b') × (c ≡ c') × (d ≡ d') × (e ≡ e') × (v ≡ w)
@@ -39,7 +39,7 @@ five_octets a b c d e v a' b' c' d' e' w ha hb hc hd he ga gb gc gd ge same =
     let five = last_octet e e' v w he ge four.1 in
     (one.0, two.0, three.0, four.0, five.0, five.1)
 
--- a word and what is above it
+-- the same for the lowest 17 bits, which are the word of a field
 last_word : (v w m n : ℕ) → v < 131072 → w < 131072 → v + 131072 * m ≡ w + 131072 * n → (v ≡ w) × (m ≡ n)
 last_word v w m n p q e = (omega arith, omega arith)
 
@@ -47,14 +47,14 @@ word_small : (f : TableField) → descriptor_of f < 65536 → key_word f < 13107
 word_small (field.Element fxy) h = omega (arith, h)
 word_small (field.Factor fxy) h = omega (arith, h)
 
--- fields with the same word are the same
+-- Fields with the same word are the same.
 same_field : (f g : TableField) → descriptor_of f < 65536 → descriptor_of g < 65536 → key_word f ≡ key_word g → f ≡ g
 same_field (field.Element v) (field.Element w) p q e = ap field.Element e
 same_field (field.Element v) (field.Factor w) p q e = absurd (omega (arith, e, p))
 same_field (field.Factor v) (field.Element w) p q e = absurd (omega (arith, e, q))
 same_field (field.Factor v) (field.Factor w) p q e = let same : v ≡ w = omega (arith, e) in ap field.Factor same
 
--- two numbers have one dependence
+-- Dependences with the same kind and the same number are the same.
 same_dependence : (d e : Dependence) (number : ℤ) → dependence_number d ≡ dependence_number e → HasNumber d number → HasNumber e number → d ≡ e
 same_dependence OnNothing OnNothing number e p q = refl
 same_dependence OnNothing (OnWidth w) number e p q = absurd (omega (arith, e))
@@ -66,7 +66,7 @@ same_dependence (OnReference r) OnNothing number e p q = absurd (omega (arith, e
 same_dependence (OnReference r) (OnWidth w) number e p q = absurd (omega (arith, e))
 same_dependence (OnReference r) (OnReference s) number e p q = ap OnReference (sym p ∙ q)
 
--- operators that differ in nothing that the spec of this field depends on
+-- Two operator states agree on everything that the spec of this field depends on.
 record AreSameFor (a b : OperatorModel) (f : TableField) : Type 0 where
   width_change : a.width_change ≡ b.width_change
   scale_change : a.scale_change ≡ b.scale_change
@@ -75,7 +75,7 @@ record AreSameFor (a b : OperatorModel) (f : TableField) : Type 0 where
   local_width : a.local_width ≡ b.local_width
   dependence : dependence a (descriptor_of f) ≡ dependence b (descriptor_of f)
 
--- a key has one field, and operators that are the same for it
+-- If two fields have the same key, they are the same field, and their operator states agree for it.
 same_key : (a b : OperatorModel) (f g : TableField) (key : SpecKey) → IsSpecKey a f key → IsSpecKey b g key → (f ≡ g) × AreSameFor a b f
 same_key a b f g key h k =
     let m = dependence_number (dependence a (descriptor_of f)) in
@@ -99,7 +99,7 @@ same_key a b f g key h k =
       },
     )
 
--- ---- The spec of a field by what it depends on.
+-- ---- What the spec of a field depends on.
 
 none_defining : (n : ℕ) → n ≡ 0 → nat_lt 0 n ≡ false
 none_defining n h = grind (arith, nat_tests)
@@ -119,7 +119,7 @@ alone fxy OnNothing = []
 alone fxy (OnWidth width) = []
 alone fxy (OnReference reference) = record { fxy = fxy; reference = reference } ∷ []
 
--- the width of a reference that is being defined
+-- the width with which references are being redefined, or 0
 abbrev width_in : Dependence → ℕ
 width_in OnNothing = 0
 width_in (OnWidth width) = width
@@ -145,7 +145,7 @@ width_alone s fxy = by (is_defining s) refl
     by true e = refl
     by false e = not_defining s.new_reference_width e ∙ sym (none (redefined s.new_references fxy))
 
--- the spec of a value, where the reference is the same
+-- The spec of a value depends on no redefined reference but that of its element.
 kind_alone : (k : Kind) (s : OperatorModel) (row : Row) (known : List Redefined) → current_reference s.new_references row.fxy row.reference ≡ current_reference known row.fxy row.reference
     → spec_by_kind k s row ≡ spec_by_kind k (record s { new_references = known }) row
 kind_alone kind.Character s row known e = refl
@@ -171,7 +171,7 @@ listed_alone (Some row) s fxy is = by (is_defining s)
     by true = defined_alone row.kind s fxy []
     by false = kind_alone row.kind s row (alone fxy (by_reference (redefined s.new_references fxy))) (rw is (current_alone s.new_references fxy row.reference))
 
--- the row that is found is that of the descriptor
+-- The row that is found for a descriptor has this descriptor.
 row_found : (table : List Row) (fxy : ℕ) → IfSome (entry_of table fxy) (λ row. row.fxy ≡ fxy)
 row_found [] fxy = tt
 row_found (row ∷ table) fxy = by (row.fxy == fxy) (eqb-true row.fxy fxy) (row_found table fxy)
@@ -201,7 +201,7 @@ operators width scale precision octets local new known = record {
   new_references = known;
 }
 
--- operators that are the same for a field give it the same spec
+-- If two operator states agree for a field, they give it the same spec.
 same_spec : (table : List Row) (a b : OperatorModel) (f : TableField) → AreSameFor a b f → spec_of table a f ≡ spec_of table b f
 same_spec table a b f h =
     let fxy = descriptor_of f in
@@ -212,13 +212,13 @@ same_spec table a b f h =
     rw (known, h.width_change, h.scale_change, h.precision_increase, h.character_octets, h.local_width, width) refl in
     spec_alone table a f ∙ ap (λ s. spec_of table s f) all ∙ sym (spec_alone table b f)
 
--- ---- The specs that are cached, and their keys.
+-- ---- Cached specs and their keys.
 
--- a spec that is found under the key of a field is the field's
+-- A spec that is cached under the key of a field is the spec of this field.
 pub spec_got : (table : List Row) (s : OperatorModel) (f : TableField) (key : ℕ) (spec : FieldSpec) → IsFieldKey s f key → IsSpecBy table key spec → spec_of table s f ≡ Ok spec
 spec_got table s f key spec h g = g.is s f h.word (h.is g.few)
 
--- the spec of a field may be cached under its key
+-- The spec of a field may be cached under its key.
 pub spec_cached : (table : List Row) (s : OperatorModel) (f : TableField) (key : SpecKey) (spec : FieldSpec) → IsSpecKey s f key → key.operators < 2 ^ 62 → spec_of table s f ≡ Ok spec
     → IsSpecFor table key spec
 spec_cached table s f key spec h few found = record {
@@ -228,11 +228,11 @@ spec_cached table s f key spec h few found = record {
       subst (λ x. spec_of table t x ≡ Ok spec) same.0 (sym (same_spec table s t f same.1) ∙ found);
 }
 
--- a spec that is found under the whole key of a field is the field's
+-- the same for the whole key of a field
 pub spec_got_by : (table : List Row) (s : OperatorModel) (f : TableField) (key : SpecKey) (spec : FieldSpec) → IsSpecKey s f key → IsSpecFor table key spec → spec_of table s f ≡ Ok spec
 spec_got_by table s f key spec h g = g.is s f h
 
--- the whole key of a field, part by part
+-- the whole key of a field, from its parts
 pub with_dependence : (s : OperatorModel) (f : TableField) (d : Dependence) (key : SpecKey) → HasOctetOperands s → descriptor_of f < 65536 → dependence s (descriptor_of f) ≡ d
     → key.operators ≡ spec_key s 0 + 1099511627776 * key_word f + 144115188075855872 * dependence_number d → HasNumber d key.number → IsSpecKey s f key
 with_dependence s f d key octets word is key_is number = record {
@@ -254,7 +254,7 @@ plain_dependence s fxy none empty =
     ap (λ b. if b then OnWidth s.new_reference_width else by_reference (redefined s.new_references fxy)) (none_defining s.new_reference_width none)
     ∙ ap (λ known. by_reference (redefined known fxy)) empty
 
--- without redefined references the operators are the whole key
+-- If no references are redefined, the operands and the word of the field are the whole key.
 pub plain_key : (s : OperatorModel) (f : TableField) (key : SpecKey) → descriptor_of f < 65536 → IsKey s (key_word f) key.operators → IsSpecKey s f key
 plain_key s f key word h =
     let nothing : dependence s (descriptor_of f) ≡ OnNothing = plain_dependence s (descriptor_of f) h.new_reference_width h.new_references in
@@ -271,30 +271,31 @@ plain_spec table key operators spec e h = record {
   is = λ s f word k. h.is s f (plain_key s f key word (rw e k));
 }
 
--- while no reference is being defined, no element is one
+-- Unless references are being redefined, the spec of an element is not that of a redefined
+-- reference.
 element_plain : (table : List Row) (s : OperatorModel) (fxy : ℕ) (spec : FieldSpec) → s.new_reference_width ≡ 0 → element_spec table s fxy ≡ Ok spec → is_reference spec.role ≡ false
 element_plain table s fxy spec none e =
     let none_is : is_defining s ≡ false = none_defining s.new_reference_width none in
     element_cases (is_reference spec.role ≡ false) table s fxy spec (λ z row p q. ap is_reference (sym (kind_role row.kind z row spec q)))
     (λ q. ap is_reference (sym (fitted_role (unsigned_field fxy s.local_width) spec q))) (λ row d q. absurd cc) e
 
--- no factor is one
+-- The spec of a factor is never that of a redefined reference.
 factor_plain : (table : List Row) (s : OperatorModel) (fxy : ℕ) (spec : FieldSpec) → factor_spec table s fxy ≡ Ok spec → is_reference spec.role ≡ false
 factor_plain table s fxy spec e = grind (arith, common_steps, fitted_role)
 
--- what is cached is no reference
+-- A spec that is cached under such a key is not that of a redefined reference.
 pub spec_got_plain : (table : List Row) (s : OperatorModel) (f : TableField) (key : ℕ) (spec : FieldSpec) → IsFieldKey s f key → IsSpecBy table key spec → is_reference spec.role ≡ false
 spec_got_plain table s (field.Element fxy) key spec h g = element_plain table s fxy spec (h.is g.few).new_reference_width (spec_got table s (field.Element fxy) key spec h g)
 spec_got_plain table s (field.Factor fxy) key spec h g = factor_plain table s fxy spec (spec_got table s (field.Factor fxy) key spec h g)
 
--- ---- The slots of lists of descriptors that are kept.
+-- ---- The slots of cached descriptor lists.
 
--- the lists of slots beside the last one may stay
+-- The lists of all slots other than the last one may stay in the cache.
 pub all_stay : (b : List Row) (d : List Sequence) (slots : List Slot) → All (IsOther b d) slots → All (MayStay b d) (lists_of slots)
 all_stay b d [] h = All-nil (MayStay b d)
 all_stay b d (s ∷ slots) h = All-cons (MayStay b d) (list_of s) (lists_of slots) (All-head (IsOther b d) s slots h).stays (all_stay b d slots (All-tail (IsOther b d) s slots h))
 
--- a slot is put beside others
+-- A slot can be added to the others, once there is room for it.
 pub others_more : (b : List Row) (d : List Sequence) (slots more : List Slot) (s : Slot) → All (IsOther b d) slots → more ≡ with_room slots → IsOther b d s → All (IsOther b d) (more ++ s ∷ [])
 others_more b d slots more s h is p =
     All-append (IsOther b d) more (s ∷ []) (rw is (All-drop (IsOther b d) (length slots - 126) slots h)) (All-cons (IsOther b d) s [] p (All-nil (IsOther b d)))
@@ -307,7 +308,7 @@ lists_more slots more s is =
     map-append list_of more (s ∷ []) ∙ ap (λ xs. xs ++ list_of s ∷ [])
     (ap lists_of is ∙ sym (drop-map list_of (length slots - 126) slots) ∙ ap (λ n. drop (n - 126) (lists_of slots)) (sym (length-map slots list_of)))
 
--- a list is among those of the slots where one of them has it
+-- If a slot has this list, the list is among those of the slots.
 pub slot_contains : (slots : List Slot) (i : ℕ) (list : List ℕ) → i < length slots → ((s : Slot) → s ≡ get_or slots i s → list_of s ≡ list) → Contains (lists_of slots) list
 slot_contains [] i list h is = absurd (omega (arith, h))
 slot_contains (s ∷ slots) zero list h is = (0, omega arith, is s refl)
@@ -315,14 +316,14 @@ slot_contains (s ∷ slots) (suc i) list h is =
     let more = slot_contains slots i list (omega (arith, h)) is in
     (suc more.0, omega (arith, more.1), more.2)
 
--- the list of the last slot is among those of all
+-- The list of the last slot is among those of all slots.
 pub last_kept : (slots : List Slot) (s : Slot) → Contains (lists_of (slots ++ s ∷ [])) (list_of s)
 last_kept [] s = (0, omega arith, refl)
 last_kept (t ∷ slots) s =
     let more = last_kept slots s in
     (suc more.0, omega (arith, more.1), more.2)
 
--- a list is among those of the slots where one of them was replaced by its slot
+-- If a slot is replaced by one with this list, the list is among those of the slots.
 pub set_contains : (slots : List Slot) (i : ℕ) (s : Slot) (list : List ℕ) → i < length slots → list_of s ≡ list → Contains (lists_of (slice_set slots i s)) list
 set_contains [] i s list h e = absurd (omega (arith, h))
 set_contains (t ∷ slots) zero s list h e = (0, omega arith, e)
@@ -330,7 +331,7 @@ set_contains (t ∷ slots) (suc i) s list h e =
     let more = set_contains slots i s list (omega (arith, h)) e in
     (suc more.0, omega (arith, more.1), more.2)
 
--- a list is not kept where no slot has it
+-- If no slot has a list, the list is not among those of the slots.
 none_contains : (slots : List Slot) (list : List ℕ) → All (λ s. list_of s ≢ list) slots → Contains (lists_of slots) list → ⊥
 none_contains [] list h (k, few, is) = omega (arith, few)
 none_contains (s ∷ slots) list h (zero, few, is) = All-head (λ (s : Slot). list_of s ≢ list) s slots h is
@@ -340,7 +341,8 @@ pub none_kept : (l : Lists) (slots : List Slot) (list : List ℕ) → l.others �
 none_kept l slots list are last others (inl is) = last is
 none_kept l slots list are last others (inr is) = none_contains slots list others (subst (λ xs. Contains xs list) are is)
 
--- where a slot is selected, the lists of the others stay: another slot takes its place, or none does
+-- If the slot with the wanted list is replaced or removed, each list is either the wanted one or
+-- still among those of the slots.
 pub set_stays : (slots : List Slot) (i : ℕ) (t : Slot) (wanted list : List ℕ) → i < length slots → ((s : Slot) → s ≡ get_or slots i s → list_of s ≡ wanted) → Contains (lists_of slots) list
     → (wanted ≡ list) ⊎ Contains (lists_of (slice_set slots i t)) list
 set_stays [] i t wanted list h is c = absurd (omega (arith, h))
@@ -365,7 +367,7 @@ remove_stays (s ∷ slots) (suc i) wanted list h is (suc k, few, e) = later (rem
     later (inl e) = inl e
     later (inr (k, few, e)) = inr (suc k, omega (arith, few), e)
 
--- a list is kept: the last one, or that of a slot
+-- Each list is that of the selected slot, or is among those of the others.
 pub kept_beside : (x : Slot) (wanted list : List ℕ) (more : List Slot) → list_of x ≡ wanted → (wanted ≡ list) ⊎ Contains (lists_of more) list → (list_of x ≡ list) ⊎ Contains (lists_of more) list
 kept_beside x wanted list more e (inl f) = inl (e ∙ f)
 kept_beside x wanted list more e (inr c) = inr c

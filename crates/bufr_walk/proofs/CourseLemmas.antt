@@ -1,4 +1,5 @@
--- What comes next in a legal template takes bits of the data, and its counts match its factors.
+-- Each field that comes next in a legal template takes at least one bit of the data, and the counts
+-- match the factors.
 use Rattle.std.proofs.lemmas.Grind.{common_steps}
 use Rattle.std.proofs.Common.{◌≡◌, ℕ, zero, suc, ◌*◌, ◌≤◌, Bool, true, false, List, [], ◌∷◌, Option, Some, None, Result, Ok, Err, refl, sym, ◌∙◌, ap, subst, arith, ◌+◌, ◌-◌, length, drop, take, ◌==◌, nat_le, nat_lt, if◌then◌else◌, ◌||◌}
 use Rattle.std.proofs.lemmas.Bool.{leb-true, ltb-false}
@@ -16,10 +17,11 @@ use Rattle.bufr_walk.specs.declared.spec.Role.TheVariants as role
 use Rattle.bufr_walk.specs.declared.spec.TurnRefusal.TheVariants as refusal
 use Rattle.bufr_walk.specs.declared.spec.Taken.TheVariants as taken
 
--- ---- What comes next in a template takes bits of the data, and its counts match its factors.
+-- ---- What comes next in a template: a field takes at least one bit, and the counts match the
+-- factors.
 
--- for so many items: what comes next has a width, and counts match the factors, while each answer
--- fits its role
+-- For the next n items, as long as each answer fits its role: each field that comes next has a
+-- width, and the counts match the factors.
 abbrev pub IsSane : ℕ → Course → Type 0
 IsSane zero course = Unit {0}
 IsSane (suc n) course =
@@ -37,7 +39,7 @@ sane_end : (n : ℕ) (c : Course) (x : Next) → c [] ≡ x → (x ≡ astray �
 sane_end zero c x e h g = tt
 sane_end (suc n) c x e h g = (λ q. h (sym e ∙ q), λ spec q. absurd (g spec (sym e ∙ q)))
 
--- what comes first where a field is asked for
+-- what comes next at a field, given its spec or its refusal
 abbrev first_next : Result FieldSpec TurnRefusal → Next
 first_next (Ok spec) = take_next spec
 first_next (Err why) = refused why
@@ -66,14 +68,14 @@ field_sane (suc n) (Ok spec) c e w h = (
     not_astray : (spec : FieldSpec) → take_next spec ≡ astray → ⊥
     not_astray spec q = cc
 
--- whether a role returns a count
+-- whether a field with this role returns a count
 abbrev is_counting : Role → Bool
 is_counting role.Element = false
 is_counting role.Inserted = false
 is_counting role.Factor = true
 is_counting role.Reference = false
 
--- a field with a width that returns no count
+-- The field has at least one bit and returns no count.
 abbrev IsUncounted : FieldSpec → Type 0
 IsUncounted a = (1 ≤ a.width) × (is_counting a.role ≡ false)
 
@@ -132,7 +134,7 @@ module _ (table : List Row) (rows : (fxy : ℕ) (row : Row) → entry_of table f
       by false None q = absurd cc
       by false (Some row) q = let f = fitted (factor_field row fxy) spec q in (f.1, ap (λ z. z.role) f.0)
 
-  -- a field that returns no count
+  -- A field that returns no count is sane if what follows it is.
   uncounted_goes : (r : Result FieldSpec TurnRefusal) (s : OperatorModel) (fxy : ℕ) (rest : Rest) → ((spec : FieldSpec) → r ≡ Ok spec → IsUncounted spec)
       → ((n : ℕ) (s : OperatorModel) → IsSane n (λ answers. ahead table (rest (counts_of answers)) s answers))
       → (n : ℕ) → IsSane n (λ answers. asked r (λ t more. ahead table (rest (counts_of answers)) (after_field s fxy t) more) answers)
@@ -204,9 +206,9 @@ module _ (table : List Row) (rows : (fxy : ℕ) (row : Row) → entry_of table f
   unfolding next_item
   template_sane tree legal n = unroll_goes tree (λ c. finish) legal (λ m z. sane_end m (λ answers. ahead table finish z answers) at_end refl (λ q. absurd cc) (λ spec q. absurd cc)) n begin
 
--- ---- A field that is read takes bits of the data.
+-- ---- Each field that is read takes at least one bit of the data.
 
--- a field that was found takes bits, and its answer fits its role
+-- A field was read: it took at least one bit, and its answer fits its role.
 pub record Forth {C : Type 0} (form : DataCoding C) (spec : FieldSpec) (bits : List Bool) (c : C) (mid : List Bool) : Type 0 where
   pub gives : IsFor spec (form.gives spec c)
   pub size : ℕ

@@ -1,4 +1,4 @@
--- Worked examples of whole readings: what stops them and where, and how many turns they take.
+-- Worked examples of whole readings: why and where they stop, and how many turns they take.
 use Rattle.std.proofs.Common.{◌≡◌, ℕ, Bool, true, false, List, [], ◌∷◌, length, Option, Some, None, refl, zero, suc, ◌+◌, ◌-◌, Result, Ok, Err, if◌then◌else◌, option_map}
 use Rattle.bufr_bits.specs.Prelude.{bits_of}
 use Rattle.bufr_tables.specs.Prelude.{Tree, bare, element, operator, fixed}
@@ -12,8 +12,8 @@ use Rattle.bufr_walk.specs.declared.spec.TurnRefusal.TheVariants as turn
 use Rattle.bufr_walk.proofs.ExampleTables.{fxy, table}
 use Rattle.std.specs.Prelude.{is_none, is_some}
 
--- how a reading of so many subsets ends: what stops it, in which subset, with how many bits left,
--- and after how many turns
+-- how a reading of n subsets ends: why it stopped, in which subset, how many bits are left, and how
+-- many turns were made
 unfoldable pub ends : (compressed : Bool) → ℕ → Tree → List ℕ → Option Stop × ℕ × ℕ × ℕ
 unfolding table next_item bits_of
 ends compressed n tree octets =
@@ -24,31 +24,32 @@ block : Tree
 unfolding fxy
 block = element (fxy 0 1 1) bare
 
--- Subsets follow one another with no bit between them, and their turns add up. Bits may be left.
+-- There are no bits between subsets, and the turns of all subsets are added up. Bits may be left.
 two_subsets : ends false 2 block (20 ∷ 44 ∷ []) ≡ (None, 2, 2, 4)
 unfolding ends block
 two_subsets = refl
 
--- The second subset is refused, and no third is read: fails where its number does not grow.
+-- The second subset is refused, and no third one is read. The example fails if the number of the
+-- subset does not increase.
 -- rule: stream-fault-place
 second_subset_refused : ends false 3 block (20 ∷ []) ≡ (Some (stops.Field (wrong.DataEnd 257)), 2, 1, 3)
 unfolding ends block
 second_subset_refused = refl
 
--- All subsets of compressed data are refused as subset 0, also at their second item.
+-- In compressed data, the refused subset has the number 0, even at the second item.
 -- rule: stream-fault-place
 together_refused : ends true 2 (element (fxy 0 1 1) block) (20 ∷ 0 ∷ []) ≡ (Some (stops.Field (wrong.DataEnd 257)), 0, 3, 2)
 unfolding ends block fxy
 together_refused = refl
 
--- With no subset nothing is read, in either form.
+-- If there are no subsets, nothing is read, whether or not the data are compressed.
 -- rule: no-subsets
 no_subsets : (ends false 0 block (252 ∷ []) ≡ (None, 0, 8, 0)) × (ends true 0 block (252 ∷ []) ≡ (None, 0, 8, 0))
 unfolding ends block
 no_subsets = (refl, refl)
 
--- The items that precede are read first: fails where the width of the second is refused at once, or
--- before the data end in the first.
+-- The items before a refused one are read first. The example fails if the width of the second item
+-- is refused at once, even if the data end in the first item.
 width_after_an_item : Tree
 unfolding fxy
 width_after_an_item = element (fxy 0 1 1) (operator (fxy 2 1 121) (element (fxy 0 1 1) bare))
@@ -57,8 +58,8 @@ items_first : (ends false 1 width_after_an_item (20 ∷ []) ≡ (Some (stops.Wid
 unfolding ends width_after_an_item
 items_first = (refl, refl)
 
--- As many items as bits, and one more: fails where a reading ends after as many items as it has
--- bits.
+-- There are as many items as bits, or one more. The example fails if a reading stops as soon as it
+-- has read as many items as there are bits.
 eight_or_nine : ℕ → Tree
 unfolding fxy
 eight_or_nine n = fixed n (element (fxy 0 31 0) bare) bare
@@ -67,25 +68,27 @@ as_many_items_as_bits : (ends false 1 (eight_or_nine 8) (255 ∷ []) ≡ (None, 
 unfolding ends eight_or_nine
 as_many_items_as_bits = (refl, refl)
 
--- A refusal is at the bits before its item: fails where the base is counted too.
+-- An item is refused at its first bit. The example fails if the bits of its base are counted as
+-- well.
 refused_at_its_item : ends true 2 block (252 ∷ 17 ∷ 0 ∷ []) ≡ (Some (stops.Field (wrong.Increment 257)), 0, 24, 1)
 unfolding ends block
 refused_at_its_item = refl
 
--- Too many values are refused before the data end: fails where the bound is another.
+-- Too many values are refused before the end of the data is reported. The example fails if the
+-- limit is different.
 -- rule: too-many-values
 too_many_values : (ends true 134217729 block [] ≡ (Some (stops.Field (wrong.TooManyValues 257)), 0, 0, 1)) × (ends true 134217728 block [] ≡ (Some (stops.Field (wrong.DataEnd 257)), 0, 0, 1))
 unfolding ends block
 too_many_values = (refl, refl)
 
--- With no subset nothing is refused, whatever the template and the bits.
+-- If there are no subsets, nothing is refused, whatever the template and the bits are.
 -- rule: no-subsets
 never_refused : (course : Course) (bits : List Bool) → ((reading_in course false 0 bits).stop ≡ None) × ((reading_in course true 0 bits).stop ≡ None)
 never_refused course bits = (refl, refl)
 
--- ---- Want of memory stops no reading of the definitions: it is a case of its own in `ReadsData`.
+-- ---- In the definitions, memory never runs out. `ReadsData` treats this case separately.
 
--- a stop that is no want of memory
+-- The reason why a reading stopped is not that memory ran out.
 abbrev IsOther : Stop → Type 0
 IsOther (stops.Width fxy) = Unit {0}
 IsOther (stops.Defining fxy) = Unit {0}

@@ -1,5 +1,6 @@
--- The table of the worked examples, and readings by it: a pass over a template with all that it
--- shows, and its end. They compute the reading that the contracts cite.
+-- The table of the worked examples, and readings by this table: a pass over a template, with
+-- everything that it shows, and how it ended. They are computed by the definitions that the
+-- contracts use.
 use Rattle.std.proofs.Common.{ℕ, ◌+◌, ◌*◌, List, [], ◌∷◌, length, map, ℤ, pos, negsuc, Option, Some, None}
 use Rattle.bufr_bits.specs.Prelude.{bits_of}
 use Rattle.bufr_tables.specs.declared.table_b.Kind.TheVariants as kind
@@ -8,17 +9,18 @@ use Rattle.bufr_walk.specs.Prelude.{Kind, TurnRefusal, FieldSpec, ShownValue, sh
 use Rattle.bufr_walk.specs.declared.walker.WalkStop.TheVariants as stops
 use Rattle.bufr_walk.specs.Pass.{Pass as DataPass, Place, passes_apart, passes_together}
 
--- the descriptor of F, X and Y
+-- the descriptor with this F, X and Y
 unfoldable pub fxy : (f x y : ℕ) → ℕ
 fxy f x y = f * 16384 + (x * 256 + y)
 
--- an element of the table, with no name and no unit
+-- an element of the table, without a name or a unit
 listed : (f x y : ℕ) → Kind → (scale reference : ℤ) → (width : ℕ) → Row
 unfolding fxy
 listed f x y k s r w = record { fxy = fxy f x y; name = []; unit = []; kind = k; scale = s; reference = r; width = w }
 
--- block, name, latitude, temperature, two figures (the second with a scale and a reference of its
--- own), and class 31: factors, a figure and a letter
+-- a block number, a name, a latitude, a temperature, two elements of code tables (the second one
+-- has a scale and a reference), and class 31: three factors, an element of a code table, and a
+-- letter
 unfoldable pub table : List Row
 unfolding listed
 table =
@@ -35,30 +37,31 @@ table =
     ∷ listed 0 31 250 kind.Character (pos 0) (pos 0) 8
     ∷ []
 
--- the end of a pass: with so many bits left, or at a stop
+-- how a pass ended: at the end of the template or at a fault, with how many bits left, and after
+-- how many turns
 pub data Ending : Type 0 where
   done : (left turns : ℕ) → Ending
   stopped : (why : Stop) (left turns : ℕ) → Ending
   unknown : Ending
 
--- at a refused turn, or at a fault of a field
+-- a pass that stopped at a refused turn, or at the fault of a field
 abbrev pub walk_fault : TurnRefusal → (left turns : ℕ) → Ending
 walk_fault why left turns = stopped (stop_by why) left turns
 
 abbrev pub field_fault : (fxy : ℕ) → FieldFault → (left turns : ℕ) → Ending
 field_fault fxy why left turns = stopped (stops.Field (wrong_of fxy why)) left turns
 
--- one pass: what each item shows, by its descriptor, and its end
+-- a pass: the descriptor of each item and what it shows, and how the pass ended
 pub record Pass (C : Type 0) : Type 0 where
   pub items : List (ℕ × C)
   pub ending : Ending
 
--- how a pass of the definitions ended
+-- how a pass ended, by the definitions
 ending_of : Option Stop → ℕ → ℕ → Ending
 ending_of None left turns = done left turns
 ending_of (Some stop) left turns = stopped stop left turns
 
--- what a pass of the definitions shows
+-- what a pass shows, by the definitions
 seen : {C V : Type 0} → DataCoding C → CountedCourse → (FieldSpec → C → V) → DataPass Place C Stop → Pass V
 unfolding ending_of
 seen form course shows p = record { items = map (λ i. (i.spec.fxy, shows i.spec i.content)) p.items; ending = ending_of p.stop (length p.state.left) (course (answers_in form.gives p.items)).turns }
@@ -67,18 +70,17 @@ first : {V : Type 0} → List (Pass V) → Pass V
 first [] = record { items = []; ending = unknown }
 first (p ∷ passes) = p
 
--- one subset of data that are not compressed
+-- one subset of plain data
 unfoldable pub one : Tree → List ℕ → Pass ShownValue
 unfolding table seen first next_item bits_of
 one tree octets = first (map (seen plain (counted_item table tree) shown) (passes_apart (next_item table tree) 1 (bits_of octets)))
 
--- all of so many compressed subsets
+-- all n subsets of compressed data
 unfoldable pub together : ℕ → Tree → List ℕ → Pass (List ShownValue)
 unfolding table seen first next_item bits_of
 together n tree octets = first (map (seen (packed n) (counted_item table tree) (λ spec cs. map (shown spec) cs)) (passes_together (next_item table tree) n (bits_of octets)))
 
--- two subsets of data that are not compressed, each from the beginning of the template; nothing is
--- read after a fault
+-- two subsets of plain data, each from the beginning of the template; nothing is read after a fault
 unfoldable pub two : Tree → List ℕ → List (Pass ShownValue)
 unfolding table seen next_item bits_of
 two tree octets = map (seen plain (counted_item table tree) shown) (passes_apart (next_item table tree) 2 (bits_of octets))

@@ -1,5 +1,5 @@
--- Worked examples of groups, of subsets one after another, and of where the data end, computed from
--- the definitions.
+-- Worked examples of groups, of several subsets, and of data that end too early, computed from the
+-- definitions.
 use Rattle.bufr_walk.specs.Pass.{reading_in}
 use Rattle.std.proofs.Common.{◌≡◌, ℕ, Bool, true, false, List, [], ◌∷◌, pos, negsuc, refl, take, drop, None}
 use Rattle.bufr_bits.specs.Prelude.{bits_of}
@@ -9,16 +9,16 @@ use Rattle.bufr_walk.specs.declared.spec.Role.TheVariants as role
 use Rattle.bufr_walk.specs.Prelude.{next_item, counted_item, Content, reference, number, text, shown_number, shown_text, shown_reference, data_end, Item, turns_in, apart, answer_of}
 use Rattle.bufr_walk.proofs.ExampleTables.{fxy, table, done, field_fault, one, two, gives}
 
--- A group of so many passes leaves the operators of its passes in force. Fails where a pass or a
--- group ends a change, where it is passed once, or where turns are counted otherwise.
+-- An operator in a group stays in effect in the next pass. The example fails if the end of a pass
+-- cancels a change, if the group has only one pass, or if turns are counted differently.
 fixed_group : one (fixed 2 (element (fxy 0 1 1) (operator (fxy 2 1 129) bare)) bare) (20 ∷ 22 ∷ [])
     ≡ gives ((257, shown_number (pos 10) (pos 0)) ∷ (257, shown_number (pos 11) (pos 0)) ∷ []) (done 1 8)
 unfolding one gives fxy
 fixed_group = refl
 
--- Counts come in the order of the data, an inner one anew in each pass of the outer. A group that
--- is not opened has none. Fails where the counts of inner and outer groups are mixed up, or where
--- one count serves all passes.
+-- The counts are in the order of the data, and an inner group has a new count in each pass of the
+-- outer group. A group without passes has no counts inside it. The example fails if the counts of
+-- inner and outer groups are confused, or if one count serves all passes.
 group_in_a_group :
     (one (delayed (fxy 0 31 1) (delayed (fxy 0 31 1) (element (fxy 0 1 1) bare) bare) bare) (2 ∷ 1 ∷ 20 ∷ 4 ∷ 44 ∷ 96 ∷ [])
     ≡ gives ((7937, shown_number (pos 2) (pos 0)) ∷ (7937, shown_number (pos 1) (pos 0)) ∷ (257, shown_number (pos 10) (pos 0)) ∷ (7937, shown_number (pos 2) (pos 0))
@@ -30,8 +30,8 @@ group_in_a_group :
 unfolding one gives fxy
 group_in_a_group = (refl, refl, refl)
 
--- The data may end at a factor, or at the first or the last item of a group: fails where an earlier
--- item is dropped, or where the place is another.
+-- The data may end at a factor, or at the first or the last item of a group. The example fails if
+-- an earlier item is dropped, or if the location is different.
 data_end_at_a_factor :
     (one (delayed (fxy 0 31 1) (element (fxy 0 1 1) bare) bare) [] ≡ gives [] (field_fault 7937 data_end 0 2))
     × (one (delayed (fxy 0 31 1) (element (fxy 0 1 1) bare) bare) (2 ∷ []) ≡ gives ((7937, shown_number (pos 2) (pos 0)) ∷ []) (field_fault 257 data_end 0 3))
@@ -40,8 +40,8 @@ data_end_at_a_factor :
 unfolding one gives fxy
 data_end_at_a_factor = (refl, refl, refl)
 
--- What is in force ends with its subset: fails where a width, a scale, a precision or a reference
--- reaches the next one.
+-- Operators are in effect until the end of their subset. The example fails if a width, a scale, a
+-- precision or a redefined reference is still in effect in the next subset.
 changed_after : Tree
 unfolding fxy
 changed_after = element (fxy 0 12 101) (operator (fxy 2 1 132) (operator (fxy 2 2 129) (operator (fxy 2 7 1) (operator (fxy 2 3 10) (element (fxy 0 12 101) (operator (fxy 2 3 255) bare))))))
@@ -53,7 +53,8 @@ changes_end_with_the_subset : two changed_after (112 ∷ 143 ∷ 228 ∷ 28 ∷ 
 unfolding two gives changed_after
 changes_end_with_the_subset = refl
 
--- So does a definition of references: fails where the next subset begins within it.
+-- This includes the redefinition of references. The example fails if references are still being
+-- redefined when the next subset begins.
 defining_after : Tree
 unfolding fxy
 defining_after = element (fxy 0 1 1) (operator (fxy 2 3 10) (element (fxy 0 1 1) bare))
@@ -65,7 +66,7 @@ definitions_end_with_the_subset : two defining_after (21 ∷ 200 ∷ 10 ∷ 228 
 unfolding two gives defining_after
 definitions_end_with_the_subset = refl
 
--- So does a text width: fails where the second text has two octets.
+-- It also includes the width of texts. The example fails if the second text has two octets.
 text_width_after : Tree
 unfolding fxy
 text_width_after = element (fxy 0 31 250) (operator (fxy 2 8 2) bare)
@@ -75,12 +76,13 @@ text_width_ends_with_the_subset : two text_width_after (65 ∷ 66 ∷ [])
 unfolding two gives text_width_after
 text_width_ends_with_the_subset = refl
 
--- The data may end in a later subset: fails where the rest of the first is read as one.
+-- The data may end in a later subset. The example fails if the bit after the first subset is read
+-- as a second one.
 data_end_in_second_subset : two (element (fxy 0 1 1) bare) (20 ∷ []) ≡ gives ((257, shown_number (pos 10) (pos 0)) ∷ []) (done 1 2) ∷ gives [] (field_fault 257 data_end 1 1) ∷ []
 unfolding two gives fxy
 data_end_in_second_subset = refl
 
--- The same by the definition of a reading itself, of all subsets together.
+-- the same data, for the definition that reads all subsets
 data_of_two : List Bool
 unfolding bits_of
 data_of_two = take 52 (bits_of (112 ∷ 143 ∷ 228 ∷ 28 ∷ 35 ∷ 249 ∷ 0 ∷ []))
@@ -130,7 +132,7 @@ reading_of_letters : reading_in (next_item table text_width_after) false 2 (bits
 unfolding table text_width_after letter next_item bits_of
 reading_of_letters = refl
 
--- The turns are those of all subsets: fails where they begin anew.
+-- The turns of all subsets are added up. The example fails if each subset is counted separately.
 turns_of_both : turns_in answer_of (counted_item table changed_after) ((at_288_15 ∷ minus_400 3173 ∷ []) ∷ (at_288_15 ∷ minus_400 3173 ∷ []) ∷ []) ≡ 16
 unfolding table changed_after at_288_15 minus_400 next_item
 turns_of_both = refl

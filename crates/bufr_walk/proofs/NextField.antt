@@ -1,4 +1,4 @@
--- Each field that comes next in a template is a specification, with a descriptor of 16 bits.
+-- Each field that comes next in a legal template has a valid spec and a 16-bit descriptor.
 use Rattle.std.proofs.lemmas.Grind.{common_steps}
 use Rattle.bufr_walk.proofs.SpecLemmas.{text_good, product_small, inserted_width}
 use Rattle.bufr_tables.proofs.TableBLemmas.{row-limits}
@@ -18,7 +18,7 @@ use Rattle.bufr_tables.specs.declared.table_b.Kind.TheVariants as kind
 use Rattle.bufr_walk.specs.declared.spec.Role.TheVariants as role
 use Rattle.bufr_walk.specs.declared.spec.TurnRefusal.TheVariants as refusal
 
--- a row within the limits of its table, and of the numbers that are computed with it
+-- A row is within the limits of Table B, and of the numbers that are computed from it.
 pub record IsRead (row : Row) : Type 0 where
   pub listed : IsRow row
   pub scale : unsigned_abs row.scale ≤ 127
@@ -28,14 +28,14 @@ pub record IsRead (row : Row) : Type 0 where
 abbrev pub AreRead : List Row → Type 0
 AreRead rows = AllByRecursion (λ (row : Row). IsRead row) rows
 
--- a descriptor of 16 bits
+-- A descriptor has 16 bits.
 abbrev IsWord : ℕ → Type 0
 IsWord fxy = fxy < 65536
 
 abbrev pub AreRedefined : List Redefined → Type 0
 AreRedefined more = AllByRecursion (λ (r : Redefined). unsigned_abs r.reference ≤ 2 ^ 63) more
 
--- operands in force are those of legal operators
+-- The operands in effect are those of legal operators.
 pub record IsSettings (s : OperatorModel) : Type 0 where
   pub width_change : s.width_change ≤ 255
   pub scale_change : s.scale_change ≤ 255
@@ -45,7 +45,7 @@ pub record IsSettings (s : OperatorModel) : Type 0 where
   pub local_width : s.local_width ≤ 255
   pub new_references : AreRedefined s.new_references
 
--- each descriptor is one that a template may hold
+-- A template may contain each of these descriptors.
 abbrev pub AreLegal : Turns → Type 0
 AreLegal finish = Unit {0}
 AreLegal open_end = Unit {0}
@@ -55,12 +55,12 @@ AreLegal (factor_turn fxy next) = IsWord fxy × AreLegal next
 AreLegal (element_turn fxy next) = IsWord fxy × AreLegal next
 AreLegal (operator_turn fxy next) = IsWord fxy × (is_legal_operator fxy ≡ true) × AreLegal next
 
--- ---- Each specification of the rules is one.
+-- ---- Each spec that the rules give is valid.
 
 same_ok : (a b : FieldSpec) → ◌≡◌ {A = Result FieldSpec TurnRefusal} (Ok a) (Ok b) → a ≡ b
 same_ok a b e = cc
 
--- sizes of sums and products
+-- bounds on the magnitudes of sums and products
 abs_sum : (a b : ℤ) → unsigned_abs (a +ℤ b) ≤ unsigned_abs a + unsigned_abs b
 abs_sum (pos a) (pos b) = omega arith
 abs_sum (negsuc a) (negsuc b) = omega arith
@@ -78,7 +78,7 @@ reference_small (r ∷ rs) fxy listed h g = by (r.fxy == fxy) h.0 (reference_sma
     by true x y = x
     by false x y = y
 
--- a row that was found is one of the table
+-- If all rows of a table are within the limits, so is each row that is found in it.
 pub row_found : (table : List Row) (fxy : ℕ) (row : Row) → AreRead table → entry_of table fxy ≡ Some row → IsRead row
 row_found [] fxy row h e = absurd cc
 row_found (r ∷ rows) fxy row h e = by (r.fxy == fxy) (λ q. row_found rows fxy row h.1 q) e
@@ -90,7 +90,7 @@ row_found (r ∷ rows) fxy row h e = by (r.fxy == fxy) (λ q. row_found rows fxy
 as_field : (a : FieldSpec) → IsWord a.fxy → IsSpec a → IsField a
 as_field a word spec = record { spec = spec; word = word }
 
--- a width that fits
+-- If the width of a field is accepted, its spec is valid.
 fitted : (a : FieldSpec) (b : FieldSpec) → if_valid_width a ≡ Ok b → IsWord a.fxy → ((1 ≤ a.width) × (a.width ≤ 63) → IsSpec a) → IsField b
 fitted a b e word h = by (nat_le 1 a.width && nat_le a.width 63) refl e
   where
@@ -198,9 +198,9 @@ module _ (table : List Row) (rows : AreRead table) (s : OperatorModel) (set : Is
           let good = row_found table fxy row rows p in
           fitted (factor_field row fxy) spec q word (λ w. record { width = w; role = (refl, refl); missing = tt; scale = omega (arith, good.scale); reference = omega (arith, good.reference) })
 
--- ---- What comes next in a template is a specification.
+-- ---- Each field that comes next in a template is valid.
 
--- operands of legal operators
+-- the bounds on the operands of legal operators
 operand_three : (x y : ℕ) → (x == 3) ≡ true → has_legal_operand x y ≡ true → (y == 255) ≡ false → y ≤ 63
 operand_three x y e h g = by (subst (λ z. has_legal_operand z y ≡ true) (eqb-true x 3 e) h)
   where
@@ -226,7 +226,7 @@ inserted_good s fxy spec x legal word e = by (is_defining s) e
         let is : text_spec role.Inserted fxy (8 * y_of fxy) false ≡ spec = cc in
         subst IsField is (as_field (text_spec role.Inserted fxy (8 * y_of fxy) false) word (text_good role.Inserted fxy (8 * y_of fxy) false (inserted_width fxy legal x) refl))
 
--- the operators in force after an operator, and after a field
+-- The operands in effect are still legal after another operator, and after a field.
 references_good : (s : OperatorModel) (y : ℕ) → IsSettings s → ((y == 255) ≡ false → y ≤ 63) → IsSettings (with_references y s)
 references_good s y set h = by (y == 255) (y == 0) refl
   where
@@ -313,7 +313,7 @@ operator_good s x y set most legal = by (x == 1) (x == 2) (x == 3) (x == 6) (x =
     }
     by false false false false false false p q = set
 
--- the references with one more that was defined
+-- Adding a redefined reference keeps all of them within the limits.
 references_kept : (fxy : ℕ) (reference : ℤ) (known : List Redefined) → unsigned_abs reference ≤ 2 ^ 63 → AreRedefined known → AreRedefined (with_reference fxy reference known)
 references_kept fxy reference [] answers h = (answers, h)
 references_kept fxy reference (r ∷ more) answers h = by (nat_lt fxy r.fxy) (fxy == r.fxy) (references_kept fxy reference more answers h.1)
@@ -353,7 +353,7 @@ field_good s fxy (taken.Reference r) set h = record {
   new_references = references_kept fxy r s.new_references h set.new_references;
 }
 
--- the descriptors of a legal template
+-- The descriptors of a legal template have 16 bits.
 class_word : (fxy k : ℕ) → f_of fxy ≡ k → k < 4 → IsWord fxy
 class_word fxy k e h = omega (arith, e, h)
 
@@ -416,7 +416,7 @@ module _ (table : List Row) (rows : AreRead table) where
   unroll_legal (delayed fxy body more) rest legal g (n ∷ counts) =
       (factor_class fxy legal.0, passes_legal n (unroll body) (unroll more rest) (λ r h c. unroll_legal body r legal.1.0 h c) (unroll_legal more rest legal.1.1 g) counts)
 
--- what comes next on a course is a field
+-- Each field that comes next on this course is valid.
 abbrev pub IsGoodCourse : Course → Type 0
 IsGoodCourse course = (answers : List Taken) (spec : FieldSpec) → AreWithin answers → course answers ≡ take_next spec → IsField spec
 
@@ -425,7 +425,7 @@ unfolding next_item
 next_field table tree rows legal answers spec w e = ahead_good table rows (turns_of tree (counts_of answers)) begin answers spec
     (unroll_legal table rows tree (λ _. finish) legal (λ c. tt) (counts_of answers)) begin_good w e
 
--- ---- The rows of the records of a table are within the limits of a field.
+-- ---- The rows of a table file are within the limits.
 
 passed : {A P : Type 0} (test : Bool) (x y : A) → only_if test x ≡ Some y → (test ≡ true → x ≡ y → P) → P
 passed true x y is go = go refl (cc is)
@@ -483,6 +483,6 @@ rows_read (r ∷ records) (first ∷ table) e =
     others : (o : Option Row) (os : List (Option Row)) (x : Row) (xs : List (Option Row)) → ◌≡◌ {A = List (Option Row)} (o ∷ os) (Some x ∷ xs) → os ≡ xs
     others o os x xs e = cc
 
--- the rows of a table that was read
+-- The rows of a table that was read are within the limits.
 pub table_read : (records : List Record) (table : List Row) → AreRows records table → AreRead table
 table_read records table h = rows_read h.rest table h.rows

@@ -8,9 +8,9 @@ use Rattle.bufr_walk.specs.declared.walker.WalkStop.TheVariants as stops
 use Rattle.bufr_walk.specs.declared.fault.DataFault.TheVariants as wrong
 use Rattle.bufr_walk.proofs.ExampleTables.{fxy, table, done, walk_fault, field_fault, together, gives}
 
--- A base of all ones is missing in all subsets, whatever the increments are, but the increments
--- must be there. Fails where the base is a number, or where an increment past the width is a fault.
--- Fails where the increments are read as the next item, or where they may be absent.
+-- If the base is all ones, the item is missing in all subsets, whatever the increments are, but the
+-- increments must be present. The example fails if the base is read as a number, if an increment
+-- past the width is a fault, if the increments are read as the next item, or if they may be absent.
 -- rule: compressed-all-missing
 base_of_all_ones :
     (together 2 (element (fxy 0 12 101) (element (fxy 0 1 1) bare)) (255 ∷ 255 ∷ 9 ∷ 5 ∷ 0 ∷ [])
@@ -26,8 +26,8 @@ base_of_all_ones_data_end : together 2 (element (fxy 0 12 101) bare) (255 ∷ 25
 unfolding together gives fxy
 base_of_all_ones_data_end = refl
 
--- An increment of all ones is missing before the sum is examined, and may have more bits than the
--- item. Fails where such a sum is a fault, or where the number of bits is.
+-- An increment of all ones means missing, whatever the sum is, even if it has more bits than the
+-- item. The example fails if the sum or the number of bits is a fault.
 -- rule: compressed-missing-increment
 increment_of_all_ones :
     (together 2 (element (fxy 0 1 1) bare) (252 ∷ 17 ∷ 128 ∷ [])
@@ -37,15 +37,15 @@ increment_of_all_ones :
 unfolding together gives fxy
 increment_of_all_ones = (refl, refl)
 
--- The data end where an increment is absent: fails where the increments that are there are at fault
--- first.
+-- If an increment is absent, the data end. The example fails if an invalid increment before it is
+-- reported instead.
 increment_data_end : together 3 (element (fxy 0 1 1) bare) (252 ∷ 20 ∷ [])
     ≡ gives [] (field_fault 257 data_end 16 1)
 unfolding together gives fxy
 increment_data_end = refl
 
--- In class 31 a base, an increment and a sum of all ones are numbers, and a sum past the width is a
--- fault. Fails where one of them is missing, or where the sum wraps.
+-- In class 31, a base, an increment or a sum of all ones is a number, and a sum past the width is a
+-- fault. The example fails if one of these numbers is missing, or if the sum wraps around.
 -- rule: compressed-class-31
 class_31_together :
     (together 2 (element (fxy 0 31 1) (element (fxy 0 31 1) (element (fxy 0 31 1) (element (fxy 0 31 21) bare)))) (255 ∷ 4 ∷ 250 ∷ 11 ∷ 127 ∷ 129 ∷ 127 ∷ 0 ∷ [])
@@ -56,14 +56,14 @@ class_31_together :
 unfolding together gives fxy
 class_31_together = (refl, refl)
 
--- One subset may be compressed too, with an increment of its own: fails where it is read as data
--- that are not compressed.
+-- Data of a single subset may be compressed, too, with an increment for this subset. The example
+-- fails if they are read as plain data.
 one_subset_together : together 1 (element (fxy 0 1 1) bare) (20 ∷ 18 ∷ []) ≡ gives ((257, shown_number (pos 11) (pos 0) ∷ []) ∷ []) (done 1 2)
 unfolding together gives fxy
 one_subset_together = refl
 
--- The operators in force act as on data that are not compressed. Fails where the changes are not in
--- force, or where a text in a definition is read.
+-- Operators have the same effect on compressed data as on plain data. The example fails if a change
+-- is not in effect, or if a text is read while references are being redefined.
 changes_together :
     (together 2 (operator (fxy 2 3 10) (element (fxy 0 5 2) (operator (fxy 2 3 255) (operator (fxy 2 1 130) (operator (fxy 2 2 129) (operator (fxy 2 7 1) (element (fxy 0 5 2) bare)))))))
     (228 ∷ 0 ∷ 0 ∷ 125 ∷ 0 ∷ 76 ∷ [])
@@ -73,8 +73,8 @@ changes_together :
 unfolding together gives fxy
 changes_together = (refl, refl)
 
--- A text has so many octets and then spaces. Fails where it is cut or ends with zeros, where the
--- base begins it, or where the bits are counted in place of the octets.
+-- A text has k octets, followed by spaces. The example fails if the text is cut off or padded with
+-- zeros, if the base is its beginning, or if k counts bits.
 texts_of_one_base : together 2 (operator (fxy 2 5 2) (operator (fxy 2 5 2) bare)) (65 ∷ 66 ∷ 3 ∷ 255 ∷ 252 ∷ 0 ∷ [])
     ≡ gives ((34050, shown_text (65 ∷ 66 ∷ []) ∷ shown_text (65 ∷ 66 ∷ []) ∷ []) ∷ (34050, shown_missing ∷ shown_missing ∷ []) ∷ []) (done 4 3)
 unfolding together gives fxy
@@ -86,9 +86,9 @@ texts_of_one_octet : together 2 (operator (fxy 2 5 2) bare) (88 ∷ 89 ∷ 5 ∷
 unfolding together gives fxy
 texts_of_one_octet = refl
 
--- Octets of 255 alone are missing, and a base is not examined where octets follow it. Fails where a
--- shorter text of 255s is shown, or where as many octets as the item has are a fault. Fails where a
--- base of all ones is missing in all subsets.
+-- A text is missing only if all of its octets are 255. If k is not 0, the base is ignored. The
+-- example fails if a shorter text of 255s is shown, if as many octets as the item has are a fault,
+-- or if a base of all ones makes all subsets missing.
 -- rule: compressed-text-base
 text_of_255 : together 2 (operator (fxy 2 5 2) bare) (255 ∷ 255 ∷ 11 ∷ 255 ∷ 255 ∷ 255 ∷ 248 ∷ [])
     ≡ gives ((34050, shown_missing ∷ shown_text (255 ∷ 254 ∷ []) ∷ []) ∷ []) (done 2 2)
@@ -101,8 +101,8 @@ text_of_255_shorter : together 2 (operator (fxy 2 5 2) bare) (0 ∷ 0 ∷ 7 ∷ 
 unfolding together gives fxy
 text_of_255_shorter = refl
 
--- More octets than the item has are a fault, but the data end first: fails where they are taken, or
--- where the fault comes before the end.
+-- If k exceeds the length of the text, it is a fault, but the end of the data is reported first.
+-- The example fails if the octets are accepted, or if the faults are in the other order.
 -- rule: compressed-text-past-width
 text_octets_over_the_width : together 2 (operator (fxy 2 5 2) bare) (0 ∷ 0 ∷ 12 ∷ 0 ∷ 0 ∷ 0 ∷ 0 ∷ 0 ∷ 0 ∷ [])
     ≡ gives [] (field_fault 34050 increment 72 1)
@@ -115,8 +115,9 @@ text_octets_past_the_data : together 2 (operator (fxy 2 5 2) bare) (0 ∷ 0 ∷ 
 unfolding together gives fxy
 text_octets_past_the_data = refl
 
--- A factor may have increments if all its counts are the same, and one of all ones is a count.
--- Fails where increments are a fault, where the base alone counts, or where all ones is missing.
+-- A factor may have increments if all of its counts are equal, and a count may be all ones. The
+-- example fails if increments are a fault, if the base alone is the count, or if all ones means
+-- missing.
 -- rule: compressed-factors
 factor_with_increments :
     (together 2 (delayed (fxy 0 31 1) (element (fxy 0 1 1) bare) bare) (1 ∷ 12 ∷ 145 ∷ 64 ∷ 11 ∷ 0 ∷ [])
@@ -129,8 +130,8 @@ factor_with_increments :
 unfolding together gives fxy
 factor_with_increments = (refl, refl, refl)
 
--- At a factor too the data end first, and then comes a sum past the width: fails where the counts
--- are compared before.
+-- For a factor, too, the end of the data is reported first, and then a sum past the width. The
+-- example fails if the counts are compared before that.
 factor_data_end : together 2 (delayed (fxy 0 31 1) (element (fxy 0 1 1) bare) bare) (1 ∷ 241 ∷ [])
     ≡ gives [] (field_fault 7937 data_end 16 2)
 unfolding together gives fxy
@@ -142,8 +143,8 @@ factor_past_the_width : together 2 (delayed (fxy 0 31 1) (element (fxy 0 1 1) ba
 unfolding together gives fxy
 factor_past_the_width = refl
 
--- A reference has no increments, and is never missing. Fails where they are read or passed, where
--- the data end is examined before them, or where all ones is missing.
+-- A redefined reference has no increments and is never missing. The example fails if increments are
+-- read or skipped, if the end of the data is reported before them, or if all ones means missing.
 reference_together :
     (together 2 (operator (fxy 2 3 10) (element (fxy 0 12 101) (operator (fxy 2 3 255) (element (fxy 0 12 101) bare)))) (228 ∷ 0 ∷ 112 ∷ 143 ∷ 5 ∷ [])
     ≡ gives ((3173, shown_reference (negsuc 399) ∷ shown_reference (negsuc 399) ∷ []) ∷ (3173, shown_number (pos 28415) (pos 2) ∷ shown_missing ∷ []) ∷ []) (done 0 5))
@@ -156,13 +157,14 @@ reference_together :
 unfolding together gives fxy
 reference_together = (refl, refl, refl, refl)
 
--- the reading of as many subsets as there may be
+-- the reading of data with the largest number of subsets
 abbrev full : Passing Place (List Content) Stop
 full = reading (packed 65535) (would_be_many 65535)
 
--- More than 134217728 values are too many, counted before an item is read and after the faults of
--- the walk. Fails where the data end first, where a refused width or a text in a definition comes
--- later, or where the bound is another.
+-- More than 134,217,728 values are too many. They are counted before an item is read, and after the
+-- walk has accepted it. The example fails if the end of the data is reported first, if a refused
+-- width, or a text while references are being redefined, is reported later, or if the limit is
+-- different.
 -- rule: compressed-fault-order
 too_many_before_the_data_end :
     EndsPass full (next_item table (element (fxy 0 12 101) bare) []) (place_at 2048 []) (Some (stops.Field (wrong.TooManyValues 3173)))
@@ -179,9 +181,9 @@ just_not_too_many :
     × (nat_lt max_values (4096 * 32768 + 1) ≡ true)
 just_not_too_many = (refl, refl)
 
--- ---- Compressed data as they are shown.
+-- ---- How compressed data are shown.
 
--- an item that is the same in two subsets, and one that is not
+-- one item that is the same in both subsets, and one that is not
 abbrev two_items : PackedValues
 two_items = record {
   table = [];
@@ -189,11 +191,12 @@ two_items = record {
   items = record { spec = unsigned_field 257 7; content = number 1 ∷ number 1 ∷ [] } ∷ record { spec = unsigned_field 258 7; content = number 2 ∷ number 3 ∷ [] } ∷ [];
 }
 
--- Fails where an index counts from 1, or where the item before the second index is left out.
+-- The example fails if indices count from 1, or if the item before the second index is left out.
 between_indices : (items_between two_items 1 1 2 ≡ record { spec = unsigned_field 258 7; content = number 3 } ∷ []) × (items_between two_items 1 1 1 ≡ [])
 between_indices = (refl, refl)
 
--- fails where one subset alone decides
+-- The first item is the same in all subsets, the second one is not. The example fails if only one
+-- subset is examined.
 alike_or_not : IsSameInAll two_items 0 × (IsSameInAll two_items 1 → ⊥)
 alike_or_not = (alike, λ h. other (h 1 (omega arith)))
   where
@@ -213,6 +216,6 @@ calls_of_two : (range_calls two_items 1 0 2 ≡ timed 0 (item_call (view 257 Non
     × (packed_calls two_items ≡ timed 0 (subset_call 1) ∷ range_calls two_items 0 0 2 ++ timed 0 (subset_call 2) ∷ range_calls two_items 1 0 2)
 calls_of_two = (refl, refl)
 
--- of no subset nothing is kept, and nothing was read
+-- If there are no subsets, nothing is read or stored.
 packed_of_none : IsPackedOf (packed_values [] [] 0 []) (read_by [] bare (data_in true 0 []) 0 0)
 packed_of_none = record { table = refl; subsets = refl; values = refl }

@@ -1,4 +1,4 @@
--- The contents of an item of compressed data, by its increments.
+-- The contents of an item of compressed data, given its base and its increments.
 use Rattle.std.proofs.lemmas.Grind.{common_steps}
 use Rattle.std.proofs.Common.{◌≡◌, ℕ, zero, suc, ◌+◌, ◌^◌, ◌<◌, ◌≤◌, ◌&&◌, ◌||◌, ◌%◌, Bool, true, false, List, [], ◌∷◌, length, take, drop, refl, sym, ◌∙◌, ap, subst, arith, ◌*◌, map, Option, Some, None, option_map, Result, Ok, Err, ◌-◌, ◌==◌, nat_lt, not, ◌/◌, if◌then◌else◌, replicate, ◌++◌}
 use Rattle.std.specs.Prelude.{is_some, ok_or}
@@ -18,37 +18,38 @@ use Rattle.bufr_walk.proofs.PlainLemmas.{bits_length, ones_by_number, number_cod
 use Rattle.bufr_walk.specs.declared.spec.Role.TheVariants as role
 use Rattle.bufr_walk.specs.declared.spec.Taken.TheVariants as taken
 
--- the greatest number of w bits
+-- The code computes the greatest w-bit number.
 pub all_ones : (w v : ℕ) → w ≡ v → v ≤ 63 → 1 * 2 ^ w % 18446744073709551616 - 1 ≡ 2 ^ v - 1
 all_ones w v e h = omega (arith, shl_whole 1 1 w 64 (omega arith) (omega (arith, h, e))) ∙ ap (λ x. 2 ^ x - 1) e
 
--- the next of some increments
+-- The increments are the first one and those after it.
 pub increments_next : (left left' k at at' : ℕ) (bits : List Bool) → left ≡ suc left' → at' ≡ at + k → increments left k (drop at bits) ≡ take k (drop at bits) ∷ increments left' k (drop at' bits)
 increments_next left left' k at at' bits e f = grind (arith, common_steps, drop-drop)
 
--- the test of all increments goes on after one that passes
+-- If the first increment passes the test, the others decide whether all pass.
 pub passes_next : (p : List Bool → Bool) (left left' k at at' : ℕ) (bits : List Bool) (whole : Bool) → left ≡ suc left' → at' ≡ at + k → whole ≡ list_all p (increments left k (drop at bits))
     → p (take k (drop at bits)) ≡ true → whole ≡ list_all p (increments left' k (drop at' bits))
 passes_next p left left' k at at' bits whole e f h t = grind (arith, common_steps, increments_next)
 
--- and ends at one that fails
+-- If the first increment fails the test, not all of them pass.
 pub fails_next : (p : List Bool → Bool) (left left' k at : ℕ) (bits : List Bool) (whole : Bool) → left ≡ suc left' → whole ≡ list_all p (increments left k (drop at bits))
     → p (take k (drop at bits)) ≡ false → whole ≡ false
 fails_next p left left' k at bits whole e h t = grind (arith, common_steps, increments_next)
 
--- tests of one increment
+-- comparisons of an increment with the first one
 pub is_other : (n first m : ℕ) → n ≡ m → (n ≡ first → ⊥) → (m == first) ≡ false
 is_other n first m e h = let g : m ≡ first → ⊥ = λ x. h (e ∙ x) in ne_eqb m first g
 
 pub is_first : (n first m : ℕ) → n ≡ m → n ≡ first → (m == first) ≡ true
 is_first n first m e h = eq-eqb m first (sym e ∙ h)
 
--- ---- Whether increments are valid.
+-- ---- Which increments are valid.
 
 pub ones_same : (k : ℕ) (i : List Bool) → length i ≡ k → are_all_ones i ≡ (number_of i == ones k)
 ones_same k i h = sym (ap (λ n. number_of i == ones n) (sym h) ∙ are_all_ones-number i)
 
--- by its tests: the base is all ones, the increment is, and their sum exceeds the width
+-- An increment is valid if the number may be missing and the base or the increment is all ones, or
+-- if the sum does not exceed the width.
 valid_by : (m full last past : Bool) (c : Content) → is_some (if m && (full || last) then Some missing else if past then None else Some c) ≡ (full && m || (m && last || not past))
 valid_by true true last past c = refl
 valid_by true false true past c = refl
@@ -68,7 +69,7 @@ stays_here w k m base i low more stays b long l r none is e =
     ∙ ap (λ f. f || (m && (number_of i == ones k) || not (nat_lt (ones w) (number_of base + number_of i)))) none
     ∙ ap (λ x. m && (x == ones k) || not (nat_lt (ones w) (number_of base + x))) (sym r) ∙ ap (λ x. m && (more == ones k) || not (nat_lt (ones w) (x + more))) (sym l) ∙ sym is ∙ e
 
--- all are valid if the base is missing
+-- If the base means missing, all increments are valid.
 pub missing_valid : (w k n : ℕ) (m : Bool) (base suffix : List Bool) → (are_all_ones base && m) ≡ true → are_valid (numbers w m) k n base suffix ≡ true
 missing_valid w k zero m base suffix h = refl
 missing_valid w k (suc n) m base suffix h =
@@ -80,7 +81,7 @@ missing_valid w k (suc n) m base suffix h =
     one false true last o h = absurd cc
     one m false last o h = absurd cc
 
--- or if the greatest fits
+-- If the greatest increment fits, all increments are valid.
 pub all_fit : (w k n : ℕ) (m : Bool) (base suffix : List Bool) → number_of base + ones k ≤ ones w → are_valid (numbers w m) k n base suffix ≡ true
 all_fit w k zero m base suffix h = refl
 all_fit w k (suc n) m base suffix h =
@@ -102,7 +103,7 @@ all_fit w k (suc n) m base suffix h =
     fits false true c e = absurd cc
     fits false false c e = refl
 
--- texts are valid if k fits the width
+-- The increments of a text are valid if k does not exceed its length.
 texts_valid : (octets k n : ℕ) (base suffix : List Bool) → 1 ≤ n → are_valid (texts octets) k n base suffix ≡ not (nat_lt octets k)
 texts_valid octets k n base suffix some = by (nat_lt octets k) (λ i. if are_all_ones i then missing else text (octets_in k i ++ replicate (octets - k) 32)) n suffix some
   where
@@ -115,7 +116,7 @@ texts_valid octets k n base suffix some = by (nat_lt octets k) (λ i. if are_all
     by true f (suc n) suffix some = refl
     by false f (suc n) suffix some = all f n (drop (8 * k) suffix)
 
--- ---- Contents that are there.
+-- ---- All contents are present.
 
 pub some_same : {A : Type 0} (a b : A) → ◌≡◌ {A = Option A} (Some a) (Some b) → a ≡ b
 some_same a b e = cc
@@ -137,7 +138,7 @@ rest_there : (c : Content) (r : Option (List Content)) (os : List (Option Conten
 rest_there c None os cs q e = absurd cc
 rest_there c (Some ds) os cs q e = (c, ds, refl, q, some_same (c ∷ ds) cs e)
 
--- the first of some contents, and those after it
+-- If all contents are present, so are the first one and those after it.
 pub next_there : (o : Option Content) (os : List (Option Content)) (cs : List Content) → all_there (o ∷ os) ≡ Some cs
     → (c : Content) × (ds : List Content) × (o ≡ Some c) × (all_there os ≡ Some ds) × (c ∷ ds ≡ cs)
 next_there None os cs e = absurd cc
@@ -146,14 +147,14 @@ next_there (Some c) os cs e = rest_there c (all_there os) os cs refl e
 pub not_zero : (k : ℕ) → 1 ≤ k → (k == 0) ≡ false
 not_zero k h = grind (arith, nat_tests)
 
--- an item has increments if k is above 0
+-- If k is not 0, each increment gives a content.
 pub varied : (c : Coding) (k n : ℕ) (base suffix : List Bool) → (k == 0) ≡ false → contents_across c k n base suffix ≡ all_there (map (increased c k base) (increments n (step_of c k) suffix))
 varied c k n base suffix some = ap (λ b. if b then Some (replicate n (content_by c base)) else all_there (map (increased c k base) (increments n (step_of c k) suffix))) some
 
 pub copied : (c : Coding) (k n : ℕ) (base suffix : List Bool) → k ≡ 0 → contents_across c k n base suffix ≡ Some (replicate n (content_by c base))
 copied c k n base suffix none = ap (λ j. contents_across c j n base suffix) none
 
--- whether an item with increments has contents
+-- An item with increments has contents if all of its increments are valid.
 each_valid : (c : Coding) (k n : ℕ) (base suffix : List Bool) → (k == 0) ≡ false → is_some (contents_across c k n base suffix) ≡ are_valid c k n base suffix
 each_valid c k n base suffix nonzero = ap is_some (varied c k n base suffix nonzero) ∙ there_all (increased c k base) (increments n (step_of c k) suffix)
 
@@ -167,7 +168,7 @@ pub number_valid : (a : FieldSpec) (k n : ℕ) (base suffix : List Bool) → (k 
 number_valid a k n base suffix nonzero r e =
     ap (λ c. is_some (contents_across c k n base suffix)) (number_coding a e r) ∙ each_valid (numbers a.width a.may_be_missing) k n base suffix nonzero
 
--- a reference has none
+-- A redefined reference with increments has no contents.
 pub reference_none : (a : FieldSpec) (k n : ℕ) (base suffix : List Bool) → (k == 0) ≡ false → 1 ≤ n → a.role ≡ role.Reference → contents_across (coding_of a) k n base suffix ≡ None
 reference_none a k zero base suffix nonzero some e = absurd (omega arith)
 reference_none a k (suc n) base suffix nonzero some e =
@@ -181,7 +182,7 @@ pub is_none : {A : Type 0} (o : Option A) → is_some o ≡ false → o ≡ None
 is_none None e = refl
 is_none (Some a) e = absurd cc
 
--- the contents of some subsets
+-- If there are subsets, there are contents.
 pub some_across : (c : Coding) (k n : ℕ) (base suffix : List Bool) → contents_across c k (suc n) base suffix ≡ Some [] → ⊥
 some_across c k n base suffix e = by (k == 0) e
   where
@@ -219,7 +220,7 @@ copies_equal role.Element c n = refl
 copies_equal role.Inserted c n = refl
 copies_equal role.Reference c n = refl
 
--- contents that pass the test of a factor stay
+-- Contents that pass the test of a factor are unchanged.
 pub equal_is : (r : Role) (cs ds : List Content) → if_equal r cs ≡ Ok ds → cs ≡ ds
 equal_is role.Factor [] ds e = cc
 equal_is role.Factor (c ∷ cs) ds e = by (list_all (same c) cs) e
@@ -231,7 +232,7 @@ equal_is role.Element cs ds e = cc
 equal_is role.Inserted cs ds e = cc
 equal_is role.Reference cs ds e = cc
 
--- numbers that are never missing
+-- If a number cannot be missing, each content is the sum of the base and an increment.
 counts_are : (w base : ℕ) (is : List (List Bool)) (cs : List Content) → all_there (map (λ i. sum_within w false (base + number_of i)) is) ≡ Some cs → cs ≡ map (λ i. number (base + number_of i)) is
 counts_are w base [] cs e = sym (some_same [] cs e)
 counts_are w base (i ∷ is) cs e =
@@ -256,7 +257,7 @@ counts_equal : (base : ℕ) (i : List Bool) (is : List (List Bool))
 counts_equal base i is = ap (λ b. equal_or b (map (λ i. number (base + number_of i)) (i ∷ is)))
     (same_counts base (number_of i) is ∙ sym (ap (λ b. b && list_all (λ x. number_of x == number_of i) is) (is_self (number_of i))))
 
--- the counts of a factor, and what it returns to the walk
+-- The counts of a factor are equal if its increments are, and its answer is the first count.
 pub factor_across : (a : FieldSpec) (k n : ℕ) (base suffix : List Bool) (cs : List Content) (low first : ℕ) → IsSpec a → a.role ≡ role.Factor → (k == 0) ≡ false → 1 ≤ n
     → contents_across (coding_of a) k n base suffix ≡ Some cs → low ≡ number_of base → first ≡ number_of (take k suffix)
     → (if_equal a.role cs ≡ equal_or (list_all (λ i. number_of i == first) (increments n k suffix)) cs) × (taken.Count (low + first) ≡ answer_first a cs)
@@ -275,12 +276,12 @@ factor_across a k (suc n) base suffix cs low first good e nonzero some is l f =
           ∙ ap (answer_first a) (sym are),
     )
 
--- ---- An item of compressed data by its parts.
+-- ---- An item of compressed data, given its parts.
 
 abbrev pub item_by : Role → (ends : Bool) → Option (List Content) → List Bool → Result (FieldRead (List Content)) FieldFault
 item_by r ends contents suffix = if ends then Err data_end else (ok_or contents increment >>= λ x. (if_equal r x >>= λ y. Ok (found y suffix)))
 
--- the parts of an item that is found
+-- If an item is read, its bits are present, and its contents are valid.
 pub item_parts : (r : Role) (ends : Bool) (c : Option (List Content)) (suffix : List Bool) (ds : List Content) (mid : List Bool) → item_by r ends c suffix ≡ Ok (found ds mid)
     → (ends ≡ false) × (c ≡ Some ds) × (if_equal r ds ≡ Ok ds) × (suffix ≡ mid)
 item_parts r true c suffix ds mid e = absurd cc
@@ -299,7 +300,7 @@ item_parts r false (Some cs) suffix ds mid e = by (if_equal r cs) refl e
         let same_contents : cs ≡ ds = equal_is r cs xs is ∙ are in
         (refl, ap Some same_contents, ap (if_equal r) (sym same_contents) ∙ is ∙ ap Ok are, ap (λ (r : FieldRead (List Content)). r.suffix) f)
 
--- an item at a bit, with its contents
+-- The item at this bit is inside the data and has these contents.
 pub record IsAt (bits : List Bool) (at n : ℕ) (a : FieldSpec) (k : ℕ) (cs : List Content) : Type 0 where
   pub within : at + (a.width + 6 + n * step_of (coding_of a) k) ≤ length bits
   pub are : contents_across (coding_of a) k n (take a.width (drop at bits)) (drop (at + (a.width + 6)) bits) ≡ Some cs
@@ -336,11 +337,11 @@ parts bits at n a k h is =
 kept_step : (bits : List Bool) (n : ℕ) (e : IndexedItem) → fits_at bits n e ≡ true → e.step ≡ number_of (take 6 (drop (start_of e + e.spec.width) bits))
 kept_step bits n e h = grind (arith, common_steps, eqb-true, and_first, and_second)
 
--- the base of a kept item that is a number
+-- If a stored item is a number, its entry has the base that is in the bits.
 pub kept_base : (bits : List Bool) (n : ℕ) (e : IndexedItem) → fits_at bits n e ≡ true → is_character e.spec.kind ≡ false → e.base ≡ number_of (take e.spec.width (drop (start_of e) bits))
 kept_base bits n e h k = grind (arith, common_steps, and_second, eqb-true)
 
--- the parts of a kept item
+-- A stored item is inside the data and has valid contents.
 pub kept_parts : (bits : List Bool) (n : ℕ) (e : IndexedItem) → fits_at bits n e ≡ true → IsAt bits (start_of e) n e.spec e.step (contents_found (packed_field n e.spec (drop (start_of e) bits)))
 kept_parts bits n e h =
     parts bits (start_of e) n e.spec e.step (and_first (was_found (packed_field n e.spec (drop (start_of e) bits)))
@@ -351,7 +352,7 @@ kept_parts bits n e h =
 abbrev pub padded_text : (octets k : ℕ) → List Bool → Content
 padded_text octets k bits = if are_all_ones bits then missing else text (octets_in k bits ++ replicate (octets - k) 32)
 
--- the content of one subset, by its increment
+-- The content of each subset is that of its increment.
 at_there : (f : List Bool → Option Content) (n s j : ℕ) (bits : List Bool) (cs : List Content) → j < n → all_there (map f (increments n s bits)) ≡ Some cs
     → f (take s (drop (j * s) bits)) ≡ Some (content_at j cs)
 at_there f zero s j bits cs h e = absurd (omega arith)
@@ -368,14 +369,14 @@ at_there f (suc n) s (suc j) bits cs h e =
     next : (s j : ℕ) → suc j * s ≡ s + j * s
     next s j = omega arith
 
--- the increment of each subset is within that many increments
+-- The increment of a subset ends no later than the last increment.
 pub reaches : (n j s : ℕ) → j < n → (j + 1) * s ≤ n * s
 reaches n j s h = mul-le-mul_right s (omega (arith, h))
 
 pub step_small : (bits : List Bool) (n : ℕ) (e : IndexedItem) → fits_at bits n e ≡ true → e.step ≤ 63
 step_small bits n e h = grind (arith, common_steps, kept_step, number_of-below, pow-le-pow_right, length-take)
 
--- the content of one subset, by the bits of its item
+-- If k is 0, the content of each subset is that of the base.
 pub base_content : (bits : List Bool) (n : ℕ) (e : IndexedItem) (j : ℕ) → fits_at bits n e ≡ true → e.step ≡ 0 → j < n
     → content_kept bits n e j ≡ content_in e.spec (take e.spec.width (drop (start_of e) bits))
 base_content bits n e j h none below =
@@ -391,7 +392,7 @@ base_content bits n e j h none below =
     all (suc n) (suc j) h = all n j (omega arith)
 
 module _ (bits : List Bool) (n : ℕ) (e : IndexedItem) (j : ℕ) (h : fits_at bits n e ≡ true) (some : 1 ≤ e.step) (below : j < n) where
-  -- by its coding
+  -- The increment of this subset is inside the data and gives its content.
   coded : (c : Coding) → coding_of e.spec ≡ c
       → (increased c e.step (take e.spec.width (drop (start_of e) bits)) (take (step_of c e.step) (drop (j * step_of c e.step) (drop (start_of e + (e.spec.width + 6)) bits)))
       ≡ Some (content_kept bits n e j))
@@ -406,7 +407,7 @@ module _ (bits : List Bool) (n : ℕ) (e : IndexedItem) (j : ℕ) (h : fits_at b
         omega (arith, within, reaches n j (step_of c e.step) below),
       )
 
-  -- a reference has no increments
+  -- The item is not a redefined reference, because it has increments.
   no_reference : is_reference e.spec.role ≡ false
   no_reference = by e.spec.role refl
     where
@@ -419,7 +420,7 @@ module _ (bits : List Bool) (n : ℕ) (e : IndexedItem) (j : ℕ) (h : fits_at b
           none : (c : Content) → ◌≡◌ {A = Option Content} None (Some c) → ⊥
           none c e = cc
 
-  -- a number
+  -- the content of a number
   pub number_content : is_character e.spec.kind ≡ false
       → increased (numbers e.spec.width e.spec.may_be_missing) e.step (take e.spec.width (drop (start_of e) bits)) (take e.step (drop (j * e.step) (drop (start_of e + (e.spec.width + 6)) bits)))
       ≡ Some (content_kept bits n e j)
@@ -428,7 +429,7 @@ module _ (bits : List Bool) (n : ℕ) (e : IndexedItem) (j : ℕ) (h : fits_at b
   pub number_within : is_character e.spec.kind ≡ false → start_of e + (e.spec.width + 6) + (j + 1) * e.step ≤ length bits
   number_within c = (coded (numbers e.spec.width e.spec.may_be_missing) (number_coding e.spec c no_reference)).1
 
-  -- a text
+  -- the content of a text
   pub text_content : is_character e.spec.kind ≡ true
       → padded_text (e.spec.width / 8) e.step (take (8 * e.step) (drop (j * (8 * e.step)) (drop (start_of e + (e.spec.width + 6)) bits))) ≡ content_kept bits n e j
   text_content c =
@@ -452,17 +453,19 @@ module _ (bits : List Bool) (n : ℕ) (e : IndexedItem) (j : ℕ) (h : fits_at b
   pub text_within : is_character e.spec.kind ≡ true → start_of e + (e.spec.width + 6) + (j + 1) * (8 * e.step) ≤ length bits
   text_within c = (coded (texts (e.spec.width / 8)) (text_coding e.spec c no_reference)).1
 
--- whether the base of a kept item is all ones, by its number
+-- The stored base of a number is the greatest number of its width if, and only if, its bits are all
+-- ones.
 pub kept_ones : (octets : List ℕ) (n : ℕ) (e : IndexedItem) → fits_at (bits_of octets) n e ≡ true → is_character e.spec.kind ≡ false
     → (e.base == 2 ^ e.spec.width - 1) ≡ are_all_ones (bits_at octets (start_of e) e.spec.width)
 kept_ones octets n e h k = grind (arith, common_steps, kept_parts, ones_by_number, bits_length, kept_base)
 
--- and that number
+-- The stored base is the number in these bits.
 pub kept_number : (octets : List ℕ) (n : ℕ) (e : IndexedItem) → fits_at (bits_of octets) n e ≡ true → is_character e.spec.kind ≡ false
     → (e.base ≡ number_of (bits_at octets (start_of e) e.spec.width)) × (e.base < 2 ^ e.spec.width)
 kept_number octets n e h k = grind (arith, common_steps, kept_base, kept_parts, number_of-below, length-bits_at, bits_length)
 
--- the bits of an increment, at the place that is reached in 64 bits
+-- The number that the code reads, at a bit that it computes in 64 bits, is the increment of the
+-- subset.
 pub increment_at : (octets : List ℕ) (start at w k size j width subset step raw : ℕ) → at ≡ start → width ≡ w → subset ≡ j → step ≡ k → k ≡ size
     → raw ≡ number_of (bits_at octets (at + (width + 6) + subset * step) k)
     → raw ≡ number_of (take size (drop (j * size) (drop (start + (w + 6)) (bits_of octets))))

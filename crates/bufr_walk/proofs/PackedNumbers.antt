@@ -1,4 +1,4 @@
--- The number of one subset of compressed data.
+-- How the code computes the number of one subset of compressed data.
 use Rattle.std.proofs.Common.{◌≡◌, ℕ, ◌+◌, ◌-◌, ◌*◌, ◌^◌, ◌<◌, ◌≤◌, false, Bool, List, length, drop, refl, sym, ◌∙◌, ap, arith, ◌&&◌, true, take, ◌==◌, ◌||◌, nat_lt, if◌then◌else◌, Option, Some, None}
 use Rattle.std.proofs.lemmas.Bool.{eqb-true, ne_eqb}
 use Rattle.bufr_bits.specs.Prelude.{bits_of, number_of, are_all_ones, bits_at}
@@ -9,7 +9,7 @@ use Rattle.bufr_walk.proofs.PackedLemmas.{base_content, kept_base, kept_ones, ke
 use Rattle.bufr_walk.proofs.PlainLemmas.{number_said}
 use Rattle.std.proofs.lemmas.List.{length-take-le, length-drop}
 
--- with no increments it is the base
+-- Without increments, the content is the base, or missing.
 base_content_is : (octets : List ℕ) (n : ℕ) (e : IndexedItem) (j : ℕ) → fits_at (bits_of octets) n e ≡ true → e.step ≡ 0 → j < n → is_character e.spec.kind ≡ false → is_reference e.spec.role ≡ false
     → (b : Bool) → (e.base == 2 ^ e.spec.width - 1) ≡ b → (if b && e.spec.may_be_missing then missing else number e.base) ≡ content_kept (bits_of octets) n e j
 base_content_is octets n e j h none below k r b is =
@@ -37,7 +37,9 @@ base_number octets n e j h none below k r not = by e.spec.may_be_missing refl (e
     by false q true is = sym (ap (λ x. if true && x then missing else number e.base) q) ∙ whole true is
     by false q false is = whole false is
 
--- with an increment: by whether the base is missing, the increment is the last, the sum exceeds the width, and is all ones
+-- The content of a number with an increment. The flags state whether the number may be missing,
+-- whether the base and the increment are all ones, whether the sum exceeds the width, and whether
+-- it is all ones.
 abbrev sum_by : (m full last past whole : Bool) → Content → Option Content
 sum_by m full last past whole x = if m && (full || last) then Some missing else if past then None else Some (if m && whole then missing else x)
 
@@ -108,7 +110,7 @@ module _ (w k b i : ℕ) (m : Bool) (base incr : List Bool) (c : Content) (low :
       differ : (x y : ℕ) → x < y → (x == y) ≡ false
       differ x y h = grind (arith, nat_tests)
 
--- the same of a kept item
+-- the number of a stored item with increments
 module _ (octets : List ℕ) (n : ℕ) (e : IndexedItem) (j i : ℕ) (h : fits_at (bits_of octets) n e ≡ true) (some : 1 ≤ e.step) (below : j < n) (c : is_character e.spec.kind ≡ false)
     (more : i ≡ number_of (take e.step (drop (j * e.step) (drop (start_of e + (e.spec.width + 6)) (bits_of octets))))) where
   abbrev kept_incr : List Bool

@@ -1,4 +1,4 @@
--- A walk over compressed data reads them as the definition does, and keeps its items.
+-- A walk over compressed data reads them as defined, and stores their items.
 use Rattle.bufr_walk.proofs.PassLemmas.{Stops, runs_short}
 use Rattle.bufr_walk.proofs.WalkPass.{Comes, IsStep, stopped_passes, whole_passes, item}
 use Rattle.std.proofs.lemmas.Grind.{common_steps}
@@ -20,25 +20,25 @@ use Rattle.bufr_walk.specs.declared.reading.StoredItems.TheVariants as kept
 use Rattle.bufr_walk.specs.Pass.{DataPass, passes_together, stop_of, left_after, turns_read, reading_of, ReadsData, AnswersReading, EndsPass, reading, read_field, Place, Step, read_pass, Passing, RunsShort}
 use Rattle.bufr_walk.specs.Readers.{place_at, items_by_pass, first_items}
 
--- compressed data were read, each item is kept, and they are not too many
+-- Compressed data were read, their items are stored, and there are not too many values.
 abbrev pub IsReadAndKept : CountedCourse → Data → List IndexedItem → (used steps : ℕ) → Type 0
 IsReadAndKept course d entries used steps =
     ReadsData course d (Ok used) steps × KeepsValues (kept.Together entries) d (reading_of (uncounted course) d).values × (length entries * d.subsets ≤ max_values)
 
--- with no subset nothing is read
+-- If there are no subsets, nothing is read.
 pub none_read : (course : CountedCourse) (bits : List Bool) → IsReadAndKept course (record { compressed = true; subsets = 0; bits = bits }) [] 0 0
 none_read course bits = ((refl, omega arith, refl), (refl, refl), omega arith)
 
 module _ (bits : List Bool) (at n : ℕ) (a : FieldSpec) where
-  -- the k that is read there
+  -- The k that the code reads is that of the item.
   k_here : (k : ℕ) → k ≡ number_of (take 6 (drop (at + a.width) bits)) → number_of (take 6 (drop a.width (drop at bits))) ≡ k
   k_here k is = ap (λ bs. number_of (take 6 bs)) (drop-drop a.width at bits) ∙ sym is
 
-  -- the contents with this k
+  -- the contents of the item, given k
   abbrev across : (k : ℕ) → Option (List Content)
   across k = contents_across (coding_of a) k n (take a.width (drop at bits)) (drop (at + (a.width + 6)) bits)
 
-  -- an item by its parts, with a k that is known
+  -- the item from its parts, given k
   abbrev by_parts : (k : ℕ) (suffix : List Bool) → Result (FieldRead (List Content)) FieldFault
   by_parts k suffix =
       item_by a.role (nat_lt (length (drop at bits)) (a.width + 6) || nat_lt (length suffix) (n * step_of (coding_of a) k)) (contents_across (coding_of a) k n (take a.width (drop at bits)) suffix)
@@ -47,7 +47,7 @@ module _ (bits : List Bool) (at n : ℕ) (a : FieldSpec) where
   field_is : (k : ℕ) → k ≡ number_of (take 6 (drop (at + a.width) bits)) → packed_field n a (drop at bits) ≡ by_parts k (drop (at + (a.width + 6)) bits)
   field_is k is = ap (λ x. by_parts x (drop (a.width + 6) (drop at bits))) (k_here k is) ∙ ap (by_parts k) (drop-drop (a.width + 6) at bits)
 
-  -- an item that the data end in
+  -- The data end before the increments of the item.
   pub ends_first : (f : ℕ) → f ≡ a.fxy → at ≤ length bits → length bits < at + (a.width + 6) → IsUnseen bits at n a (wrong.DataEnd f)
   ends_first f g within short = record {
     why = data_end;
@@ -69,7 +69,7 @@ module _ (bits : List Bool) (at n : ℕ) (a : FieldSpec) where
         fault = ap wrong.DataEnd g;
       }
 
-  -- an item that is there whole
+  -- If all bits of the item are present, only its contents can be invalid.
   whole : (k size : ℕ) → at + size ≤ length bits → k ≡ number_of (take 6 (drop (at + a.width) bits)) → size ≡ a.width + 6 + n * step_of (coding_of a) k
       → packed_field n a (drop at bits) ≡ item_by a.role false (across k) (drop (at + size) bits)
   whole k size within is size_is =
@@ -108,11 +108,11 @@ module _ (bits : List Bool) (at n : ℕ) (a : FieldSpec) where
     fault = ap wrong.UnequalFactor g;
   }
 
--- the bits of an item, part by part
+-- The size of an item depends only on its parts.
 pub size_same : (x w y n z s : ℕ) → x ≡ w → y ≡ n → z ≡ s → x + 6 + y * z ≡ w + 6 + n * s
 size_same x w y n z s e f g = ap (λ t. t + 6 + y * z) e ∙ ap (λ t. w + 6 + t * z) f ∙ ap (λ t. w + 6 + n * t) g
 
--- ---- The items that a reader of compressed data keeps.
+-- ---- The items that a reader of compressed data stores.
 
 pub length-items_at : (bits : List Bool) (n : ℕ) (kept : List IndexedItem) → length (items_at bits n kept) ≡ length kept
 length-items_at bits n [] = refl
@@ -137,7 +137,7 @@ takes_one bits at n kept kept' e seen here few look is = record {
   forth = look.least;
 }
 
--- the reader of a contract, and what it keeps
+-- If the code finds too many values, there are too many.
 too_many_kept : (s : PackedCursor) (bits : List Bool) (at n : ℕ) (kept : List IndexedItem) (len from : ℕ) → s ≡ packed_view bits at n kept → len ≡ length kept → from ≡ n
     → max_values < (len + 1) * from → max_values < (length s.items + 1) * s.subsets
 too_many_kept s bits at n kept len from e f g h = grind (arith, common_steps, length-items_at)
@@ -149,7 +149,7 @@ too_many_here s a bits at n kept len from fxy d e f g h = (d, too_many_kept s bi
 pub few_here : (bits : List Bool) (n : ℕ) (kept : List IndexedItem) (len from : ℕ) → len ≡ length kept → from ≡ n → (len + 1) * from ≤ max_values → (length (items_at bits n kept) + 1) * n ≤ max_values
 few_here bits n kept len from f g few = subst (λ z. z ≤ max_values) (ap (λ l. (l + 1) * from) (f ∙ sym (length-items_at bits n kept)) ∙ ap (λ m. (length (items_at bits n kept) + 1) * m) g) few
 
--- a fault of the item
+-- The call fails because the item is invalid.
 pub fault_here : (s : PackedCursor) (a : FieldSpec) (bits : List Bool) (at n : ℕ) (kept : List IndexedItem) (e : DataFault) → s ≡ packed_view bits at n kept
     → (length (items_at bits n kept) + 1) * n ≤ max_values → IsUnseen bits at n a e → PackedTakes s a (Err e) s
 fault_here s a bits at n kept e view few h = subst (λ x. PackedTakes x a (Err e) x) (sym view)
@@ -160,16 +160,16 @@ fault_here s a bits at n kept e view few h = subst (λ x. PackedTakes x a (Err e
     by increment f = (record { why = increment; field = f; fault = refl }, refl, few)
     by unequal_factor f = (record { why = unequal_factor; field = f; fault = refl }, refl, few)
 
--- no room could be made
+-- The call fails because memory for more items ran out.
 pub no_room : (s : PackedCursor) (a : FieldSpec) (bits : List Bool) (at n : ℕ) (kept kept' : List IndexedItem) (e : DataFault) → packed_view bits at n kept ≡ s → kept' ≡ kept → e ≡ wrong.Memory
     → length kept % items_at_once ≡ 0 → PackedTakes s a (Err e) (packed_view bits at n kept')
 no_room s a bits at n kept kept' e view same is full =
     subst (λ w. PackedTakes s a (Err w) (packed_view bits at n kept')) (sym is)
     (ap (packed_view bits at n) same ∙ view, subst (λ x. length x.items % items_at_once ≡ 0) view (subst (λ l. l % items_at_once ≡ 0) (sym (length-items_at bits n kept)) full))
 
--- ---- A walk over compressed data makes their one pass.
+-- ---- A walk over compressed data makes a single pass.
 
--- the states of the walk and of its pass, after items of at least one bit each
+-- The state of the walk matches that of its pass, after items of at least one bit each.
 pub record IsPackedAt (n : ℕ) (bits : List Bool) (xs : List (Item (List Content))) (s : PackedCursor) (p : Place) : Type 0 where
   pub place : p ≡ place_at (length xs) (remaining_bits s)
   pub items : s.items ≡ xs
@@ -177,7 +177,7 @@ pub record IsPackedAt (n : ℕ) (bits : List Bool) (xs : List (Item (List Conten
   pub subsets : s.subsets ≡ n
   pub pays : length xs ≤ s.at
 
--- the step at a field, by whether one more item would be too many
+-- the step at a field; the flag states whether one more item would be too many
 abbrev step_if : (n : ℕ) → FieldSpec → Place → Bool → Result (Step Place (List Content)) Stop
 step_if n spec p b = if b then Err (stops.Field (wrong.TooManyValues spec.fxy)) else read_field (packed n) spec p.items (packed_field n spec p.left)
 
@@ -210,7 +210,7 @@ packed_follows n bits before s spec t s' p m h = record {
   };
 }
 
--- Why a walk stopped. Memory is allocated for every 64th item.
+-- whether memory is allocated after this number of items: once for every 64 items
 abbrev pub wants : ℕ → Bool
 wants items = items % items_at_once == 0
 
@@ -248,7 +248,7 @@ one_pass (suc n) course bits some = refl
 none_more : (t : ℕ) → t ≡ t + 0
 none_more t = omega arith
 
--- from the first bit on
+-- a walk from the first bit on
 module _ (n : ℕ) (course : CountedCourse) (bits : List Bool) (s : PackedCursor) (first : s ≡ new_packed_in bits n) (some : 1 ≤ n) (s' : PackedCursor) (c c' : ℕ) (zero_first : c ≡ 0)
     (within : s'.at ≤ length s'.bits) where
   abbrev how : Passing Place (List Content) Stop
@@ -270,7 +270,7 @@ module _ (n : ℕ) (course : CountedCourse) (bits : List Bool) (s : PackedCursor
     left_is : s'.at + length g.state.left ≡ length bits
     left_is = omega (arith, within, ap length m.same, ap (λ (p : Place). length p.left) m.place, length-drop s'.at s'.bits)
 
-    -- its pass ends there
+    -- the pass, if it ends after the items of the walk
     module _ (stop : Option Stop) (e : EndsPass how (course (answers_in answer_first g.items)).next g.state stop) where
       passes_are : passes_together (uncounted course) n bits ≡ record { items = g.items; state = g.state; stop = stop } ∷ []
       passes_are = one_pass n (uncounted course) bits some ∙ ap (λ p. p ∷ []) (g.ends (suc (length bits)) stop enough e)
@@ -278,7 +278,7 @@ module _ (n : ℕ) (course : CountedCourse) (bits : List Bool) (s : PackedCursor
       ticks_are : c' ≡ ticked 0 (turns_read course (packed_data n bits))
       ticks_are = ticks ∙ ap (ticked 0) (none_more (course (answers_in answer_first g.items)).turns ∙ sym (ap (λ ps. turns_in answer_first course (items_by_pass ps)) passes_are))
 
-  -- an accepted walk, with the entries that were kept
+  -- If the walk completes, the data were read, and their items are stored.
   pub whole_read : (held : List Bool) (at m : ℕ) (entries : List IndexedItem) → packed_view held at m entries ≡ s' → Walked PackedTakes course s c (Ok tt) s' c'
       → length entries * m ≤ max_values → list_all (fits_at held m) entries ≡ true → IsReadAndKept course (packed_data n bits) entries at c'
   whole_read held at m entries view w few fit =
@@ -304,7 +304,7 @@ module _ (n : ℕ) (course : CountedCourse) (bits : List Bool) (s : PackedCursor
     pub stopped_within : s'.at ≤ length bits
     stopped_within = subst (λ b. s'.at ≤ length b) stopped.1.0.same within
 
-    -- a refused walk
+    -- If the walk stops, the data cannot be read, for the same reason.
     pub walk_stops : (at : ℕ) → at ≡ s'.at → ReadsData course (packed_data n bits) (Err (fault_at why 0 at)) c'
     walk_stops at here = by stopped.0 stopped.1.0 stopped.1.1
       where
@@ -331,14 +331,14 @@ module _ (n : ℕ) (course : CountedCourse) (bits : List Bool) (s : PackedCursor
               ticks g m ∙ ap (ticked 0) (sym (zero_plus (course (answers_in answer_first g.items)).turns)),
             )
 
--- the bound of steps
+-- a bound on the steps of a walk that stopped
 pub few_stopped : (k steps steps' at here all : ℕ) (s : PackedCursor) (bits : List Bool) (n : ℕ) (why : WalkStop DataFault) → s ≡ new_packed_in bits n → steps ≡ 0
     → steps' ≤ steps + k * (at - s.at + 1) → here ≡ at → at ≤ all → steps' ≤ k * (bits_before (fault_at why 0 here) all + 1)
 few_stopped k steps steps' at here all s bits n why first e h u within = grind (arith, common_steps, mul-le-mul_left)
 
 -- ---- The parts of a reading of compressed data.
 
--- each item of compressed data is one of each subset
+-- Each subset has one item for each item of compressed data.
 pub length-items_of : (j : ℕ) (items : List (Item (List Content))) → length (items_of_subset j items) ≡ length items
 length-items_of j [] = refl
 length-items_of j (i ∷ items) = ap suc (length-items_of j items)
@@ -363,7 +363,7 @@ packed_held table template subsets octets used steps entries h few =
           (ap (λ k. k * subsets) (sym (length-items_at (bits_of octets) subsets entries) ∙ ap length h.1.0) ∙ sym (items_apart subsets 0 items)) h.2;
     }
 
--- the compressed data of a message
+-- The data that are read are those of a compressed message.
 pub packed_data_same : (m : Sections) (subsets : ℕ) (octets : List ℕ) → m.compressed ≡ true → subsets ≡ m.subsets → octets ≡ m.payload → data_in true subsets octets ≡ data_of m
 packed_data_same m subsets octets packed e f = grind (arith, common_steps)
 

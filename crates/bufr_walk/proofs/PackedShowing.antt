@@ -1,4 +1,4 @@
--- Compressed data shown from what a reading keeps.
+-- Showing compressed data from the items that a reading has stored.
 use Rattle.std.proofs.lemmas.Grind.{common_steps}
 use Rattle.std.proofs.Common.{◌≡◌, ℕ, ◌+◌, ◌-◌, ◌*◌, ◌<◌, ◌≤◌, Bool, true, false, List, ◌++◌, length, take, drop, replicate, sym, ◌∙◌, ap, arith, zero, suc, get_or, set, length-take-le, Some, ◌==◌, Result, Ok, Err, ◌∷◌, inl, inr, refl, subst, add-one, append_assoc, if◌then◌else◌, ◌/◌, []}
 use Rattle.std.proofs.lemmas.List.{drop-drop, drop_all, get_or-take, take_all, append-nil, take_more_set, replicate-append-replicate}
@@ -17,9 +17,9 @@ use Rattle.bufr_walk.specs.Pass.{values_read, calls_of, turns_shown, reading_in}
 use Rattle.bufr_walk.specs.declared.fault.ShowFault.TheVariants as fault
 use Rattle.bufr_walk.specs.declared.reading.StoredItems.TheVariants as kept
 
--- ---- The texts of the subsets of a kept item, as they are shown.
+-- ---- How the texts of a stored item are shown.
 
--- a text as it is shown
+-- the text that is shown, or missing
 pub missing_text : (spec : FieldSpec) (count k : ℕ) (bits : List Bool) → are_all_ones (take (8 * k) bits) ≡ true → shown_missing ≡ shown spec (padded_text count k (take (8 * k) bits))
 missing_text spec count k bits e = sym (ap (λ b. shown spec (if b then missing else text (octets_in k (take (8 * k) bits) ++ replicate (count - k) 32))) e)
 
@@ -27,7 +27,7 @@ pub whole_text : (spec : FieldSpec) (count k : ℕ) (bits : List Bool) (octets :
     → shown_text octets ≡ shown spec (padded_text count k (take (8 * k) bits))
 whole_text spec count k bits octets e is = grind (arith, common_steps, octets_prefix)
 
--- the text at its place
+-- The text at this bit is the content of the subset.
 pub span_text : (bits : List Bool) (n : ℕ) (e : IndexedItem) (j place : ℕ) → fits_at bits n e ≡ true → 1 ≤ e.step → j < n → is_character e.spec.kind ≡ true
     → place ≡ start_of e + (e.spec.width + 6) + j * (8 * e.step)
     → padded_text (e.spec.width / 8) e.step (take (8 * e.step) (drop place bits)) ≡ content_kept bits n e j
@@ -39,11 +39,11 @@ pub span_within : (octets : List ℕ) (n : ℕ) (e : IndexedItem) (j : ℕ) → 
     → start_of e + (e.spec.width + 6) + (j + 1) * (8 * e.step) ≤ 8 * length octets
 span_within octets n e j h some below c = omega (arith, text_within (bits_of octets) n e j h some below c, bits_length octets)
 
--- an item is within the bits
+-- The base of a stored item is inside the data.
 pub base_within : (octets : List ℕ) (n : ℕ) (e : IndexedItem) → fits_at (bits_of octets) n e ≡ true → start_of e + e.spec.width ≤ 8 * length octets
 base_within octets n e h = let p = kept_parts (bits_of octets) n e h in omega (arith, p.within, bits_length octets)
 
--- ---- Calls that show compressed data, joined.
+-- ---- Successive calls that show compressed data.
 
 module _ {S E : Type 0} (sees : S → Call → Result (Unit {0}) E → S → Type 0) where
   pub all_on : (s : S) (a b : List Timed) (s1 : S) (turns : ℕ) (r : Result (Unit {0}) (ShowFault E)) (s' : S) (steps : ℕ) → Shows sees s a 0 (Ok tt) s1 0 → Shows sees s1 b turns r s' steps
@@ -52,11 +52,11 @@ module _ {S E : Type 0} (sees : S → Call → Result (Unit {0}) E → S → Typ
   all_on s (t ∷ a) b s1 turns (Ok u) s' steps h w = (h.0, h.1, all_on h.0 a b s1 turns (Ok u) s' steps h.2 w)
   all_on s (t ∷ a) b s1 turns (Err e) s' steps h w = inr (h.0, h.1, all_on h.0 a b s1 turns (Err e) s' steps h.2 w)
 
-  -- several calls
+  -- If the calls in `a` were made, those in `b` are next.
   pub sofar_all : (s s1 : S) (a b : List Timed) → Shows sees s a 0 (Ok tt) s1 0 → Sofar sees s (a ++ b) s1 b
   sofar_all s s1 a b h = record { on = λ turns r s' steps w. all_on s a b s1 turns r s' steps h w }
 
-  -- several calls, the last of them refused
+  -- If a call in `a` is refused, the calls in `b` are not made.
   pub shows_before : (s s1 : S) (a b : List Timed) (e : ShowFault E) → Shows sees s a 0 (Err e) s1 0 → Shows sees s (a ++ b) 0 (Err e) s1 0
   shows_before s s1 [] b e h = absurd h
   shows_before s s1 (t ∷ a) b e h = elim h as (λ _. Shows sees s (t ∷ a ++ b) 0 (Err e) s1 0) [ inl x ↦ inl x | inr y ↦ inr (y.0, y.1, shows_before y.0 s1 a b e y.2) ]
@@ -69,15 +69,15 @@ pub no_turns_in : (subsets : List (List (Item Content))) → turns_in answer_of 
 no_turns_in [] = refl
 no_turns_in (items ∷ subsets) = omega (arith, no_turns items, no_turns_in subsets)
 
--- the next of some items
+-- The items from an index on are the item at the index and those after it.
 next_entry : {X : Type 0} (xs : List X) (i : ℕ) (x : X) → i < length xs → get_or xs i x ≡ x → drop i xs ≡ x ∷ drop (i + 1) xs
 next_entry xs i x h e = drop-cons xs i x h ∙ ap (λ y. y ∷ drop (suc i) xs) e ∙ ap (λ j. x ∷ drop j xs) (sym (add-one i))
 
--- the next of those before an index
+-- the same for items before a second index
 next_between : {X : Type 0} (xs : List X) (i to : ℕ) (x : X) → i < to → to ≤ length xs → x ≡ get_or xs i x → drop i (take to xs) ≡ x ∷ drop (i + 1) (take to xs)
 next_between xs i to x below within e = next_entry (take to xs) i x (omega (arith, below, length-take-le to xs within)) (get_or-take to xs i x below ∙ sym e)
 
--- the entries from an index on fit, and that of the index
+-- If all entries fit, so do those from an index on, and so does the entry at the index.
 pub fit_from : (bits : List Bool) (n i : ℕ) (kept : List IndexedItem) → list_all (fits_at bits n) kept ≡ true → list_all (fits_at bits n) (drop i kept) ≡ true
 fit_from bits n zero [] w = w
 fit_from bits n zero (k ∷ kept) w = w
@@ -88,7 +88,7 @@ pub fit_here : (bits : List Bool) (n : ℕ) (kept : List IndexedItem) (i : ℕ) 
     → fits_at bits n k ≡ true
 fit_here bits n kept i k h e w = and_first (fits_at bits n k) (list_all (fits_at bits n) (drop (i + 1) kept)) (subst (λ ks. list_all (fits_at bits n) ks ≡ true) (next_entry kept i k h (sym e)) w)
 
--- there is an entry at an index, and its item is at that index
+-- There is an entry at each index, and its item is at the same index of the items.
 pub item_there : (kept : List IndexedItem) (i : ℕ) → i < length kept → (k : IndexedItem) × (k ≡ get_or kept i k)
 item_there [] i h = absurd (omega (arith, h))
 item_there (k ∷ kept) zero h = (k, refl)
@@ -104,11 +104,11 @@ pub length-items_at : (bits : List Bool) (n : ℕ) (entries : List IndexedItem) 
 length-items_at bits n [] = refl
 length-items_at bits n (e ∷ entries) = ap suc (length-items_at bits n entries)
 
--- an item of each entry
+-- There is an entry for each item.
 pub entry_there : (table : List Row) (bits : List Bool) (n : ℕ) (kept : List IndexedItem) (p : PackedValues) (i : ℕ) → packed_values table bits n kept ≡ p → i < length p.items → i < length kept
 entry_there table bits n kept p i e h = omega (arith, length-items_at bits n kept, ap (λ q. length q.items) e, h)
 
--- an item without increments has one content in all subsets
+-- An item without increments is the same in all subsets.
 pub alike_entry : (bits : List Bool) (n : ℕ) (kept : List IndexedItem) (i j : ℕ) (k : IndexedItem) → list_all (fits_at bits n) kept ≡ true → i < length kept → k ≡ get_or kept i k → k.step ≡ 0
     → j < n → items_of_subset j (drop i (take (i + 1) (items_at bits n kept))) ≡ items_of_subset 0 (drop i (take (i + 1) (items_at bits n kept)))
 alike_entry bits n kept i j k fit h e none below =
@@ -120,7 +120,7 @@ alike_entry bits n kept i j k fit h e none below =
     let same : content_kept bits n k j ≡ content_kept bits n k 0 = base_content bits n k j fits none below ∙ sym (base_content bits n k 0 fits none (omega (arith, below))) in
     ap (items_of_subset j) is ∙ ap (λ c. items_of_subset 0 (record { spec = k.spec; content = c ∷ [] } ∷ [])) same ∙ ap (items_of_subset 0) (sym is)
 
--- an entry that was found has the descriptor that was looked for
+-- The row that is found for a descriptor has this descriptor.
 pub entry_fxy : (rows : List Row) (fxy : ℕ) (row : Row) → Some row ≡ entry_of rows fxy → row.fxy ≡ fxy
 entry_fxy [] fxy row e = absurd cc
 entry_fxy (r ∷ rows) fxy row e = by (r.fxy == fxy) refl e (entry_fxy rows fxy row)
@@ -129,7 +129,7 @@ entry_fxy (r ∷ rows) fxy row e = by (r.fxy == fxy) refl e (entry_fxy rows fxy 
     by true is e more = let same : row ≡ r = cc in ap (λ x. x.fxy) same ∙ eqb-true r.fxy fxy is
     by false is e more = more e
 
--- spaces after a text
+-- the spaces after a text: none, or one more
 pub pad_none : (xs : List ℕ) (n : ℕ) → xs ≡ xs ++ replicate (n - n) 32
 pad_none xs n = let none : 0 ≡ n - n = omega arith in sym (append-nil xs) ∙ ap (λ k. xs ++ replicate k 32) none
 
@@ -141,18 +141,19 @@ pad_more octets prefix place from h order e =
     take_more_set octets place 32 h ∙ ap (λ xs. xs ++ 32 ∷ []) e ∙ append_assoc prefix (replicate (place - from) 32) (32 ∷ [])
     ∙ ap (λ xs. prefix ++ xs) (replicate-append-replicate (place - from) 1 32 ∙ ap (λ n. replicate n 32) more)
 
--- ---- Subsets of compressed data that are shown one after another.
+-- ---- Showing the subsets of compressed data.
 
 module _ {S E : Type 0} (sees : S → Call → Result (Unit {0}) E → S → Type 0) (p : PackedValues) (j to : ℕ) where
-  -- the call of one subset for an item
+  -- the call that shows an item in this subset
   abbrev pub call_of_item : Item (List Content) → Call
   call_of_item item = item_call (view_of p.table item.spec (content_at j item.content))
 
-  -- the calls from an index on are those for its item and from the next on
+  -- The calls from an index on are the call for the item at the index and those from the next index
+  -- on.
   next_calls : (i : ℕ) (item : Item (List Content)) → i < to → to ≤ length p.items → item ≡ get_or p.items i item → range_calls p j i to ≡ timed 0 (call_of_item item) ∷ range_calls p j (i + 1) to
   next_calls i item below within e = ap (λ items. item_calls p.table 0 without_turns (items_of_subset j items)) (next_between p.items i to item below within e)
 
-  -- one item more
+  -- One more item was shown.
   pub items_go : (s s1 s2 : S) (from i : ℕ) (item : Item (List Content)) → i < to → to ≤ length p.items → item ≡ get_or p.items i item
       → Sofar sees s (range_calls p j from to) s1 (range_calls p j i to)
       → sees s1 (call_of_item item) (Ok tt) s2 → Sofar sees s (range_calls p j from to) s2 (range_calls p j (i + 1) to)
@@ -161,7 +162,7 @@ module _ {S E : Type 0} (sees : S → Call → Result (Unit {0}) E → S → Typ
       subst (Sofar sees s (range_calls p j from to) s1) (next_calls i item below within e) so in
       sofar_then sees s s1 s2 _ _ _ so_far (sofar_call sees s1 s2 (timed 0 (call_of_item item)) (range_calls p j (i + 1) to) call)
 
-  -- an item whose call is refused
+  -- The visitor refused an item.
   pub items_end : (s s1 s2 : S) (from i : ℕ) (item : Item (List Content)) (f : E) → i < to → to ≤ length p.items → item ≡ get_or p.items i item
       → Sofar sees s (range_calls p j from to) s1 (range_calls p j i to) → sees s1 (call_of_item item) (Err f) s2 → Shows sees s (range_calls p j from to) 0 (Err (fault.Visitor f)) s2 0
   items_end s s1 s2 from i item f below within e so call =
@@ -169,7 +170,7 @@ module _ {S E : Type 0} (sees : S → Call → Result (Unit {0}) E → S → Typ
       subst (Sofar sees s (range_calls p j from to) s1) (next_calls i item below within e) so in
       so_far.on 0 (Err (fault.Visitor f)) s2 0 (inl (call, refl))
 
-  -- no item is left
+  -- All items were shown.
   pub items_done : (s s1 : S) (from i : ℕ) → to ≤ i → to ≤ length p.items → Sofar sees s (range_calls p j from to) s1 (range_calls p j i to) → Shows sees s (range_calls p j from to) 0 (Ok tt) s1 0
   items_done s s1 from i end within so =
       let none : drop i (take to p.items) ≡ [] = drop_all i (take to p.items) (omega (arith, end, length-take-le to p.items within)) in
@@ -177,7 +178,7 @@ module _ {S E : Type 0} (sees : S → Call → Result (Unit {0}) E → S → Typ
       so in
       so_far.on 0 (Ok tt) s1 0 (refl, refl)
 
--- the same of the entries that are kept
+-- the same for the items of stored entries
 module _ {S E : Type 0} (sees : S → Call → Result (Unit {0}) E → S → Type 0) (table : List Row) (bits : List Bool) (n : ℕ) (kept : List IndexedItem) (p : PackedValues) (j to from i : ℕ)
     (s s1 s2 : S) where
   abbrev Goes : Result (Unit {0}) E → PackedValues → Type 0
@@ -202,7 +203,7 @@ module _ {S E : Type 0} (sees : S → Call → Result (Unit {0}) E → S → Typ
       by (Ok x) call w z = items_go sees (packed_values table bits n kept) j to s s1 s2 from i (item_at bits n there.0) below w at z (call there.0 there.1)
       by (Err f) call w z = items_end sees (packed_values table bits n kept) j to s s1 s2 from i (item_at bits n there.0) f below w at z (call there.0 there.1)
 
--- all items of a subset
+-- The calls for all items of a subset are those from index 0 to the last index.
 pub range_of_all : (p : PackedValues) (j : ℕ) → range_calls p j 0 (length p.items) ≡ item_calls p.table 0 without_turns (items_of_subset j p.items)
 range_of_all p j = ap (λ items. item_calls p.table 0 without_turns (items_of_subset j items)) (from_first (take (length p.items) p.items) ∙ take_all (length p.items) p.items (omega arith))
   where
@@ -211,15 +212,15 @@ range_of_all p j = ap (λ items. item_calls p.table 0 without_turns (items_of_su
     from_first (item ∷ items) = refl
 
 module _ {S E : Type 0} (sees : S → Call → Result (Unit {0}) E → S → Type 0) (p : PackedValues) where
-  -- the calls of a subset
+  -- the calls for one subset
   abbrev pub subset_at : ℕ → List Timed
   subset_at j = timed 0 (subset_call (j + 1)) ∷ range_calls p j 0 (length p.items)
 
-  -- the calls of so many subsets, from one on
+  -- the calls for the next `left` subsets, from subset `j` on
   abbrev calls_on : (left j number : ℕ) → List Timed
   calls_on left j number = subset_calls p.table without_turns 0 number (subsets_from left j p.items)
 
-  -- the calls from a subset on
+  -- the calls for all subsets from `j` on
   abbrev pub subsets_left : ℕ → List Timed
   subsets_left j = calls_on (p.subsets - j) j (j + 1)
 
@@ -238,7 +239,7 @@ module _ {S E : Type 0} (sees : S → Call → Result (Unit {0}) E → S → Typ
       ∙ ap (λ turns. subset_at j ++ subset_calls p.table without_turns turns (j + 1 + 1) (subsets_from (p.subsets - (j + 1)) (suc j) p.items)) none
       ∙ ap (λ k. subset_at j ++ calls_on (p.subsets - (j + 1)) k (j + 1 + 1)) next
 
-  -- one subset more
+  -- One more subset was shown.
   pub subsets_go : (s s1 s2 : S) (j : ℕ) → j < p.subsets → Sofar sees s (packed_calls p) s1 (subsets_left j) → Shows sees s1 (subset_at j) 0 (Ok tt) s2 0
       → Sofar sees s (packed_calls p) s2 (subsets_left (j + 1))
   subsets_go s s1 s2 j h so shows =
@@ -257,9 +258,9 @@ module _ {S E : Type 0} (sees : S → Call → Result (Unit {0}) E → S → Typ
       let so_far : Sofar sees s (packed_calls p) s1 [] = subst (Sofar sees s (packed_calls p) s1) (ap (λ left. calls_on left j (j + 1)) none) so in
       so_far.on 0 (Ok tt) s1 0 (refl, refl)
 
--- ---- What a reading keeps, as its users see it.
+-- ---- What a reading stores, as its users see it.
 
--- the entries that are kept are at their locations
+-- There is a valid item at the location of each stored entry.
 pub entries_fit : (r : Read) (entries : List IndexedItem) → IsStoredReading r (kept.Together entries) → list_all (fits_at r.source.bits r.source.subsets) entries ≡ true
 entries_fit r entries h = by (values_read r) h.keeps
   where
@@ -267,7 +268,7 @@ entries_fit r entries h = by (values_read r) h.keeps
     by (apart xs) k = absurd k
     by (together xs) k = k.1
 
--- their items are those that were read
+-- The items at these locations are those that were read.
 pub packed_of : (r : Read) (entries : List IndexedItem) → IsStoredReading r (kept.Together entries)
     → IsPackedOf (packed_values r.table r.source.bits r.source.subsets entries) r
 packed_of r entries h = record { table = refl; subsets = refl; values = by (values_read r) h.keeps }
@@ -276,7 +277,7 @@ packed_of r entries h = record { table = refl; subsets = refl; values = by (valu
     by (apart xs) k = absurd k
     by (together xs) k = ap together (sym k.0)
 
--- entries are kept of compressed data alone
+-- whether entries are stored, which is so for compressed data only
 abbrev are_together : StoredItems → Bool
 are_together kept.Apart = false
 are_together (kept.Together entries) = true
@@ -290,7 +291,7 @@ compressed_kept r k h = by k r.source.compressed h.keeps
     by (kept.Together entries) false w = absurd w
     by (kept.Together entries) true w = refl
 
--- the calls that show a reading of compressed data
+-- If compressed data were shown from the stored items, the reading was shown.
 pub packed_shown : {V E : Type 0} (sees : V → Call → Result (Unit {0}) E → V → Type 0) (p : PackedValues) (r : Read) (v v' : V) (result : Result (Unit {0}) (ShowFault E)) (steps : ℕ) → IsPackedOf p r
     → steps ≡ 0 → Shows sees v (packed_calls p) 0 result v' 0 → Shows sees v (calls_of r) (turns_shown r) result v' steps
 packed_shown sees p r v v' result steps h are shows =
@@ -300,7 +301,7 @@ packed_shown sees p r v v' result steps h are shows =
     subst (λ n. Shows sees v (calls_of r) (turns_shown r) result v' n) (sym are)
     (subst (λ n. Shows sees v (calls_of r) n result v' 0) turns (subst (λ cs. Shows sees v cs 0 result v' 0) calls shows))
 
--- each item of compressed data is kept, and nothing of other data
+-- All items of compressed data are stored, and none of plain data.
 pub all_kept : (r : Read) (k : StoredItems) → IsStoredReading r k → held_of k ≡ items_kept (values_read r)
 all_kept r k h = by k (values_read r) h.keeps
   where

@@ -1,4 +1,4 @@
--- A pass over data reads each item where the one before ended.
+-- A pass over data reads each item where the previous one ended.
 use Rattle.bufr_walk.proofs.WalkPass.{Passes, passes_none, passes_one, pass_ends, Comes}
 use Rattle.std.proofs.lemmas.Bool.{ltb-false, le-ltb}
 use Rattle.std.proofs.Common.{◌≡◌, ℕ, zero, suc, ◌+◌, ◌<◌, ◌≤◌, Bool, true, false, List, ◌∷◌, length, Option, Some, None, Result, Ok, Err, ◌*◌, refl, sym, ◌∙◌, ap, subst, arith, drop, length-drop, if◌then◌else◌, [], ◌⊎◌, ◌++◌}
@@ -27,7 +27,7 @@ abbrev pub passed : {C : Type 0} → List (Item C) → List Bool → DataPass C
 passed items left = record { items = items; state = place_at (0 + length items) left; stop = None }
 
 module _ {C : Type 0} (form : DataCoding C) (many : ℕ → Bool) where
-  -- items that are read are those of the pass, up to what comes next
+  -- If these items are read, a pass begins with them.
   reads_pass : (course : Course) (from : ℕ) (bits : List Bool) (items : List (Item C)) (left : List Bool) → ReadsItems form course items bits left
       → ((j : ℕ) → j < length items → many (from + j) ≡ false)
       → Passes (reading form many) (answers_in form.gives items) course (place_at from bits) items (place_at (from + length items) left)
@@ -42,13 +42,13 @@ module _ {C : Type 0} (form : DataCoding C) (many : ℕ → Bool) where
       (subst (λ k. Passes (reading form many) (answers_in form.gives xs) (after form course x) (place_at (from + 1) h.0) xs (place_at k left)) (one_more from (length xs))
       (reads_pass (after form course x) (from + 1) h.0 xs left h.3 (λ j l. ap many (one_more from j) ∙ few (suc j) (omega (arith, l)))))
 
--- ---- A pass reads each item where the one before ended.
+-- ---- A pass reads each item where the previous one ended.
 
--- a field that is read takes bits of the data
+-- Each field that is read takes at least one bit.
 abbrev pub GoesForth : {C : Type 0} → DataCoding C → Type 0
 GoesForth {C} form = (spec : FieldSpec) (bits : List Bool) (c : C) (mid : List Bool) → 1 ≤ spec.width → form.field spec bits ≡ Ok (found c mid) → Forth form spec bits c mid
 
--- bits after some others
+-- `left` contains the last of these bits.
 abbrev IsSuffix : (bits left : List Bool) → Type 0
 IsSuffix bits left = (used : ℕ) × (used ≤ length bits) × (left ≡ drop used bits)
 
@@ -56,7 +56,8 @@ suffix_then : (a : ℕ) (bits mid left : List Bool) → a ≤ length bits → mi
 suffix_then a bits mid left within e (used, few, is) = (a + used, omega (arith, within, few, ap length e, length-drop a bits), is ∙ ap (drop used) e ∙ drop-drop used a bits)
 
 module _ {C : Type 0} (form : DataCoding C) (many : ℕ → Bool) where
-  -- what holds of a pass over bits, with so many items before
+  -- A pass over these bits, after `from` items, reads each of its items where the previous one
+  -- ended, and the bits after them are the last ones.
   abbrev ReadsSo : Course → ℕ → List Bool → Pass Place C Stop → Type 0
   ReadsSo course from bits p = ReadsTo form many course (place_at from bits) p × IsSuffix bits p.state.left
 
@@ -121,7 +122,7 @@ module _ {C : Type 0} (form : DataCoding C) (many : ℕ → Bool) where
       by (refused why) e go = at_once (refused why) e (Some (stop_by why)) refl
       by (take_next spec) e go = at_field spec e (many from) refl (form.field spec bits) refl go
 
--- a pass over data that does not stop comes to the end of the template
+-- A pass that does not stop reaches the end of the template.
 pub pass_at_end : {C : Type 0} (form : DataCoding C) (many : ℕ → Bool) (most : ℕ) (course : Course) (p : Place) → (pass (reading form many) most course p).stop ≡ None
     → course (answers_in form.gives (pass (reading form many) most course p).items) ≡ at_end
 pass_at_end form many zero course p h = absurd cc
@@ -145,7 +146,7 @@ pass_at_end {C} form many (suc most) course p h = by (course []) refl (λ t q. p
     by (refused why) e again h = absurd cc
     by (take_next spec) e again h = at_field spec (many p.items) (form.field spec p.left) again h
 
--- the next of passes that do not stop, and those after it
+-- If none of the passes stops, the next one does not stop, and those after it do not.
 pub next_pass : (course : Course) (n left : ℕ) (bits : List Bool) → n ≡ suc left → stop_of (passes_apart course n bits) ≡ None
     → (let p = read_pass plain (λ items. false) course bits in
     (p.stop ≡ None) × (passes_apart course n bits ≡ p ∷ passes_apart course left p.state.left) × (stop_of (passes_apart course left p.state.left) ≡ None))
@@ -161,15 +162,15 @@ next_pass course n left bits one h =
     by None e h = (e, h)
     by (Some why) e h = absurd cc
 
--- ---- Why a walk that reads stops.
+-- ---- Why a walk that reads data stops.
 
 module _ {C : Type 0} (form : DataCoding C) (many wants : ℕ → Bool) where
-  -- its pass stops for the same reason, or memory ran out before the next field
+  -- The pass stops for the same reason, or memory ran out before the next field.
   abbrev pub Stops : List (Item C) → Place → Next → Stop → Type 0
   Stops items p next why = EndsPass (reading form many) next p (Some why)
       ⊎ ((spec : FieldSpec) × (next ≡ take_next spec) × ((wants (length items) ≡ true) ⊎ (spec.role ≡ role.Reference)) × ((subset at : ℕ) → fault_at why subset at ≡ fault.Memory))
 
-  -- memory ran out in the pass that follows some others
+  -- Memory ran out in the pass after `done`.
   pub runs_short : (course : CountedCourse) (bits : List Bool) (steps steps' : ℕ) (g : Comes (reading form many) form.gives course (place_at 0 bits) steps steps') → length g.items < suc (length bits)
       → (done later : List (DataPass C)) (spec : FieldSpec) → (course (answers_in form.gives g.items)).next ≡ take_next spec → (wants (length g.items) ≡ true) ⊎ (spec.role ≡ role.Reference)
       → RunsShort form wants course (done ++ read_pass form many (uncounted course) bits ∷ later) (turns_in form.gives course (items_by_pass done) + (course (answers_in form.gives g.items)).turns)
@@ -189,19 +190,19 @@ module _ {C : Type 0} (form : DataCoding C) (many wants : ℕ → Bool) where
         turns_are = refl;
       }
 
--- so few items that one more is not too many
+-- If the number of items is not too large, nor is any smaller number.
 pub few_values : (n items j : ℕ) → items * n ≤ max_values → j < items → would_be_many n (0 + j) ≡ false
 few_values n items j h lt = grind (arith, common_steps, le-ltb)
 
--- and back
+-- the converse
 pub few_all : (n items : ℕ) → ((j : ℕ) → j < items → would_be_many n (0 + j) ≡ false) → items * n ≤ max_values
 few_all n zero h = omega arith
 few_all n (suc k) h = grind (arith, ltb-false max_values ((0 + k + 1) * n) (h k (omega arith)))
 
--- ---- A pass over data of a legal template, both ways.
+-- ---- The pass over data of a legal template is the only one that reads them.
 
 module _ {C : Type 0} (form : DataCoding C) (forth : GoesForth form) where
-  -- items take at least a bit each
+  -- There are at most as many items as bits, because each item takes at least one bit.
   fits : (n : ℕ) (course : Course) (items : List (Item C)) (bits left : List Bool) → IsSane n course → length items ≤ n → ReadsItems form course items bits left → length items ≤ length bits
   fits n course [] bits left sane few h = omega arith
   fits zero course (x ∷ xs) bits left sane few h = absurd (omega (arith, few))
@@ -221,7 +222,7 @@ module _ {C : Type 0} (form : DataCoding C) (forth : GoesForth form) where
     pub pass_reads : ReadsSo form many course 0 bits (read_pass form many course bits)
     pass_reads = pass_so form many forth (suc (length bits)) course 0 bits (sane (suc (length bits))) (omega arith)
 
-    -- no other pass reads so
+    -- Any pass that reads the data in this way is the one that is defined.
     pub pass_only : (p : DataPass C) → ReadsTo form many course (place_at 0 bits) p → read_pass form many course bits ≡ p
     pass_only p h =
         let answers = answers_in form.gives p.items in
@@ -231,7 +232,7 @@ module _ {C : Type 0} (form : DataCoding C) (forth : GoesForth form) where
         (omega (arith, fits (length p.items) course p.items bits p.state.left (sane (length p.items)) (omega arith) h.reads))
         p.stop h.ends
 
-    -- items that are read to the end of the template are those of the pass
+    -- If items are read up to the end of the template, they are the items of the pass.
     pub pass_whole : (items : List (Item C)) (left : List Bool) → ReadsItems form course items bits left → ((j : ℕ) → j < length items → many (0 + j) ≡ false)
         → course (answers_in form.gives items) ≡ at_end → read_pass form many course bits ≡ passed items left
     pass_whole items left reads few end = pass_only (passed items left) (record {

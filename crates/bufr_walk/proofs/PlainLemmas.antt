@@ -1,4 +1,4 @@
--- Fields and texts read from bits, and the readings that a walk over them makes.
+-- Fields and texts that are read from bits, and readings of plain data.
 use Rattle.std.proofs.lemmas.Grind.{common_steps}
 use Rattle.std.proofs.Common.{◌≡◌, ℕ, suc, ◌+◌, ◌-◌, ◌*◌, ◌^◌, ◌<◌, ◌≤◌, Bool, true, false, List, ◌∷◌, length, take, drop, Ok, Err, refl, sym, ◌∙◌, ap, subst, arith, ℤ, pos, neg_ℤ, zero, ◌/◌, ◌%◌, ◌++◌, set, add-one, ◌==◌, nat_lt, if◌then◌else◌, slice_index, slice_range, Option, Some, None, option_map, SomeIff, IfSome, []}
 use Rattle.std.proofs.lemmas.Bool.{le-ltb, lt-ltb}
@@ -57,7 +57,7 @@ text_coding a e h = by a.role a.kind e h
     by r kind.Coded e h = absurd cc
     by r kind.Numeric e h = absurd cc
 
--- a number, a text and a reference
+-- the content of a number, a text, and a redefined reference
 pub number_said : (a : FieldSpec) (bits : List Bool) → is_character a.kind ≡ false → is_reference a.role ≡ false
     → content_in a bits ≡ (if are_all_ones bits && a.may_be_missing then missing else number (number_of bits))
 number_said a bits e h = ap (λ c. content_by c bits) (number_coding a e h)
@@ -79,7 +79,7 @@ never : (b : Bool) → (b && false) ≡ false
 never true = refl
 never false = refl
 
--- a factor is a number
+-- The answer of a factor is its number.
 pub answer_factor : (a : FieldSpec) (bits : List Bool) (n : ℕ) → IsSpec a → a.role ≡ role.Factor → n ≡ number_of bits → taken.Count n ≡ answer_of a (content_in a bits)
 answer_factor a bits n h e is =
     let has : HasRole role.Factor a.kind a.may_be_missing = subst (λ r. HasRole r a.kind a.may_be_missing) e h.role in
@@ -91,7 +91,7 @@ pub answer_reference : (a : FieldSpec) (bits : List Bool) (z : ℤ) → a.role �
 answer_reference a bits z e is =
     ap taken.Reference is ∙ ap (λ x. taken.Reference (reference_in x)) (sym (reference_said a bits e)) ∙ ap (λ r. answer_by_role r (content_in a bits)) (sym e)
 
--- a sign and a size
+-- A redefined reference is read as a sign and a magnitude.
 pub signed_parts : (octets : List ℕ) (at width k sign size : ℕ) → width ≡ suc k → at + width ≤ 8 * length octets → sign ≡ number_of (bits_at octets at 1)
     → size ≡ number_of (bits_at octets (at + 1) k) → (if sign == 1 then neg_ℤ (pos size) else pos size) ≡ signed_by (bits_at octets at width)
 signed_parts octets at width k sign size w within s z =
@@ -109,7 +109,7 @@ signed_parts octets at width k sign size w within s z =
 pub small_power : (k n : ℕ) → k ≤ 62 → n < 2 ^ k → n < 2 ^ 62
 small_power k n h g = let p : 2 ^ k ≤ 2 ^ 62 = pow-le-pow_right {n = 2} (omega arith) h in omega (arith, p, g)
 
--- a field that is there
+-- If all bits of a field are present, it is read.
 pub taken_here : (s : Cursor) (octets : List ℕ) (spec : FieldSpec) (t : Taken) → s.bits ≡ bits_of octets → IsSpec spec → s.at + spec.width ≤ 8 * length octets
     → t ≡ answer_of spec (content_in spec (bits_at octets s.at spec.width)) → IsTaken s spec t (past s spec)
 taken_here s octets spec t e h within is = record {
@@ -132,13 +132,13 @@ ends_here s octets spec e short within = grind (arith, common_steps, nat_lt, lt-
 pub bits_length : (octets : List ℕ) → length (bits_of octets) ≡ 8 * length octets
 bits_length octets = length-bits_of octets
 
--- bits are all ones where their number is the greatest of their width
+-- Bits are all ones if, and only if, their number is the greatest one of their width.
 pub ones_by_number : (octets : List ℕ) (at width raw : ℕ) → at + width ≤ 8 * length octets → raw ≡ number_of (bits_at octets at width) → (raw == 2 ^ width - 1) ≡ are_all_ones (bits_at octets at width)
 ones_by_number octets at width raw within is = grind (arith, common_steps, length-bits_at, are_all_ones-number)
 
--- ---- Octets read from bits, and texts.
+-- ---- Octets and texts that are read from bits.
 
--- octets that are read one by one
+-- The first n + 1 octets are the first n octets and the next one.
 octets_next : (n : ℕ) (bits : List Bool) → octets_in (suc n) bits ≡ octets_in n bits ++ number_of (take 8 (drop (8 * n) bits)) ∷ []
 octets_next zero bits = refl
 octets_next (suc n) bits =
@@ -155,7 +155,7 @@ pub octet_put : (bits : List Bool) (at i octet : ℕ) (kept : List ℕ) → i < 
     → take (i + 1) (set kept i octet) ≡ octets_in (i + 1) (drop at bits)
 octet_put bits at i octet kept h so is = grind (arith, common_steps, take_more_set, drop-drop, octets_more)
 
--- an octet of a word of 32 bits
+-- The four octets of a 32-bit word are the next four octets of the bits.
 pub octet_of_word : (bits : List Bool) (at i j word octet : ℕ) → at + 8 * (i + 4) ≤ length bits → j ≤ 3 → word ≡ number_of (take 32 (drop (at + 8 * i) bits)) → octet ≡ word / 2 ^ (24 - 8 * j) % 2 ^ 8
     → octet ≡ number_of (take 8 (drop (at + 8 * (i + j)) bits))
 octet_of_word bits at i j word octet h few e is =
@@ -175,7 +175,7 @@ octet_of_word bits at i j word octet h few e is =
     ∙ ap number_of (take-take 8 (32 - 8 * j) (drop (8 * j) rest) (omega arith))
     ∙ ap (λ ys. number_of (take 8 ys)) (drop-drop (8 * j) from bits ∙ ap (λ k. drop k bits) there)
 
--- the four octets of a word
+-- The four octets of a word are stored after those before them.
 pub four_put : (bits : List Bool) (at i word a b c d : ℕ) (kept : List ℕ) → i + 4 ≤ length kept → at + 8 * (i + 4) ≤ length bits → take i kept ≡ octets_in i (drop at bits)
     → word ≡ number_of (take 32 (drop (at + 8 * i) bits)) → a ≡ word / 2 ^ 24 % 2 ^ 8 → b ≡ word / 2 ^ 16 % 2 ^ 8 → c ≡ word / 2 ^ 8 % 2 ^ 8 → d ≡ word / 2 ^ 0 % 2 ^ 8
     → take (i + 4) (set (set (set (set kept i a) (i + 1) b) (i + 2) c) (i + 3) d) ≡ octets_in (i + 4) (drop at bits)
@@ -212,20 +212,20 @@ octets_prefix (suc n) bits =
     eight : (n : ℕ) → 8 * suc n ≡ 8 + 8 * n
     eight n = omega arith
 
--- the octets of a field of whole octets
+-- If a field consists of whole octets, the bits after it do not affect them.
 pub text_prefix : (spec : FieldSpec) (bits : List Bool) → spec.width % 8 ≡ 0 → octets_in (spec.width / 8) (take spec.width bits) ≡ octets_in (spec.width / 8) bits
 text_prefix spec bits e = ap (λ w. octets_in (spec.width / 8) (take w bits)) (whole spec.width e) ∙ octets_prefix (spec.width / 8) bits
   where
     whole : (w : ℕ) → w % 8 ≡ 0 → w ≡ 8 * (w / 8)
     whole w e = omega arith
 
--- the octets of the bits of octets
+-- The octets that are read from the bits of octets are these octets.
 octets_of_bits : (xs : List ℕ) → ((k : ℕ) → slice_index xs k < 256) → octets_in (length xs) (bits_of xs) ≡ xs
 unfolding bits_of
 octets_of_bits [] h = refl
 octets_of_bits (x ∷ xs) h = two _ _ _ _ (number-bits_of_octet x (h 0)) (octets_of_bits xs (λ k. h (suc k)))
 
--- octets that begin with an octet's first bit are those octets
+-- If a text begins with the first bit of an octet, it is a slice of the octets.
 pub borrowed : (octets : List ℕ) (at count : ℕ) (xs : List ℕ) → at % 8 ≡ 0 → at + 8 * count ≤ 8 * length octets → xs ≡ slice_range octets (at / 8) (at / 8 + count)
     → ((k : ℕ) → slice_index xs k < 256) → xs ≡ octets_in count (drop at (bits_of octets))
 borrowed octets at count xs whole within is small =
@@ -246,7 +246,7 @@ borrowed_some now (Some s) octets want at count h small e = borrowed octets at c
 
 -- ---- The parts of a reading.
 
--- the bits that are used are no more than a message may have
+-- The bits that were read are no more than a message may have.
 pub used_most : (octets : List ℕ) (used : ℕ) → length octets < 2 ^ 24 → used ≤ length (bits_of octets) → used ≤ max_values
 used_most octets used h w = omega (arith, h, w, bits_length octets)
 
@@ -257,7 +257,7 @@ pub plain_held : (table : List Row) (template : Tree) (subsets : ℕ) (octets : 
 plain_held table template subsets octets used steps short h pays =
     record { none = h.0; keeps = tt; few = omega arith; pays = pays; most = omega (arith, pays, used_most octets used short (omega (arith, h.1))) }
 
--- the data of a message that are not compressed
+-- The data that are read are those of a plain message.
 pub same_data : (m : Sections) (subsets : ℕ) (octets : List ℕ) → m.compressed ≡ false → subsets ≡ m.subsets → octets ≡ m.payload → data_in false subsets octets ≡ data_of m
 same_data m subsets octets plain e f = grind (arith, common_steps)
 
@@ -266,7 +266,7 @@ pub plain_is : (table : List Row) (template : Tree) (m : Sections) (subsets : �
     → AnswersReading table template (data_of m) (Ok (read_by table template (data_in false subsets octets) used 0)) steps
 plain_is table template m subsets octets used steps e h = (refl, refl, e, subst (λ d. ReadsData (counted_item table template) d (Ok used) steps) e h)
 
--- data that are not compressed were read before, and can be shown
+-- No pass over plain data stops if the data were read before.
 pub readable_of : (r : Read) → IsStoredReading r kept.Apart → stop_of (passes_apart (course_of r) r.source.subsets r.source.bits) ≡ None
 readable_of r h = by r.source.compressed h.none h.keeps
   where

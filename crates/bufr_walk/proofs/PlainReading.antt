@@ -1,4 +1,4 @@
--- Data that are not compressed: one walk for each subset, which makes the pass of that subset.
+-- Plain data: a walk over each subset makes the pass over this subset.
 use Rattle.bufr_walk.proofs.PassLemmas.{Stops, runs_short}
 use Rattle.std.proofs.Common.{◌≡◌, ℕ, ◌+◌, ◌-◌, ◌*◌, ◌<◌, ◌≤◌, List, ◌∷◌, ◌++◌, Bool, false, length, if◌then◌else◌, Option, Some, None, option_map, Ok, Err, suc, inl, inr, refl, sym, ◌∙◌, ap, subst, arith, length-append, length-drop, append_assoc, []}
 use Rattle.std.proofs.lemmas.Grind.{common_steps}
@@ -18,11 +18,12 @@ ticked_more a b = grind (arith, common_steps)
 
 -- ---- One subset.
 
--- how the pass of a subset reads
+-- how the pass over a subset reads
 abbrev pub how : Passing Place Content Stop
 how = reading plain (λ n. false)
 
--- the states of a walk that began at `first` and of its pass, after items of at least one bit each
+-- The state of a walk that began at `first` matches that of its pass, after items of at least one
+-- bit each.
 pub record IsAt (first : Cursor) (items : List (Item Content)) (s : Cursor) (p : Place) : Type 0 where
   pub place : p ≡ place_at (length items) (rest_of s)
   pub same : s.bits ≡ first.bits
@@ -31,7 +32,7 @@ pub record IsAt (first : Cursor) (items : List (Item Content)) (s : Cursor) (p :
 pub at_first : (s : Cursor) → IsAt s [] s (place_at 0 (rest_of s))
 at_first s = record { place = refl; same = refl; pays = omega arith }
 
--- the step at a field
+-- The step at a field reads it from the remaining bits.
 pub step_there : (first : Cursor) (items : List (Item Content)) (s : Cursor) (spec : FieldSpec) (p : Place) → IsAt first items s p
     → how.step spec p ≡ read_field plain spec (length items) (plain_field spec (rest_of s))
 step_there first items s spec p m = ap (λ (q : Place). read_field plain spec q.items (plain_field spec q.left)) m.place
@@ -51,7 +52,7 @@ plain_follows first before s spec t s' p m h = let w = plain_forth spec (rest_of
   };
 }
 
--- why a walk stopped
+-- The walk stopped for this reason, and its state matches that of its pass.
 abbrev pub Fails : Cursor → List (Item Content) → Place → Next → WalkStop DataFault → Cursor → Type 0
 Fails first items p next why s' = IsAt first items s' p × Stops plain (λ n. false) (λ n. false) items p next why
 
@@ -63,7 +64,7 @@ plain_fails first items s p spec e s' m h = (
 )
 
 module _ (course : CountedCourse) (s : Cursor) (c : ℕ) (s' : Cursor) (c' : ℕ) where
-  -- what a walk over a subset has done so far
+  -- the progress of a walk over a subset
   abbrev pub Goes : Type 0
   Goes = Comes how answer_of course (place_at 0 (rest_of s)) c c'
 
@@ -74,11 +75,11 @@ module _ (course : CountedCourse) (s : Cursor) (c : ℕ) (s' : Cursor) (c' : ℕ
   stopped = stopped_passes PlainTakes how answer_of (IsAt s) (plain_follows s) course s c s' c' (place_at 0 (rest_of s)) (at_first s) (Fails s) (plain_fails s)
       (λ items x p spec m h. (m, inr (spec, refl, inr h, λ subset at. refl))) (λ items x p y m. (m, inl refl))
 
--- ---- Subsets that are read one after another.
+-- ---- Successive subsets.
 
--- `count` subsets were read, in at most n turns a bit
+-- The first `count` subsets were read, in at most n turns for each bit.
 pub record SubsetsRead (n : ℕ) (course : CountedCourse) (bits : List Bool) (count : ℕ) (s : Cursor) (steps : ℕ) : Type 0 where
-  -- the passes that read them, and those that follow
+  -- the passes that read them; the passes over more subsets begin with these
   pub passes : List (DataPass Content)
   pub goes : (more : ℕ) → passes_apart (uncounted course) (count + more) bits ≡ passes ++ passes_apart (uncounted course) more (rest_of s)
   pub count_is : length passes ≡ count
@@ -90,7 +91,7 @@ pub record SubsetsRead (n : ℕ) (course : CountedCourse) (bits : List Bool) (co
   pub few : steps ≤ n * s.at
   pub pays : items_in (items_by_pass passes) ≤ s.at
 
--- passes one after another
+-- If the first passes do not stop, those after them decide.
 stop_append : (a b : List (DataPass Content)) → stop_of a ≡ None → stop_of (a ++ b) ≡ stop_of b
 stop_append [] b e = refl
 stop_append (p ∷ a) b e = by p.stop e (λ z. stop_append a b z)
@@ -112,7 +113,7 @@ items_append : (a : List (DataPass Content)) (p : DataPass Content) → items_in
 items_append [] p = omega arith
 items_append (q ∷ a) p = omega (arith, items_append a p)
 
--- nothing was read yet
+-- At first, no subset was read.
 pub none_yet : (n : ℕ) (course : CountedCourse) (bits : List Bool) (s : Cursor) (steps : ℕ) → s ≡ record { bits = bits; at = 0 } → steps ≡ 0 → SubsetsRead n course bits 0 s steps
 none_yet n course bits s steps e z = record {
   passes = [];
@@ -141,7 +142,7 @@ split n a d b e = ap (λ x. n * x) e ∙ grind arith
 
 module _ (n : ℕ) (course : CountedCourse) (bits : List Bool) (i : ℕ) (s s' : Cursor) (c c' : ℕ) (h : SubsetsRead n course bits i s c) (within : s'.at ≤ length s'.bits) where
   module _ (g : Goes course s c s' c') (m : IsAt s g.items s' g.state) where
-    -- the bits are the same, and each item took one
+    -- The bits are unchanged, and each item took at least one.
     same : s'.bits ≡ bits
     same = m.same ∙ h.same
 
@@ -151,19 +152,19 @@ module _ (n : ℕ) (course : CountedCourse) (bits : List Bool) (i : ℕ) (s s' :
     enough : length g.items < suc (length (rest_of s))
     enough = omega (arith, m.pays)
 
-    -- the turns up to where the walk has come
+    -- The steps are the turns of all passes so far.
     ticks_are : c' ≡ ticked 0 (turns_in answer_of course (items_by_pass h.passes) + (course (answers_in answer_of g.items)).turns)
     ticks_are = g.ticks ∙ ap (λ x. ticked x (course (answers_in answer_of g.items)).turns) h.ticks
         ∙ ticked_more (turns_in answer_of course (items_by_pass h.passes)) (course (answers_in answer_of g.items)).turns
 
-    -- the pass of the walk, where this ends it
+    -- the pass over this subset, with the reason why it stopped, if any
     abbrev pass : Option Stop → DataPass Content
     pass stop = record { items = g.items; state = g.state; stop = stop }
 
     left_is : (stop : Option Stop) → left_after bits (h.passes ++ pass stop ∷ []) ≡ rest_of s'
     left_is stop = left_append bits h.passes (pass stop ∷ []) ∙ ap (λ (p : Place). p.left) m.place
 
-  -- one subset more
+  -- One more subset was read.
   pub one_more : Walked PlainTakes course s c (Ok tt) s' c' → c' ≤ c + n * (s'.at - s.at) → SubsetsRead n course bits (i + 1) s' c'
   one_more w few =
       let e = ended course s c s' c' w in
@@ -193,7 +194,7 @@ module _ (n : ℕ) (course : CountedCourse) (bits : List Bool) (i : ℕ) (s s' :
       sums : (n a b c c' : ℕ) → c ≤ n * a → c' ≤ c + n * (b - a) → a ≤ b → c' ≤ n * b
       sums n a b c c' h g f = let e : n * b ≡ n * a + n * (b - a) = split n a (b - a) b (omega (arith, f)) in omega (arith, e, h, g)
 
-  -- the turns up to a fault
+  -- a bound on the turns up to a fault
   pub few_stopped : (subset : ℕ) (why : WalkStop DataFault) → Walked PlainTakes course s c (Err why) s' c' → c' ≤ c + n * (s'.at - s.at + 1)
       → c' ≤ n * (bits_before (fault_at why subset s'.at) (length bits) + 1)
   few_stopped subset why w few =
@@ -242,7 +243,7 @@ module _ (n : ℕ) (course : CountedCourse) (octets : List ℕ) (total i : ℕ) 
     pub all_paid : PaysBits (reading_of (uncounted course) (data_in false total octets)).values s.at
     all_paid = subst (λ (ps : List (DataPass Content)). items_in (items_by_pass ps) ≤ s.at) (sym are_all) h.pays
 
-  -- a walk that stopped in one subset
+  -- If the walk over one subset stops, the data cannot be read, for the same reason.
   pub stopped_there : (s s' : Cursor) (c c' : ℕ) (why : WalkStop DataFault) → SubsetsRead n course (bits_of octets) i s c → s'.at ≤ length s'.bits → i < total
       → Walked PlainTakes course s c (Err why) s' c' → ReadsData course (data_in false total octets) (Err (fault_at why (i + 1) s'.at)) c'
   stopped_there s s' c c' why h within more w = let e = stopped course s c s' c' why w in by e.0 e.1.0 e.1.1

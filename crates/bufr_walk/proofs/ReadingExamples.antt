@@ -9,7 +9,7 @@ use Rattle.bufr_tables.specs.declared.table_b.Kind.TheVariants as kind
 use Rattle.bufr_walk.specs.declared.spec.TurnRefusal.TheVariants as refusal
 use Rattle.bufr_walk.specs.declared.spec.Role.TheVariants as role
 
--- Two contents are the same if they are of one kind and have the same value.
+-- Two contents are the same if they have the same kind and the same value.
 contents_compared : map (λ c. same c (number 2)) (number 2 ∷ number 3 ∷ missing ∷ []) ≡ true ∷ false ∷ false ∷ []
 contents_compared = refl
 
@@ -39,7 +39,7 @@ delayed_twice :
 unfolding one gives delayed_blocks
 delayed_twice = (refl, refl)
 
--- the data end at bit 22 of 24
+-- The data end at bit 22 of 24.
 -- rule: field-past-end
 delayed_past_the_end : one delayed_blocks (255 ∷ 20 ∷ 44 ∷ []) ≡ gives ((7937, shown_number (pos 255) (pos 0)) ∷ (257, shown_number (pos 10) (pos 0)) ∷ (257, shown_number (pos 11) (pos 0)) ∷ [])
     (field_fault 257 data_end 2 7)
@@ -163,14 +163,15 @@ each_from_the_beginning : reading_in (next_item table widened_again) false 2 (bi
 unfolding table widened_again as_quantity at_288_15 next_item bits_of
 each_from_the_beginning = refl
 
--- a given width holds for one descriptor
+-- A width that 2 06 Y gives applies to one descriptor only.
 -- rule: 2-06-y-used-up
 given_width_is_used_up : one (operator (fxy 2 6 12) (element (fxy 0 63 255) (element (fxy 0 1 1) bare))) (15 ∷ 81 ∷ 64 ∷ [])
     ≡ gives ((16383, shown_number (pos 245) (pos 0)) ∷ (257, shown_number (pos 10) (pos 0)) ∷ []) (done 5 4)
 unfolding one gives fxy
 given_width_is_used_up = refl
 
--- figures take a redefined reference as it is, and no other change; 2 03 000 drops it
+-- A redefined reference applies to an element of a code table, but no other change does. 2 03 000
+-- cancels it.
 -- rule: new-reference-of-figures
 figures_take_a_reference : one
     (operator (fxy 2 7 1) (operator (fxy 2 1 132) (operator (fxy 2 3 10) (element (fxy 0 20 3) (operator (fxy 2 3 255) (element (fxy 0 20 3) (operator (fxy 2 3 0) (element (fxy 0 20 3) bare))))))))
@@ -178,60 +179,60 @@ figures_take_a_reference : one
 unfolding one gives fxy
 figures_take_a_reference = refl
 
--- figures of class 31 are never missing
+-- An element of a code table in class 31 is never missing.
 -- rule: class-31-never-missing
 figures_never_missing : one (operator (fxy 2 1 132) (element (fxy 0 31 21) bare)) (252 ∷ []) ≡ gives ((7957, shown_number (pos 63) (pos 0)) ∷ []) (done 2 3)
 unfolding one gives fxy
 figures_never_missing = refl
 
--- an inserted text of all ones is missing
+-- An inserted text of all ones is missing.
 -- rule: missing-inserted-text
 inserted_missing : one (operator (fxy 2 5 1) bare) (255 ∷ []) ≡ gives ((34049, shown_missing) ∷ []) (done 0 2)
 unfolding one gives fxy
 inserted_missing = refl
 
--- a base of all ones: all are missing, and the increments are passed
+-- If the base is all ones, all subsets are missing, and the increments are skipped.
 base_missing : together 2 (element (fxy 0 1 1) bare) (254 ∷ 16 ∷ 128 ∷ []) ≡ gives ((257, shown_missing ∷ shown_missing ∷ []) ∷ []) (done 7 2)
 unfolding together gives fxy
 base_missing = refl
 
--- for class 31 it is a number
+-- In class 31, a base of all ones is a number.
 base_never_missing : together 2 (element (fxy 0 31 21) bare) (252 ∷ 16 ∷ []) ≡ gives ((7957, shown_number (pos 63) (pos 0) ∷ shown_number (pos 63) (pos 0) ∷ []) ∷ []) (done 2 2)
 unfolding together gives fxy
 base_never_missing = refl
 
--- so is an increment of all ones
+-- In class 31, an increment of all ones is a number, too.
 increment_never_missing : together 2 (element (fxy 0 31 21) bare) (20 ∷ 44 ∷ []) ≡ gives ((7957, shown_number (pos 8) (pos 0) ∷ shown_number (pos 5) (pos 0) ∷ []) ∷ []) (done 0 2)
 unfolding together gives fxy
 increment_never_missing = refl
 
--- and a sum of all ones
+-- In class 31, a sum of all ones is a number, too.
 sum_never_missing : together 2 (element (fxy 0 31 21) bare) (248 ∷ 36 ∷ []) ≡ gives ((7957, shown_number (pos 63) (pos 0) ∷ shown_number (pos 62) (pos 0) ∷ []) ∷ []) (done 0 2)
 unfolding together gives fxy
 sum_never_missing = refl
 
--- but not a sum past the width
+-- In class 31, a sum past the width is still a fault.
 sum_past_the_width : together 2 (element (fxy 0 31 21) bare) (248 ∷ 40 ∷ []) ≡ gives [] (field_fault 7957 increment 16 1)
 unfolding together gives fxy
 sum_past_the_width = refl
 
--- more octets than a text has
+-- The value of k exceeds the length of the text.
 octets_past_the_text : together 2 (operator (fxy 2 5 1) bare) (0 ∷ 8 ∷ 0 ∷ 0 ∷ 0 ∷ 0 ∷ []) ≡ gives [] (field_fault 34049 increment 48 1)
 unfolding together gives fxy
 octets_past_the_text = refl
 
--- the data end first
+-- The end of the data is reported first.
 octets_past_the_end : together 2 (operator (fxy 2 5 1) bare) (0 ∷ 8 ∷ []) ≡ gives [] (field_fault 34049 data_end 16 1)
 unfolding together gives fxy
 octets_past_the_end = refl
 
--- a factor may have increments where all are equal
+-- A factor may have increments if all of its counts are equal.
 factor_with_increments : together 2 delayed_blocks (1 ∷ 4 ∷ 20 ∷ 0 ∷ [])
     ≡ gives ((7937, shown_number (pos 1) (pos 0) ∷ shown_number (pos 1) (pos 0) ∷ []) ∷ (257, shown_number (pos 10) (pos 0) ∷ shown_number (pos 10) (pos 0) ∷ []) ∷ []) (done 3 5)
 unfolding together gives delayed_blocks
 factor_with_increments = refl
 
--- a redefined reference has none
+-- A redefined reference is the same in all subsets.
 -- rule: compressed-equal
 reference_together : together 2 (operator (fxy 2 3 10) (element (fxy 0 12 101) bare)) (228 ∷ 0 ∷ []) ≡ gives ((3173, shown_reference (negsuc 399) ∷ shown_reference (negsuc 399) ∷ []) ∷ []) (done 0 3)
 unfolding together gives fxy
@@ -244,35 +245,36 @@ reference_with_increments = refl
 
 -- ---- Worked examples of texts (2 05, 2 08), computed from the definitions.
 
--- A text of 255s alone is missing, one of the template too: fails where it is shown.
+-- A text is missing only if all of its octets are 255, even if 2 05 Y inserts it. The example fails
+-- if such a text is shown.
 text_missing : one (operator (fxy 2 8 2) (element (fxy 0 1 15) (operator (fxy 2 5 2) (operator (fxy 2 5 2) bare)))) (255 ∷ 255 ∷ 255 ∷ 255 ∷ 255 ∷ 254 ∷ [])
     ≡ gives ((271, shown_missing) ∷ (34050, shown_missing) ∷ (34050, shown_text (255 ∷ 254 ∷ [])) ∷ []) (done 0 5)
 unfolding one gives fxy
 text_missing = refl
 
--- A text of class 31 may be missing: fails where the class makes it a text of 255.
+-- A text of class 31 may be missing. The example fails if its class makes it a text of 255.
 -- rule: class-31-never-missing
 text_of_class_31 : one (element (fxy 0 31 250) bare) (255 ∷ [])
     ≡ gives ((8186, shown_missing) ∷ []) (done 0 2)
 unfolding one gives fxy
 text_of_class_31 = refl
 
--- Texts keep their width: fails where a change of width or precision reaches a text of Table B, of
--- the template, or of a changed text width.
+-- Texts are not affected by changes of width or precision. The example fails if such a change
+-- affects a text of Table B, an inserted text, or a text after 2 08 Y.
 texts_unchanged : one (operator (fxy 2 1 136) (operator (fxy 2 2 129) (operator (fxy 2 7 1) (element (fxy 0 31 250) (operator (fxy 2 5 1) (operator (fxy 2 8 1) (element (fxy 0 1 15) bare)))))))
     (65 ∷ 66 ∷ 67 ∷ [])
     ≡ gives ((8186, shown_text (65 ∷ [])) ∷ (34049, shown_text (66 ∷ [])) ∷ (271, shown_text (67 ∷ [])) ∷ []) (done 0 8)
 unfolding one gives fxy
 texts_unchanged = refl
 
--- A text of the template has its own width: fails where 2 08 reaches it.
+-- An inserted text has its own width. The example fails if 2 08 Y affects it.
 inserted_width_alone : one (operator (fxy 2 8 3) (operator (fxy 2 5 2) bare)) (65 ∷ 66 ∷ [])
     ≡ gives ((34050, shown_text (65 ∷ 66 ∷ [])) ∷ []) (done 0 3)
 unfolding one gives fxy
 inserted_width_alone = refl
 
--- A later text width replaces the earlier one, and zero ends it: fails where the widths add up, or
--- where 2 08 000 is ignored.
+-- A later 2 08 Y replaces an earlier one, and 2 08 000 cancels it. The example fails if the widths
+-- are added up, or if 2 08 000 is ignored.
 -- rule: cancel-2-07-and-2-08
 text_width_cancelled : one (operator (fxy 2 8 5) (operator (fxy 2 8 3) (element (fxy 0 1 15) (operator (fxy 2 8 0) (element (fxy 0 1 15) bare)))))
     (88 ∷ 89 ∷ 90 ∷ 48 ∷ 49 ∷ 50 ∷ 51 ∷ 52 ∷ 53 ∷ 54 ∷ 55 ∷ 56 ∷ 57 ∷ 65 ∷ 66 ∷ 67 ∷ 68 ∷ 69 ∷ 70 ∷ 71 ∷ 72 ∷ 73 ∷ 74 ∷ [])

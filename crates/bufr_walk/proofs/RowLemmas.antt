@@ -1,4 +1,5 @@
--- A walk over a template that a table knows meets no element that the table lacks.
+-- If a table has the rows that a template needs, a walk over the template meets no element without
+-- a row.
 use Rattle.std.proofs.Common.{◌≡◌, ℕ, zero, suc, ◌<◌, ◌≤◌, ◌==◌, ◌&&◌, ◌||◌, Bool, true, false, List, [], ◌∷◌, Result, Ok, Err, refl, subst, arith, is_some, if◌then◌else◌}
 use Rattle.std.proofs.lemmas.Bool.{leb-true, eqb-true}
 use Rattle.bufr_tables.specs.Prelude.{x_of, y_of, f_of, IsLegal, has_legal_operand, is_legal_operator, gives_width, Tree, bare, element, operator, fixed, delayed, is_inserted_text, Row, entry_of}
@@ -15,7 +16,7 @@ applied : (r : Result OperatorModel TurnRefusal) (holds : OperatorModel → Type
 applied (Err why) holds h = tt
 applied (Ok s) holds h = h s refl
 
--- an element has its row, where no width is given
+-- An element has its row, unless 2 06 Y gives its width.
 has-row : (given found : Bool) (width : ℕ) → (given || found) ≡ true → (given ≡ true → 0 < width) → width ≡ 0 → found ≡ true
 has-row true found width known wide none = let some = wide refl in absurd (omega arith)
 has-row false found width known wide none = known
@@ -24,7 +25,7 @@ second : (a b : Bool) → (a && b) ≡ true → b ≡ true
 second true b h = h
 second false b h = absurd cc
 
--- 2 06 Y gives a width that is not 0
+-- 2 06 Y gives a width above 0.
 wide-of : (s s' : OperatorModel) (x y : ℕ) (stops : Bool) (why : TurnRefusal) → x ≡ 6 → has_legal_operand x y ≡ true → (if stops then Err why else Ok (with_operator x y s)) ≡ Ok s'
     → 0 < s'.local_width
 wide-of s s' x y true why six legal is = absurd cc

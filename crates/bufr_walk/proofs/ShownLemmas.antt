@@ -1,4 +1,4 @@
--- The items and subsets that a walk with a visitor shows.
+-- The items and subsets that a walk shows to a visitor.
 use Rattle.std.proofs.Math.Path.{fun_ext}
 use Rattle.bufr_walk.proofs.PassLemmas.{next_pass}
 use Rattle.bufr_walk.proofs.PlainReading.{IsAt, plain_follows, ticked_more, how, at_first, step_there}
@@ -27,11 +27,11 @@ use Rattle.bufr_walk.specs.declared.reading.StoredItems.TheVariants as kept
 same_found : (a b : FieldRead Content) → ◌≡◌ {A = Result (FieldRead Content) FieldFault} (Ok a) (Ok b) → a ≡ b
 same_found a b e = cc
 
--- the content of a field that is there
+-- The content of a field that was read is that of its bits.
 pub content_is : (spec : FieldSpec) (bits suffix : List Bool) (c : Content) → plain_field spec bits ≡ Ok (found c suffix) → content_in spec (take spec.width bits) ≡ c
 content_is spec bits suffix c h = grind (arith, common_steps, nat_lt, same_found)
 
--- a number, and a reference, by their kind and role
+-- what a field shows, by its kind and role
 pub reference_shown : (spec : FieldSpec) (bits : List Bool) (z : ℤ) → is_reference spec.role ≡ true → z ≡ signed_by bits → shown_reference z ≡ shown spec (content_in spec bits)
 reference_shown spec bits z e is = ap shown_reference is ∙ ap (shown spec) (sym (reference_said spec bits (is_reference_role spec.role e)))
 
@@ -60,11 +60,11 @@ text_shown spec bits octets h k e is =
     ap shown_text is ∙ ap (shown spec)
     (sym (text_said spec bits k (text_role spec.role spec.kind spec.may_be_missing h.role k) ∙ ap (λ b. if b then missing else text (octets_in (spec.width / 8) bits)) e))
 
--- a reference that was found is shown as one
+-- A redefined reference is shown as one.
 pub reference_kept : (spec : FieldSpec) (bits : List Bool) → spec.role ≡ role.Reference → IsReferenceValue (shown spec (content_in spec bits))
 reference_kept spec bits e = subst (λ c. IsReferenceValue (shown spec c)) (sym (reference_said spec bits e)) tt
 
--- the step of a pass reads the content that the bits have
+-- The step of a pass reads the content of the next bits.
 step_content : (spec : FieldSpec) (bits : List Bool) (n : ℕ) (f : Step Place Content) → ◌≡◌ {A = Result (Step Place Content) Stop} (read_field plain spec n (plain_field spec bits)) (Ok f)
     → content_in spec (take spec.width bits) ≡ f.content
 step_content spec bits n f h = by (nat_lt (length bits) spec.width) h
@@ -78,14 +78,15 @@ step_content spec bits n f h = by (nat_lt (length bits) spec.width) h
         same_step : (a b : Step Place Content) → ◌≡◌ {A = Result (Step Place Content) Stop} (Ok a) (Ok b) → a ≡ b
         same_step a b e = cc
 
--- the end of a walk over data that were read before: the visitor refuses, or memory runs out
+-- A walk over data that were read before stopped because the visitor refused an item, or because
+-- memory ran out.
 abbrev pub IsEnd : {E : Type 0} → WalkStop (ShowStop E) → ShowFault E → Type 0
 IsEnd (stops.Field (stop.Visitor e)) why = why ≡ show_fault.Visitor e
 IsEnd stops.Memory why = why ≡ show_fault.Memory
 IsEnd _ why = ⊥
 
 module _ {V E : Type 0} (sees : V → Call → Result (Unit {0}) E → V → Type 0) where
-  -- a field that was peeked at, shown and passed
+  -- A field was shown, and the reader advanced past it.
   pub shown_here : (c c' : Cursor) (v v' : V) (table : List Row) (a b : ℕ) (spec : FieldSpec) (t : Taken) → c' ≡ past c spec → IsTaken c spec t (past c spec)
       → sees v (item_call (view_of table spec (content_in spec (take spec.width (rest_of c))))) (Ok tt) v' → IsShown sees (stage c v table a b) spec t (stage c' v' table a b)
   shown_here c c' v v' table a b spec t e h w = record {
@@ -120,11 +121,11 @@ module _ {V E : Type 0} (sees : V → Call → Result (Unit {0}) E → V → Typ
   call_on s s1 t rest turns (Ok u) s' steps h w = (s1, h, w)
   call_on s s1 t rest turns (Err e) s' steps h w = inr (s1, h, w)
 
-  -- one call
+  -- One call was made.
   pub sofar_call : (s s1 : V) (t : Timed) (rest : List Timed) → sees s t.call (Ok tt) s1 → Sofar sees s (t ∷ rest) s1 rest
   sofar_call s s1 t rest h = record { on = λ turns r s' steps w. call_on s s1 t rest turns r s' steps h w }
 
--- a course after some items
+-- the course after these items
 abbrev beyond : CountedCourse → List (Item Content) → CountedCourse
 beyond course xs answers = course (answers_in answer_of xs ++ answers)
 
@@ -137,7 +138,7 @@ beyond_all : (course : CountedCourse) (xs : List (Item Content)) → (beyond cou
 beyond_all course xs = ap course (append-nil (answers_in answer_of xs))
 
 module _ {V E : Type 0} (sees : V → Call → Result (Unit {0}) E → V → Type 0) (table : List Row) (course : CountedCourse) where
-  -- the calls of these items were made, whatever items and calls follow
+  -- The calls for these items were made, whatever items and calls follow.
   abbrev Made : List (Item Content) → V → V → Type 0
   Made xs v s = (before : ℕ) (more : List (Item Content)) (rest : List Timed)
       → Sofar sees v (item_calls table before course (xs ++ more) ++ rest) s (item_calls table before (beyond course xs) more ++ rest)
@@ -160,7 +161,8 @@ module _ {V E : Type 0} (sees : V → Call → Result (Unit {0}) E → V → Typ
     abbrev pub took : S → FieldSpec → Result Taken (ShowStop E) → S → Type 0
     took s spec r t = ShowingTakes sees (on s) spec r (on t)
 
-    -- the states of a walk that began at `first` and of its pass, after items that were shown
+    -- The state of a walk that began at `first` matches that of its pass, after these items were
+    -- shown.
     pub record IsShownAt (first : S) (xs : List (Item Content)) (s : S) (p : Place) : Type 0 where
       pub at : IsAt (on first).cursor xs (on s).cursor p
       pub rows : (on s).table ≡ table
@@ -186,12 +188,12 @@ module _ {V E : Type 0} (sees : V → Call → Result (Unit {0}) E → V → Typ
           };
         }
 
-    -- the call of the next item ends the showing, after those of its items
+    -- The calls for these items were made, and showing ends at the call for the next item.
     abbrev EndsShowing : S → List (Item Content) → Place → Next → WalkStop (ShowStop E) → S → Type 0
     EndsShowing first xs p next why s' = (spec : FieldSpec) × (next ≡ take_next spec) × (end : ShowFault E) × IsEnd why end
         × ((f : Step Place Content) → how.step spec p ≡ Ok f → (v : V) × Made xs (on first).visitor v × EndsAt sees v (item_call (view_of table spec f.content)) end (on s').visitor)
 
-    -- why a walk stopped: its pass stops too, or a call ended the showing
+    -- The walk stopped because its pass does, or because showing ended at a call.
     abbrev ShowFails : S → List (Item Content) → Place → Next → WalkStop (ShowStop E) → S → Type 0
     ShowFails first xs p next why s' = (length xs < suc (length (rest_of (on first).cursor))) × ((on s').names ≡ (on first).names)
         × (((stop : Stop) × EndsPass how next p (Some stop)) ⊎ EndsShowing first xs p next why s')
@@ -199,7 +201,7 @@ module _ {V E : Type 0} (sees : V → Call → Result (Unit {0}) E → V → Typ
     enough : (first : S) (xs : List (Item Content)) (s : S) (p : Place) → IsShownAt first xs s p → length xs < suc (length (rest_of (on first).cursor))
     enough first xs s p m = omega (arith, m.at.pays)
 
-    -- the content that the step at a field reads
+    -- The step at a field reads the content of the remaining bits.
     content_here : (first : S) (xs : List (Item Content)) (s : S) (p : Place) (spec : FieldSpec) (f : Step Place Content) → IsShownAt first xs s p → how.step spec p ≡ Ok f
         → content_in spec (take spec.width (rest_of (on s).cursor)) ≡ f.content
     content_here first xs s p spec f m h =
@@ -262,14 +264,14 @@ module _ {V E : Type 0} (sees : V → Call → Result (Unit {0}) E → V → Typ
       abbrev Goes : Type 0
       Goes = Comes how answer_of course first_place c c'
 
-      -- the items were shown, or one of them ended the showing
+      -- All items were shown, or showing ended at one of them.
       abbrev Shown : Result (Unit {0}) (ShowFault E) → Type 0
       Shown r = ItemsGo sees table course (on s).cursor (on s).visitor c r (on s').cursor (on s').visitor c'
 
       starts : IsShownAt s [] s first_place
       starts = record { at = at_first (on s).cursor; rows = rows; names = refl; made = made_none (on s).visitor }
 
-      -- a walk that ended
+      -- If the walk completes, all items were shown.
       pub all_shown : Walked took course s c (Ok tt) s' c' → ((on s').names ≡ (on s).names) × Shown (Ok tt)
       all_shown w =
           let r = whole_passes took how answer_of (IsShownAt s) (show_follows s) course s c s' c' first_place starts w in
@@ -283,9 +285,9 @@ module _ {V E : Type 0} (sees : V → Call → Result (Unit {0}) E → V → Typ
             }),
           )
 
-      -- a walk over data that were read before, and that stopped
+      -- a walk that stopped, although the data were read before
       module _ (why : WalkStop (ShowStop E)) (none : pass.stop ≡ None) where
-        -- the pass does not stop
+        -- The pass does not stop.
         never : (g : Goes) (stop : Stop) → length g.items < fuel → EndsPass how (course (answers_in answer_of g.items)).next g.state (Some stop) → ⊥
         never g stop enough e =
             let no : ◌≡◌ {A = Option Stop} None (Some stop) = sym none ∙ ap (λ (p : DataPass Content). p.stop) (g.ends fuel (Some stop) enough e) in cc
@@ -319,21 +321,21 @@ module _ {V E : Type 0} (sees : V → Call → Result (Unit {0}) E → V → Typ
             let k = cases r.0 r.1.0 r.1.2 in
             (r.1.1, k.0, k.1, k.2)
 
--- ---- Subsets that are shown one after another.
+-- ---- Showing successive subsets.
 
 module _ {V E : Type 0} (sees : V → Call → Result (Unit {0}) E → V → Type 0) (table : List Row) (course : CountedCourse) (n : ℕ) (bits : List Bool) where
-  -- the items of some passes
+  -- the items of the next `left` passes
   abbrev items_of : ℕ → List Bool → List (List (Item Content))
   items_of left rest = items_by_pass (passes_apart (uncounted course) left rest)
 
-  -- the calls of all n subsets, and their turns
+  -- the calls for all n subsets, and their turns
   abbrev all : List Timed
   all = subset_calls table course 0 1 (items_of n bits)
 
   abbrev all_turns : ℕ
   all_turns = turns_in answer_of course (items_of n bits)
 
-  -- some of the subsets were shown
+  -- The first `done` subsets were shown.
   pub record SubsetsShown (done : ℕ) (s : V) (c : Cursor) (s' : V) (steps : ℕ) : Type 0 where
     pub before : ℕ
     pub none : stop_of (passes_apart (uncounted course) (n - done) (rest_of c)) ≡ None
@@ -341,7 +343,7 @@ module _ {V E : Type 0} (sees : V → Call → Result (Unit {0}) E → V → Typ
     pub total : before + turns_in answer_of course (items_of (n - done) (rest_of c)) ≡ all_turns
     pub so_far : Sofar sees s all s' (subset_calls table course before (done + 1) (items_of (n - done) (rest_of c)))
 
-  -- nothing was shown yet
+  -- At first, no subset was shown.
   pub none_shown : (s : V) (c : Cursor) (steps : ℕ) → c ≡ record { bits = bits; at = 0 } → steps ≡ 0 → stop_of (passes_apart (uncounted course) n bits) ≡ None → SubsetsShown 0 s c s steps
   none_shown s c steps first z none = record {
     before = 0;
@@ -364,7 +366,7 @@ module _ {V E : Type 0} (sees : V → Call → Result (Unit {0}) E → V → Typ
       ticked_none = grind (arith, common_steps)
 
   module _ (done : ℕ) (s : V) (c : Cursor) (s1 : V) (steps : ℕ) (h : SubsetsShown done s c s1 steps) (lt : done < n) where
-    -- the pass of the next subset, its turns, and the subsets after it
+    -- the pass over the next subset, its turns, and the subsets after it
     abbrev coming : DataPass Content
     coming = read_pass plain (λ n. false) (uncounted course) (rest_of c)
 
@@ -384,12 +386,12 @@ module _ {V E : Type 0} (sees : V → Call → Result (Unit {0}) E → V → Typ
     so_far : Sofar sees s all s1 (subset_calls table course h.before (done + 1) (coming.items ∷ later))
     so_far = subst (λ ps. Sofar sees s all s1 (subset_calls table course h.before (done + 1) (items_by_pass ps))) next.1 h.so_far
 
-    -- its own call
+    -- The call that begins this subset was made.
     called : (s2 : V) → sees s1 (subset_call (done + 1)) (Ok tt) s2
         → Sofar sees s all s2 (item_calls table h.before course coming.items ++ subset_calls table course (h.before + turns) (done + 1 + 1) later)
     called s2 call = sofar_then sees s s1 s2 _ _ _ so_far (sofar_call sees s1 s2 (timed h.before (subset_call (done + 1))) _ call)
 
-    -- one subset more
+    -- One more subset was shown.
     pub one_shown : (s2 s3 : V) (c' : Cursor) (steps' : ℕ) → sees s1 (subset_call (done + 1)) (Ok tt) s2 → ItemsGo sees table course c s2 steps (Ok tt) c' s3 steps'
         → SubsetsShown (done + 1) s c' s3 steps'
     one_shown s2 s3 c' steps' call g = record {
@@ -405,12 +407,12 @@ module _ {V E : Type 0} (sees : V → Call → Result (Unit {0}) E → V → Typ
         assoc : (a b c : ℕ) → a + b + c ≡ a + (b + c)
         assoc a b c = omega arith
 
-    -- the showing ends in it
+    -- Showing ended inside this subset.
     pub ended_so : (s2 s3 : V) (c' : Cursor) (steps' : ℕ) (why : ShowFault E) → sees s1 (subset_call (done + 1)) (Ok tt) s2 → ItemsGo sees table course c s2 steps (Err why) c' s3 steps'
         → Shows sees s all all_turns (Err why) s3 steps'
     ended_so s2 s3 c' steps' why call g = (called s2 call).on all_turns (Err why) s3 steps' (g h.before _ all_turns h.ticks)
 
-    -- or at its own call
+    -- The visitor refused the call that begins this subset.
     pub refused_so : (s2 : V) (e : E) → sees s1 (subset_call (done + 1)) (Err e) s2 → Shows sees s all all_turns (Err (show_fault.Visitor e)) s2 steps
     refused_so s2 e call = so_far.on all_turns (Err (show_fault.Visitor e)) s2 steps (inl (call, h.ticks))
 
@@ -424,9 +426,9 @@ module _ {V E : Type 0} (sees : V → Call → Result (Unit {0}) E → V → Typ
       none_left : (n done : ℕ) → n ≤ done → n - done ≡ 0
       none_left n done h = omega (arith, h)
 
--- ---- Plain numbers: those of elements, which stay below 2 ^ 63.
+-- ---- Plain numbers are numbers of elements, and their magnitude is below 2^63.
 
--- what holds of a plain field
+-- The conditions of `is_plain`, one by one, are true for a plain field.
 pub plain_is : (a : FieldSpec) → is_plain a ≡ true → IsPlainNumber a
 plain_is a h =
     let number : not (is_character a.kind) ≡ true = and_first _ (is_plain_number a.role a.width a.reference a.listed) h in
@@ -462,14 +464,14 @@ pub plain_shown : (a : FieldSpec) (bits : List Bool) (raw : ℕ) → IsPlainNumb
     → shown_number (pos raw +ℤ a.reference) a.scale ≡ shown a (content_in a bits)
 plain_shown a bits raw p m is = number_shown a bits raw p.kind (ap is_reference p.role) m is
 
--- what it returns to the walk
+-- the answer of a plain field
 pub plain_answer : (a : FieldSpec) (bits : List Bool) → IsPlainNumber a → taken.Plain ≡ answer_of a (content_in a bits)
 plain_answer a bits p = answer_element a bits p.role
 
 pub plain_for : (a : FieldSpec) → IsPlainNumber a → IsFor a taken.Plain
 plain_for a p = subst (λ r. IsForRole r taken.Plain) (sym p.role) tt
 
--- a reading of data that are not compressed was shown
+-- If all subsets of plain data were shown, the reading was shown.
 pub apart_shown : {V E : Type 0} (sees : V → Call → Result (Unit {0}) E → V → Type 0) (r : Read) (v v' : V) (result : Result (Unit {0}) (ShowFault E)) (steps : ℕ) → IsStoredReading r kept.Apart
     → (let all = items_by_pass (passes_apart (course_of r) r.source.subsets r.source.bits) in
     Shows sees v (subset_calls r.table (counted_course_of r) 0 1 all) (turns_in answer_of (counted_course_of r) all) result v' steps)

@@ -1,4 +1,4 @@
--- Each spec that is built is a specification.
+-- Each spec that the code builds is valid.
 use Rattle.std.proofs.lemmas.Grind.{common_steps}
 use Rattle.std.proofs.Common.{◌≡◌, ℕ, ◌*◌, ◌≤◌, ◌^◌, Bool, true, false, List, [], ◌∷◌, ◌++◌, ◌+◌, ◌<◌, length, drop, get_or, sym, subst, refl, arith, ◌∙◌, ap, ℤ, pos, ◌*ℤ◌, ◌==◌, nat_le, if◌then◌else◌, nat_lt, cond, Some, ◌%◌, unsigned_abs}
 use Rattle.std.proofs.lemmas.Bool.{eqb-true}
@@ -38,7 +38,7 @@ number_good fxy r n e role small near some most =
 pub text_good : (r : Role) (fxy w : ℕ) (listed : Bool) → HasWidth kind.Character w → HasRole r kind.Character true → IsSpec (text_spec r fxy w listed)
 text_good r fxy w listed h g = record { width = h; role = g; missing = refl; scale = omega arith; reference = omega arith }
 
--- a text of the template
+-- An inserted text has a valid width.
 pub inserted_width : (fxy : ℕ) → is_legal_operator fxy ≡ true → is_inserted_text fxy ≡ true → HasWidth kind.Character (8 * y_of fxy)
 inserted_width fxy legal x = by (x_of fxy) (y_of fxy) (eqb-true (x_of fxy) 5 x) legal (omega arith)
   where
@@ -48,7 +48,7 @@ inserted_width fxy legal x = by (x_of fxy) (y_of fxy) (eqb-true (x_of fxy) 5 x) 
     by : (x y : ℕ) → x ≡ 5 → has_legal_operand x y ≡ true → y ≤ 255 → HasWidth kind.Character (8 * y)
     by x y e h most = let some : 1 ≤ y = le_from y (subst (λ z. has_legal_operand z y ≡ true) e h) in (omega arith, omega arith, omega arith)
 
--- the references as the map of their words keeps them
+-- An entry that is inserted into the map is one more redefined reference.
 pub known_more : (kept : List (ℕ × ℤ)) (fxy : ℕ) (reference : ℤ) → known_by (insert_entry nat_cmp kept fxy reference) ≡ with_reference fxy reference (known_by kept)
 known_more [] fxy reference = refl
 known_more (e ∷ kept) fxy reference = by (nat_lt fxy e.0) (fxy == e.0) (known_more kept fxy reference)
@@ -64,7 +64,7 @@ known_more (e ∷ kept) fxy reference = by (nat_lt fxy e.0) (fxy == e.0) (known_
 same_either_way : (a b : ℕ) → (a == b) ≡ (b == a)
 same_either_way a b = grind (arith, nat_tests)
 
--- the reference that the map of words has, where it has one
+-- A lookup in the map finds the redefined reference of an element, if there is one.
 pub reference_found : (kept : List (ℕ × ℤ)) (fxy : ℕ) → lookup (is_at (nat_cmp fxy)) kept ≡ redefined (known_by kept) fxy
 reference_found [] fxy = refl
 reference_found (e ∷ kept) fxy = by (is_eq (nat_cmp fxy e.0)) (e.0 == fxy) (unsigned_tied fxy e.0 ∙ same_either_way fxy e.0) (reference_found kept fxy)
@@ -76,7 +76,7 @@ reference_found (e ∷ kept) fxy = by (is_eq (nat_cmp fxy e.0)) (e.0 == fxy) (un
     by true false q more = absurd cc
     by false true q more = absurd cc
 
--- the redefined reference counts, where there is one
+-- A redefined reference replaces the listed one.
 pub current_or : (known : List Redefined) (fxy : ℕ) (listed : ℤ) → unwrap_or (redefined known fxy) listed ≡ current_reference known fxy listed
 current_or [] fxy listed = refl
 current_or (r ∷ known) fxy listed = by (r.fxy == fxy) (current_or known fxy listed)
@@ -86,7 +86,7 @@ current_or (r ∷ known) fxy listed = by (r.fxy == fxy) (current_or known fxy li
     by true more = refl
     by false more = more
 
--- a reference that is added is that of its element
+-- A reference that is added becomes that of its element, and no other one changes.
 redefined_with : (known : List Redefined) (f : ℕ) (reference : ℤ) (fxy : ℕ) → redefined (with_reference f reference known) fxy ≡ (if f == fxy then Some reference else redefined known fxy)
 redefined_with [] f reference fxy = refl
 redefined_with (r ∷ known) f reference fxy = by (nat_lt f r.fxy) (f == r.fxy) refl (redefined_with known f reference fxy)
@@ -117,13 +117,13 @@ redefined_with (r ∷ known) f reference fxy = by (nat_lt f r.fxy) (f == r.fxy) 
         over false = refl
     by false false p more = ap (λ o. if r.fxy == fxy then Some r.reference else o) more ∙ last (f == fxy) (r.fxy == fxy) (apart p)
 
--- the last of several counts
+-- The last recent reference of an element is the one that counts.
 pub last_found : (recent : List NewReference) (known : List Redefined) (word : ℕ) → last_of recent word (redefined known word) ≡ redefined (with_all recent known) word
 last_found [] known word = refl
 last_found (n ∷ recent) known word =
     ap (last_of recent word) (sym (redefined_with known n.word n.reference word)) ∙ last_found recent (with_reference n.word n.reference known) word
 
--- the first of those that are left is added to the map
+-- The next recent reference is inserted into the map.
 pub sorted_more : (recent : List NewReference) (i : ℕ) (d : NewReference) (kept more : List (ℕ × ℤ)) → i < length recent
     → more ≡ insert_entry nat_cmp kept (get_or recent i d).word (get_or recent i d).reference
     → with_all (drop (i + 1) recent) (known_by more) ≡ with_all (drop i recent) (known_by kept)
@@ -132,7 +132,7 @@ sorted_more recent i d kept more h e =
     ap (λ es. with_all (drop (i + 1) recent) (known_by es)) e ∙ ap (with_all (drop (i + 1) recent)) (known_more kept n.word n.reference)
     ∙ ap (λ xs. with_all xs (known_by kept)) (sym (drop_more recent i d h))
 
--- one more is put behind several
+-- A reference that is appended to the recent ones is added last.
 pub all_more : (recent : List NewReference) (n : NewReference) (known : List Redefined) → with_all (recent ++ n ∷ []) known ≡ with_reference n.word n.reference (with_all recent known)
 all_more [] n known = refl
 all_more (m ∷ recent) n known = all_more recent n (with_reference m.word m.reference known)

@@ -1,4 +1,4 @@
--- The effect of each turn of a walk, and walks one after another.
+-- The effect of each turn of a walk, and of successive walks.
 use Rattle.std.proofs.lemmas.Grind.{common_steps}
 use Rattle.std.proofs.Common.{◌≡◌, ℕ, ◌+◌, List, [], ◌∷◌, ◌++◌, Result, refl, sym, ◌∙◌, ap, subst, zero-add, add_assoc, arith, ◌*◌, append-nil, Bool, true, false, Option, Some, None, Ok, Err, zero, suc, ◌-◌, ◌^◌, ◌<◌, length, drop, get_or, add-zero, ◌≤◌, length-append, ◌==◌, nat_lt, nat_le, if◌then◌else◌}
 use Rattle.bufr_tables.specs.Prelude.{Row, entry_of, x_of, Tree, delayed, is_inserted_text, bare, element, operator, fixed, size, depth, is_legal_operator, cells_of, AreCellsOf, IsLegal}
@@ -36,13 +36,14 @@ answer_both [] b = refl
 answer_both (i ∷ a) b = ap (λ ts. i.taken ∷ ts) (answer_both a b)
 
 module _ {S : Type 0} (takes : S → FieldSpec → Taken → S → Type 0) where
-  -- a course with the same things next
+  -- If the same things come next on two courses, the same fields are taken.
   pub takes_same : (n m : Course) (s : S) (items : List TakenField) (s' : S) → ((more : List Taken) → n more ≡ m more) → Takes takes n s items s' → Takes takes m s items s'
   takes_same n m s [] s' h w = w
   takes_same n m s (i ∷ items) s' h w =
       (w.0, sym (h []) ∙ w.1, w.2, takes_same (λ more. n (i.taken ∷ more)) (λ more. m (i.taken ∷ more)) w.0 items s' (λ more. h (i.taken ∷ more)) w.3)
 
-  -- items, and items after them
+  -- Fields that are taken along one course, and then along the course after them, are taken in a
+  -- single walk.
   pub takes_then : (n m : Course) (s : S) (a : List TakenField) (mid : S) (b : List TakenField) (s' : S) → Takes takes n s a mid
       → ((more : List Taken) → n (answers_of a ++ more) ≡ m more) → Takes takes m mid b s' → Takes takes n s (a ++ b) s'
   takes_then n m s [] mid b s' w h v = takes_same m n s b s' (λ more. sym (h more)) (subst (λ x. Takes takes m x b s') w v)
@@ -70,7 +71,7 @@ module _ {S E : Type 0} (takes : S → FieldSpec → Result Taken E → S → Ty
         turns = ap (λ x. x.turns) same ∙ ap (λ k. t + k) b.turns;
       }
 
-  -- a turn with no field
+  -- a turn without a field
   pub goes_turn : (n m : CountedCourse) (s : S) → ((more : List Taken) → n more ≡ later 1 (m more)) → WalkGoes takes n s 1 m s
   goes_turn n m s h = record { items = []; taken = refl; leads = h }
 
@@ -94,15 +95,16 @@ module _ {S E : Type 0} (takes : S → FieldSpec → Result Taken E → S → Ty
     way = λ rest. goes_stops takes (x.way rest) (w.way rest);
   }
 
-  -- one turn with no field
+  -- The walk made one turn without a field.
   pub came_turn : (over left : Rest → Rest) (s : OperatorModel) (f : S) (c c' : ℕ) → c' ≡ ticked c 1
       → ((rest : Rest) (counts : List ℕ) (answers : List Taken) → counted_ahead table (over rest counts) s answers ≡ later 1 (counted_ahead table (left rest counts) s answers))
       → HasWalked takes table over left s f c s f c'
   came_turn over left s f c c' tick e = record { turns = 1; ticks = tick; way = λ rest. goes_turn takes _ _ f (λ more. e rest (counts_of more) more) }
 
--- ---- Walks over one field, and over an operator.
+-- ---- Walks over a single field, and over an operator.
 
--- by what a walk stops: a field, memory for its reference, or a refusal of the template
+-- the reasons why a walk stops: the fault of a field, no memory for a redefined reference, or a
+-- refusal
 pub stop_cases : {S E : Type 0} (takes : S → FieldSpec → Result Taken E → S → Type 0) (P : Next → WalkStop E → Type 0) (s s' : S)
     → ((spec : FieldSpec) (e : E) → takes s spec (Err e) s' → P (take_next spec) (stops.Field e)) → ((spec : FieldSpec) → spec.role ≡ role.Reference → s' ≡ s → P (take_next spec) stops.Memory)
     → ((why : TurnRefusal) → s' ≡ s → P (refused why) (stop_by why))
@@ -115,7 +117,7 @@ stop_cases takes P s s' field short refusal (refused w) why h = subst (P (refuse
 stop_cases takes P s s' field short refusal at_end why h = absurd h
 stop_cases takes P s s' field short refusal astray why h = absurd h
 
--- roles other than a factor return no count
+-- A field that is not a factor returns no count.
 pub no_count : (r : Role) (t : Taken) (counts : List ℕ) → (r ≡ role.Factor → ⊥) → IsForRole r t → counts_in t counts ≡ counts
 no_count r taken.Plain counts n h = refl
 no_count r (taken.Reference x) counts n h = refl
@@ -124,7 +126,7 @@ no_count role.Element (taken.Count x) counts n h = absurd h
 no_count role.Inserted (taken.Count x) counts n h = absurd h
 no_count role.Reference (taken.Count x) counts n h = absurd h
 
--- no element is a factor
+-- The field is not a factor.
 NoFactor : FieldSpec → Type 0
 NoFactor a = a.role ≡ role.Factor → ⊥
 
@@ -141,7 +143,7 @@ defined_role kind.Character s fxy spec e h = cc
 defined_role kind.Coded s fxy spec e h = let q : role.Reference ≡ role.Factor = fitted_role (defined_field s fxy) spec e ∙ h in cc
 defined_role kind.Numeric s fxy spec e h = let q : role.Reference ≡ role.Factor = fitted_role (defined_field s fxy) spec e ∙ h in cc
 
--- the ways in which an element has its spec
+-- the cases in which an element has a spec
 pub element_cases : (P : Type 0) (table : List Row) (s : OperatorModel) (fxy : ℕ) (spec : FieldSpec)
     → ((z : OperatorModel) (row : Row) → entry_of table fxy ≡ Some row → spec_by_kind row.kind z row ≡ Ok spec → P) → (if_valid_width (unsigned_field fxy s.local_width) ≡ Ok spec → P)
     → ((row : Row) → is_defining s ≡ true → new_reference_spec row.kind s fxy ≡ Ok spec → P)
@@ -171,7 +173,7 @@ element_role table s fxy spec e h =
 pub inserted_role : (s : OperatorModel) (fxy : ℕ) (spec : FieldSpec) → inserted_spec s fxy ≡ Ok spec → spec.role ≡ role.Factor → ⊥
 inserted_role s fxy spec e h = grind (arith, common_steps)
 
--- a field that is no reference leaves the references
+-- A field that is not a redefined reference does not change the redefined references.
 pub no_reference : (r : Role) (s : OperatorModel) (fxy : ℕ) (t : Taken) → is_reference r ≡ false → IsForRole r t → record s { local_width = 0 } ≡ after_field s fxy t
 no_reference r s fxy taken.Plain e h = refl
 no_reference r s fxy (taken.Count n) e h = refl
@@ -185,7 +187,7 @@ module _ {S E : Type 0} (takes : S → FieldSpec → Result Taken E → S → Ty
   took_ok (Ok spec) f t f' h = (spec, refl, h.0, h.1)
   took_ok (Err why) f t f' h = absurd h
 
-  -- turns of a field that is no factor
+  -- The walk took a field that is not a factor.
   pub came_field : (over left : Rest → Rest) (fxy : ℕ) (s : OperatorModel) (f : S) (c : ℕ) (r : Result FieldSpec TurnRefusal) (t : Taken) (f' : S) (c' : ℕ)
       → ((rest : Rest) (counts : List ℕ) (answers : List Taken) → counted_ahead table (over rest counts) s answers
       ≡ counted_asked r (λ u more. counted_ahead table (left rest counts) (after_field s fxy u) more) answers)
@@ -207,7 +209,7 @@ module _ {S E : Type 0} (takes : S → FieldSpec → Result Taken E → S → Ty
         };
       }
 
-  -- the replication and the factor of a delayed group, whose count was taken
+  -- The walk entered a delayed group and took its factor.
   pub came_factor : (fxy : ℕ) (body more : Tree) (s : OperatorModel) (f : S) (c : ℕ) (r : Result FieldSpec TurnRefusal) (n : ℕ) (f' : S) (c' : ℕ) → r ≡ factor_spec table s fxy
       → TakesField takes r f (Ok (taken.Count n)) f' → c' ≡ ticked (ticked c 1) 1
       → (k : Rest → Rest) → HasWalked takes table (λ rest. unroll (delayed fxy body more) (k rest)) (λ rest. passes n (unroll body) (unroll more (k rest))) s f c (after_field s fxy (taken.Count n))
@@ -227,7 +229,7 @@ module _ {S E : Type 0} (takes : S → FieldSpec → Result Taken E → S → Ty
         };
       }
 
-  -- where a field comes next and is not taken, the walk stops there
+  -- If a field comes next and is not taken, the walk stops there.
   stops_asked : (k : ℕ) (r : Result FieldSpec TurnRefusal) (go : Taken → List Taken → NextTurn) (f : S) (why : WalkStop E) (f' : S) (n : CountedCourse) → n [] ≡ later k (counted_asked r go [])
       → TakesField takes r f (Err why) f' → Stops takes n f (k + 1) why f'
   stops_asked k (Ok spec) go f (stops.Field e) f' n h took = record {
@@ -248,7 +250,7 @@ module _ {S E : Type 0} (takes : S → FieldSpec → Result Taken E → S → Ty
   stops_asked k (Ok spec) go f (stops.Defining w) f' n h took = absurd took
   stops_asked k (Err why) go f w f' n h took = record { items = []; mid = f; taken = refl; stops = subst (λ x. StopsWalk takes x f w f') (sym (ap (λ x. x.next) h)) took; turns = ap (λ x. x.turns) h }
 
-  -- a field that was not taken
+  -- The walk stopped at a field that was not taken.
   pub stops_field : (over left : Rest → Rest) (fxy : ℕ) (s : OperatorModel) (f : S) (c : ℕ) (r : Result FieldSpec TurnRefusal) (why : WalkStop E) (f' : S) (c' : ℕ)
       → ((rest : Rest) (counts : List ℕ) (answers : List Taken) → counted_ahead table (over rest counts) s answers
       ≡ counted_asked r (λ u more. counted_ahead table (left rest counts) (after_field s fxy u) more) answers)
@@ -259,7 +261,7 @@ module _ {S E : Type 0} (takes : S → FieldSpec → Result Taken E → S → Ty
     way = λ rest. stops_asked 0 r (λ u more. counted_ahead table (left rest []) (after_field s fxy u) more) f why f' _ (asks rest [] [] ∙ sym (later_none _)) took;
   }
 
-  -- a factor that was not taken
+  -- The walk stopped at the factor of a delayed group.
   pub stops_factor : (fxy : ℕ) (body more : Tree) (s : OperatorModel) (f : S) (c : ℕ) (r : Result FieldSpec TurnRefusal) (why : WalkStop E) (f' : S) (c' : ℕ) → r ≡ factor_spec table s fxy
       → TakesField takes r f (Err why) f' → c' ≡ ticked (ticked c 1) 1
       → (k : Rest → Rest) → StopsIn takes table (λ rest. unroll (delayed fxy body more) (k rest)) s f c why f' c'
@@ -270,7 +272,7 @@ module _ {S E : Type 0} (takes : S → FieldSpec → Result Taken E → S → Ty
         (subst (λ q. TakesField takes q f (Err why) f') is took);
   }
 
-  -- an operator that changes the operators in force
+  -- An operator that does not insert a text changes the operators in effect.
   operator_is : (over left : Rest → Rest) (fxy : ℕ) (s : OperatorModel) → is_inserted_text fxy ≡ false → ((rest : Rest) (counts : List ℕ) → over rest counts ≡ operator_turn fxy (left rest counts))
       → (rest : Rest) (counts : List ℕ) (answers : List Taken)
       → counted_ahead table (over rest counts) s answers ≡ counted_operated (after_operator s fxy) (λ s'. counted_ahead table (left rest counts) s' answers)
@@ -308,7 +310,7 @@ module _ {S E : Type 0} (takes : S → FieldSpec → Result Taken E → S → Ty
         record { items = []; mid = f; taken = refl; stops = subst (λ x. StopsWalk takes x f (stop_by why) f) (sym (ap (λ x. x.next) h)) (refl, refl); turns = ap (λ x. x.turns) h };
   }
 
-  -- a whole walk, and its finish
+  -- If a walk reaches the end of the template, it is complete.
   pub whole : (template : Tree) (s s' : OperatorModel) (f f' : S) (c c' c'' : ℕ) → HasWalked takes table (unroll template) (λ rest. rest) s f c s' f' c' → c'' ≡ ticked c' 1
       → Walked takes (course table (turns_of template) s) f c (Ok tt) f' c''
   whole template s s' f f' c c' c'' w tick =
@@ -323,14 +325,14 @@ module _ {S E : Type 0} (takes : S → FieldSpec → Result Taken E → S → Ty
       let way : Stops takes (course table (turns_of template) s) f w.turns why f' = w.way (λ _. finish) in
       (way.items, way.mid, way.taken, way.stops, w.ticks ∙ ap (ticked c) (sym way.turns))
 
--- a text of the template, by its class
+-- An operator inserts a text if, and only if, its X is 5.
 pub five_is : (fxy x : ℕ) → x ≡ x_of fxy → x ≡ 5 → is_inserted_text fxy ≡ true
 five_is fxy x e h = grind (arith, common_steps, nat_tests)
 
 pub five_is_not : (fxy x : ℕ) → x ≡ x_of fxy → (x ≡ 5 → ⊥) → is_inserted_text fxy ≡ false
 five_is_not fxy x e h = grind (arith, common_steps, nat_tests)
 
--- ---- The most turns that are left, by the template.
+-- ---- The maximum number of turns that are left, given the template.
 
 skip : (a b k : ℕ) (xs ys zs : List Cell) → drop a xs ≡ ys → drop b ys ≡ zs → k ≡ a + b → drop k xs ≡ zs
 skip a b k xs ys zs h g e = ap (λ j. drop j xs) e ∙ sym (drop-drop b a xs) ∙ ap (drop b) h ∙ g
@@ -363,7 +365,7 @@ drop_cells (delayed fxy body more) at tail =
     (skip 1 (size more) (1 + size more) _ (cells_of more (at + 3 + size body) tail) tail refl (drop_cells more (at + 3 + size body) tail) refl) refl)
     (omega arith)
 
--- after a body and its end
+-- the cells after a body and the end of its pass
 pub drop_body : (t : Tree) (at : ℕ) (tail : List Cell) → drop (size t + 1) (cells_of t at (cell.PassEnd ∷ tail)) ≡ tail
 drop_body t at tail = skip (size t) 1 (size t + 1) _ (cell.PassEnd ∷ tail) tail (drop_cells t at (cell.PassEnd ∷ tail)) refl refl
 
@@ -373,7 +375,7 @@ costs_drop [] at (suc i) = refl
 costs_drop (x ∷ xs) at zero = ap (λ k. get_or (costs (x ∷ xs) k) 0 0) (let e : at ≡ at + 0 = omega arith in e)
 costs_drop (x ∷ xs) at (suc i) = costs_drop xs (at + 1) i ∙ ap (λ k. get_or (costs (drop i xs) k) 0 0) (let e : at + 1 + i ≡ at + suc i = omega arith in e)
 
--- the cost after a jump
+-- The cost after a jump is that of the cells at its target.
 jump : (xs ys : List Cell) (at after k : ℕ) → drop k xs ≡ ys → after ≡ at + k → get_or (costs xs at) (after - at) 0 ≡ get_or (costs ys after) 0 0
 jump xs ys at after k h e =
     costs_drop xs at (after - at)
@@ -407,12 +409,12 @@ cost_cells (delayed fxy body more) at tail =
     ap (λ x. 2 + 2 ^ 64 * (1 + x) + get_or (costs (cell.Factor fxy ∷ cells) (at + 1)) (after - (at + 1)) 0) b ∙ ap (λ y. 2 + 2 ^ 64 * (1 + worst body) + y) j
     ∙ sym (add_assoc (2 + 2 ^ 64 * (1 + worst body)) (worst more) _)
 
--- the end of a pass, and of all
+-- At the end of a pass, and at the end of the template, the cost is 0.
 tail_costs : (groups : List OpenGroup) (at : ℕ) → get_or (costs (tail_of groups) at) 0 0 ≡ 0
 tail_costs [] at = refl
 tail_costs (s ∷ outer) at = refl
 
--- from a place before these nodes
+-- The cost at a place is that of the nodes before which the walk is.
 pub cost_here : (cells : List Cell) (place : ℕ) (more : Tree) (groups : List OpenGroup) → drop place cells ≡ cells_of more place (tail_of groups) → get_or (costs cells 0) place 0 ≡ worst more
 cost_here cells place more groups h =
     costs_drop cells 0 place ∙ ap (λ k. get_or (costs (drop place cells) k) 0 0) (zero-add place) ∙ ap (λ z. get_or (costs z place) 0 0) h
@@ -424,7 +426,7 @@ owed_push cost (g ∷ frames) f = omega (arith, owed_push cost frames f)
 
 -- ---- The effect of each turn of the walk.
 
--- the nodes before which these cells are
+-- The first cell is that of the first node, and the other cells are those of what follows it.
 abbrev pub Meets : List Cell → Tree → List OpenGroup → ℕ → Type 0
 Meets [] more groups place = ⊥
 Meets (cell.Element fxy ∷ cs) more groups place = (m : Tree) × (more ≡ element fxy m) × (cs ≡ cells_of m (place + 1) (tail_of groups))
@@ -453,7 +455,7 @@ module _ (cells : List Cell) where
   pub in_range : (place : ℕ) (stack : List Frame) (left : Rest → Rest) → IsAtCell cells place stack left → place < length cells
   in_range place stack left st = let k = spot _ st.0 st.1 place (meets st.0 st.1 place) in (drop_head cells place k.0 k.1 (st.2.here ∙ k.2)).0
 
-  -- the nodes at this cell
+  -- The walk is before the node of the cell at its place.
   pub met : (place : ℕ) (stack : List Frame) (left : Rest → Rest) (d c : Cell) (st : IsAtCell cells place stack left) → get_or cells place d ≡ c → Meets (c ∷ drop (place + 1) cells) st.0 st.1 place
   met place stack left d c st e =
       let k = spot _ st.0 st.1 place (meets st.0 st.1 place) in
@@ -464,7 +466,7 @@ module _ (cells : List Cell) where
   frames_length [] = refl
   frames_length (s ∷ outer) = simp length-append (omega (arith, frames_length outer))
 
-  -- a group is opened, or passed
+  -- A group was entered, or it was skipped because it has no passes.
   pub entered : (count : ℕ) (body more : Tree) (groups : List OpenGroup) (start after next : ℕ) (stack stack' : List Frame)
       → (count ≡ 0 → (next ≡ after) × (stack' ≡ stack))
       → (0 < count → (next ≡ start) × (stack' ≡ stack ++ record { start = start; after = after; left = count - 1 } ∷ []))
@@ -503,7 +505,7 @@ module _ (cells : List Cell) where
         ),
       )
 
--- the groups round the innermost, and that
+-- the innermost of the open groups, and those around it
 pub innermost : (groups : List Frame) → 0 < length groups → (outer : List Frame) × (frame : Frame) × (groups ≡ outer ++ frame ∷ [])
 innermost [] some = absurd (omega (arith, some))
 innermost (frame ∷ []) some = ([], frame, refl)
@@ -511,7 +513,7 @@ innermost (frame ∷ next ∷ more) some =
     let rest = innermost (next ∷ more) (omega arith) in
     (frame ∷ rest.0, rest.1, ap (λ l. frame ∷ l) rest.2)
 
--- the last of two lists
+-- If two lists are equal, so are their last items, and what is before these.
 last_is : (A : Type 0) (xs ys : List A) (x y : A) → xs ++ x ∷ [] ≡ ys ++ y ∷ [] → (xs ≡ ys) × (x ≡ y)
 last_is A [] [] x y h = (refl, cc)
 last_is A [] (b ∷ []) x y h = absurd cc
@@ -521,11 +523,11 @@ last_is A (a ∷ b ∷ xs) [] x y h = absurd cc
 last_is A (a ∷ xs) (b ∷ ys) x y h = let t : xs ++ x ∷ [] ≡ ys ++ y ∷ [] = cc in let r = last_is A xs ys x y t in let e : a ≡ b = cc in (ap (λ z. z ∷ xs) e ∙ ap (λ zs. b ∷ zs) r.0, r.1)
 
 module _ {S E : Type 0} (takes : S → FieldSpec → Result Taken E → S → Type 0) (table : List Row) (cells : List Cell) where
-  -- the walk is before other nodes
+  -- A walk before these nodes is before any equal nodes.
   moved : (place : ℕ) (stack : List Frame) (left : Rest → Rest) (st : IsAtCell cells place stack left) (t : Tree) → st.0 ≡ t → IsAtNodes cells place stack left t st.1
   moved place stack left st t e = subst (λ x. IsAtNodes cells place stack left x st.1) e st.2
 
-  -- the walk moves one cell on
+  -- The walk advances by one cell.
   pub turn_on : (place : ℕ) (stack : List Frame) (left : Rest → Rest) (groups : List OpenGroup) (more : Tree) (before : Tree) (s s' : OperatorModel) (f f' : S) (c c' : ℕ)
       → IsAtNodes cells place stack left before groups → drop (place + 1) cells ≡ cells_of more (place + 1) (tail_of groups) → depth before ≡ depth more → worst before ≡ 1 + worst more → IsLegal more
       → HasWalked takes table (λ k. unroll before (turns_after_pass groups k)) (λ k. unroll more (turns_after_pass groups k)) s f c s' f' c'
@@ -606,7 +608,7 @@ module _ {S E : Type 0} (takes : S → FieldSpec → Result Taken E → S → Ty
       came_stops takes table (stop_by why) (came_none takes table left (λ k. unroll (operator fxy i.0) (turns_after_pass st.1 k)) s f c at.left_is)
       (stops_operator takes table (λ k. unroll (operator fxy i.0) (turns_after_pass st.1 k)) (λ k. unroll i.0 (turns_after_pass st.1 k)) fxy s f c c' why x (λ rest counts. refl) answers tick)
 
-  -- after a body and its end
+  -- the cells after a body and the end of its pass
   past_body : (start after : ℕ) (body m : Tree) (tail : List Cell) → after ≡ start + (size body + 1) → drop start cells ≡ cells_of body start (cell.PassEnd ∷ cells_of m after tail)
       → drop after cells ≡ cells_of m after tail
   past_body start after body m tail e h = ap (λ j. drop j cells) e ∙ sym (drop-drop (size body + 1) start cells) ∙ ap (drop (size body + 1)) h ∙ drop_body body start (cells_of m after tail)
@@ -627,7 +629,7 @@ module _ {S E : Type 0} (takes : S → FieldSpec → Result Taken E → S → Ty
       let deep : length st.1 + depth (delayed i.0 i.1 i.2) ≤ 32 = subst (λ x. length st.1 + depth x ≤ 32) i.3 st.2.deep in
       omega (arith, deep, stack_length place stack left st)
 
-  -- the factor is at the next place
+  -- The factor of a delayed replication is in the next cell.
   pub factor_next : (place : ℕ) (stack : List Frame) (left : Rest → Rest) (d : Cell) (after : ℕ) → IsAtCell cells place stack left → get_or cells place d ≡ cell.Delayed after
       → (place + 1 < length cells) × (word : ℕ) × ((d2 : Cell) → get_or cells (place + 1) d2 ≡ cell.Factor word)
   factor_next place stack left d after st e =
@@ -746,12 +748,12 @@ module _ {S E : Type 0} (takes : S → FieldSpec → Result Taken E → S → Ty
       let at : IsAtNodes cells place stack left bare [] = subst (λ x. IsAtNodes cells place stack left bare x) i.0 half in
       (at.left_is, refl, refl, tick)
 
--- a walk before the whole template
+-- At first, a walk is before the whole template.
 pub fits_first : (cells : List Cell) (template : Tree) (stack : List Frame) → AreCellsOf cells template → stack ≡ [] → IsAtCell cells 0 stack (unroll template)
 fits_first cells template stack h e = (template, [], record { frames = e; here = h.flattened; deep = omega (arith, h.shallow); legal = h.legal; outer = tt; left_is = λ k counts. refl })
 
 module _ {S E : Type 0} (takes : S → FieldSpec → Result Taken E → S → Type 0) (table : List Row) (cells : List Cell) where
-  -- a turn that ended the walk
+  -- If a turn ends the walk, the walk is complete.
   pub led_out : (template : Tree) (left : Rest → Rest) (place : ℕ) (stack : List Frame) (s : OperatorModel) (f0 f : S) (c0 c : ℕ) (o : Option ℕ) (stack' : List Frame) (s' : OperatorModel) (f' : S)
       (c' : ℕ) → ((next : ℕ) → o ≡ Some next → ⊥) → HasWalked takes table (unroll template) left begin f0 c0 s f c → Turned takes table cells left place stack s f c (Ok o) stack' s' f' c'
       → Walked takes (counted_item table template) f0 c0 (Ok tt) f' c'
@@ -761,13 +763,13 @@ module _ {S E : Type 0} (takes : S → FieldSpec → Result Taken E → S → Ty
       subst (λ g. Walked takes (course table (turns_of template) begin) f0 c0 (Ok tt) g c') (sym t.2)
       (whole takes table template begin s f0 f c0 c c' (came_then takes table came (came_none takes table left (λ rest. rest) s f c t.0)) t.3)
 
-  -- a turn that stopped the walk
+  -- If a turn stops the walk, the whole walk stops for the same reason.
   pub led_off : (template : Tree) (left : Rest → Rest) (s : OperatorModel) (f0 f f' : S) (c0 c c' : ℕ) (why : WalkStop E) → HasWalked takes table (unroll template) left begin f0 c0 s f c
       → StopsIn takes table left s f c why f' c' → Walked takes (counted_item table template) f0 c0 (Err why) f' c'
   unfolding next_item
   led_off template left s f0 f f' c0 c c' why came w = whole_stops takes table template begin f0 f' c0 c' why (came_stops takes table why came w)
 
-  -- a walk that has made no turn
+  -- At first, a walk has made no turn.
   pub came_begun : (template : Tree) (s : OperatorModel) (f : S) (c : ℕ) → s ≡ begin → HasWalked takes table (unroll template) (unroll template) begin f c s f c
   came_begun template s f c e = subst (λ z. HasWalked takes table (unroll template) (unroll template) begin f c z f c) (sym e)
       (came_none takes table (unroll template) (unroll template) begin f c (λ rest counts. refl))

@@ -1,4 +1,4 @@
--- If each field of a walk is taken as a step of a pass makes it, then the walk makes that pass.
+-- If each field that a walk takes is a step of a pass, the walk makes this pass.
 use Rattle.std.proofs.Common.{◌≡◌, ℕ, List, [], ◌∷◌, ◌++◌, Result, Ok, Err, Option, Some, None, zero, suc, ◌+◌, ◌-◌, ◌<◌, length, refl, sym, ◌∙◌, ap, subst, arith, append_assoc, append-nil}
 use Rattle.bufr_walk.specs.Prelude.{Taken, FieldSpec, TurnRefusal, WalkStop, Course, CountedCourse, uncounted, Next, take_next, at_end, refused, astray, TakenField, Takes, oks, answers_of, Walked, ticked, Item, answers_in, stop_by, StopsWalk}
 use Rattle.bufr_walk.specs.Pass.{Passing, Pass, Step, empty_pass, item_then, pass, pass_next, pass_field, EndsPass}
@@ -10,19 +10,20 @@ use Rattle.bufr_walk.proofs.WalkLemmas.{stop_cases}
 abbrev pub item : {C : Type 0} → FieldSpec → C → Item C
 item spec content = record { spec = spec; content = content }
 
--- a pass with more items before
+-- a pass with these items before its own
 abbrev pub items_before : {T C E : Type 0} → List (Item C) → Pass T C E → Pass T C E
 items_before items q = record q { items = items ++ q.items }
 
 -- ---- The items of a pass up to what comes next.
 
 module _ {T C E : Type 0} (how : Passing T C E) where
-  -- a pass from p on begins with these items, and goes on from a state, along the course after these answers
+  -- The pass from p on begins with these items, and continues from `state` along the course after
+  -- these answers.
   abbrev pub Passes : List Taken → Course → T → List (Item C) → T → Type 0
   Passes answers course p items state =
       (most left : ℕ) → most ≡ length items + left → pass how most course p ≡ items_before items (pass how left (λ more. course (answers ++ more)) state)
 
-  -- at what ends a pass, nothing more is passed
+  -- If what comes next ends the pass, the pass has no more items.
   pub at_last : (next : Next) (p : T) (stop : Option E) (go : Step T C → Pass T C E) → EndsPass how next p stop → pass_next how next p go ≡ empty_pass p stop
   at_last (take_next spec) p None go h = absurd h
   at_last (take_next spec) p (Some why) go h = ap (λ r. pass_field how spec p r go) h
@@ -37,17 +38,17 @@ module _ {T C E : Type 0} (how : Passing T C E) where
         let go : Step T C → Pass T C E = λ f. pass how left (λ more. course (answers ++ f.returned ∷ more)) f.state in
         (go, h most (suc left) (omega (arith, lt)) ∙ ap (λ a. items_before items (pass_next how (course a) state go)) (append-nil answers))
 
-    -- the pass ends after its items
+    -- If what comes next ends the pass, the pass has just these items.
     pub pass_ends : (stop : Option E) → EndsPass how (course answers) state stop → pass how most course p ≡ record { items = items; state = state; stop = stop }
     pass_ends stop e =
         goes_on.1 ∙ ap (items_before items) (at_last (course answers) state stop goes_on.0 e)
         ∙ ap (λ (xs : List (Item C)). record { items = xs; state = state; stop = stop }) (append-nil items)
 
-    -- it begins with its items
+    -- The pass begins with these items.
     pub pass_begins : (more : List (Item C)) × ((pass how most course p).items ≡ items ++ more)
     pass_begins = ((pass_next how (course answers) state goes_on.0).items, ap (λ (q : Pass T C E). q.items) goes_on.1)
 
-    -- it continues with the next field
+    -- If a field comes next, its item follows these items.
     pub pass_goes : (spec : FieldSpec) (f : Step T C) → course answers ≡ take_next spec → how.step spec state ≡ Ok f
         → (more : List (Item C)) × ((pass how most course p).items ≡ items ++ item spec f.content ∷ more)
     pass_goes spec f n step = (
@@ -66,12 +67,12 @@ module _ {T C E : Type 0} (how : Passing T C E) where
       let go : Step T C → Pass T C E = λ f. pass how most (λ more. course (f.returned ∷ more)) f.state in
       ap (λ x. pass_next how x p go) n ∙ ap (λ x. pass_field how spec p x go) step ∙ ap (item_then spec c) (h most left (omega (arith, e)))
 
--- what a walk has done so far: the items of its pass, and the turns up to what comes next
+-- the progress of a walk: the items of its pass so far, and the turns up to what comes next
 pub record Comes {T C E : Type 0} (how : Passing T C E) (gives : FieldSpec → C → Taken) (course : CountedCourse) (p : T) (steps steps' : ℕ) : Type 0 where
   pub items : List (Item C)
   pub state : T
   pub ticks : steps' ≡ ticked steps (course (answers_in gives items)).turns
-  -- the pass ends there, or continues with the next field
+  -- After these items, the pass ends or continues with the next field.
   pub ends : (most : ℕ) (stop : Option E) → length items < most → EndsPass how (course (answers_in gives items)).next state stop
       → pass how most (uncounted course) p ≡ record { items = items; state = state; stop = stop }
   pub begins : (most : ℕ) → length items < most → (more : List (Item C)) × ((pass how most (uncounted course) p).items ≡ items ++ more)
@@ -80,9 +81,9 @@ pub record Comes {T C E : Type 0} (how : Passing T C E) (gives : FieldSpec → C
 
 -- ---- The pass of a walk.
 
--- `Meets items s p`: after these items, the walk is in state s and the pass is in state p.
+-- `Meets items s p` states that the walk is in state s, and the pass in state p, after these items.
 module _ {S T C E F : Type 0} (takes : S → FieldSpec → Result Taken F → S → Type 0) (how : Passing T C E) (gives : FieldSpec → C → Taken) (Meets : List (Item C) → S → T → Type 0) where
-  -- a field that was taken is a step of the pass
+  -- The field that was taken is a step of the pass.
   pub record IsStep (before : List (Item C)) (spec : FieldSpec) (t : Taken) (s' : S) (p : T) : Type 0 where
     pub content : C
     pub state : T
@@ -125,13 +126,13 @@ module _ {S T C E F : Type 0} (takes : S → FieldSpec → Result Taken F → S 
             ap (λ ts. (course ts).next) r.2,
           )
 
-      -- a walk to the end
+      -- If the walk completes, it makes the whole pass.
       pub whole_passes : Walked takes course s steps (Ok tt) s' steps'
           → (c : Comes how gives course p steps steps') × Meets c.items s' c.state × ((course (answers_in gives c.items)).next ≡ at_end)
       whole_passes w = let c = comes w.0 s' w.1 w.3 in (c.0, c.1, sym c.2 ∙ w.2)
 
-      -- A walk that stops. The caller chooses what `Fails` says of the items, the state of the pass,
-      -- what comes next, why the walk stopped, and the state of the walk.
+      -- If the walk stops, so does the pass. `Fails` is chosen by the caller. It relates the items,
+      -- the state of the pass, what comes next, why the walk stopped, and the state of the walk.
       pub stopped_passes : (Fails : List (Item C) → T → Next → WalkStop F → S → Type 0)
           → ((items : List (Item C)) (s : S) (p : T) (spec : FieldSpec) (e : F) (s' : S) → Meets items s p → takes s spec (Err e) s' → Fails items p (take_next spec) (stops.Field e) s')
           → ((items : List (Item C)) (s : S) (p : T) (spec : FieldSpec) → Meets items s p → spec.role ≡ role.Reference → Fails items p (take_next spec) stops.Memory s)

@@ -1,4 +1,4 @@
--- How far a walk over the cells of a template came, and how many turns are left.
+-- The progress of a walk over the cells of a template, and how many turns are left.
 use Rattle.std.specs.Prelude.{Bool, if◌then◌else◌, ℕ, List, [], ◌∷◌, ◌++◌, ◌+◌, ◌-◌, ◌*◌, ◌^◌, ◌<◌, ◌≤◌, ◌≡◌, Result, Ok, Err, Option, Some, None, length, drop, slice_index}
 use Rattle.bufr_tables.specs.Prelude.{Tree, depth, Row, IsLegal, cells_of}
 use Rattle.bufr_walk.specs.Prelude.{Taken, FieldSpec, OperatorModel, Rest, counts_of, unroll, passes, pass_end, TakenField, Takes, oks, answers_of, StopsWalk, ticked, WalkStop, Turns, asked, operated, turns_ahead, turns_asked, turns_operated, Next, NextTurn, TurnRefusal, ahead, CountedCourse, uncounted}
@@ -8,11 +8,11 @@ use Rattle.bufr_tables.specs.declared.template.Cell.TheVariants as cell
 
 -- ---- What comes next, and the turns up to it.
 
--- what comes next, counted from n turns earlier
+-- what comes next, after n more turns
 abbrev pub later : ℕ → NextTurn → NextTurn
 later n a = record { turns = n + a.turns; next = a.next }
 
--- what comes next, in the first turn
+-- what comes next, after a single turn
 abbrev pub in_one_turn : Next → NextTurn
 in_one_turn next = record { turns = 1; next = next }
 
@@ -28,18 +28,18 @@ counted_operated r go = record { turns = turns_operated r (λ s. (go s).turns); 
 abbrev pub counted_ahead : List Row → Turns → OperatorModel → List Taken → NextTurn
 counted_ahead table turns s answers = record { turns = turns_ahead table turns s answers; next = ahead table turns s answers }
 
--- one of two
+-- one of two, chosen by a condition
 abbrev pub counted_either : Bool → NextTurn → NextTurn → NextTurn
 counted_either b x y = record {
   turns = if b then x.turns else y.turns;
   next = if b then x.next else y.next;
 }
 
--- the course of turns whose counts are among those returned
+-- the course of these turns; the answers include the counts of their factors
 abbrev pub course : List Row → Rest → OperatorModel → CountedCourse
 course table rest s answers = counted_ahead table (rest (counts_of answers)) s answers
 
--- a walk from one course and state to another, in t turns
+-- A walk goes from one course and state to another, in t turns.
 pub record WalkGoes {S E : Type 0} (takes : S → FieldSpec → Result Taken E → S → Type 0)
     (n : CountedCourse)
     (s : S) (t : ℕ) (n' : CountedCourse) (s' : S) : Type 0 where
@@ -47,7 +47,7 @@ pub record WalkGoes {S E : Type 0} (takes : S → FieldSpec → Result Taken E �
   pub taken : Takes (oks takes) (uncounted n) s items s'
   pub leads : (more : List Taken) → n (answers_of items ++ more) ≡ later t (n' more)
 
--- a walk from a course and state to a stop, in t turns
+-- A walk stops t turns after this course and state.
 pub record Stops {S E : Type 0} (takes : S → FieldSpec → Result Taken E → S → Type 0) (n : CountedCourse)
     (s : S) (t : ℕ) (stop : WalkStop E) (s' : S) : Type 0 where
   pub items : List TakenField
@@ -56,7 +56,7 @@ pub record Stops {S E : Type 0} (takes : S → FieldSpec → Result Taken E → 
   pub stops : StopsWalk takes (n (answers_of items)).next mid stop s'
   pub turns : (n (answers_of items)).turns ≡ t
 
--- a walk from all the turns to those that are left
+-- A walk began with the turns in `over`, and those in `left` remain.
 pub record HasWalked {S E : Type 0} (takes : S → FieldSpec → Result Taken E → S → Type 0)
     (table : List Row)
     (over left : Rest → Rest) (s : OperatorModel) (f : S) (c : ℕ) (s' : OperatorModel) (f' : S)
@@ -66,7 +66,7 @@ pub record HasWalked {S E : Type 0} (takes : S → FieldSpec → Result Taken E 
   pub way : (rest : Rest)
       → WalkGoes takes (course table (over rest) s) f turns (course table (left rest) s') f'
 
--- a walk that stopped within the turns that were left
+-- A walk that began with the turns in `over` stopped.
 pub record StopsIn {S E : Type 0} (takes : S → FieldSpec → Result Taken E → S → Type 0)
     (table : List Row) (over : Rest → Rest) (s : OperatorModel) (f : S) (c : ℕ) (why : WalkStop E)
     (f' : S) (c' : ℕ) : Type 0 where
@@ -82,23 +82,24 @@ pub record OpenGroup : Type 0 where
   pub body : Tree
   pub more : Tree
 
--- the frames, the outermost first; the groups begin with the innermost
+-- the frames of open groups; the frames begin with the outermost group, the groups with the
+-- innermost
 abbrev pub frames_of : List OpenGroup → List Frame
 frames_of [] = []
 frames_of (s ∷ outer) = frames_of outer ++ s.frame ∷ []
 
--- the turns from the end of the innermost group's pass on
+-- the turns from the end of the current pass of the innermost group on
 abbrev pub turns_after_pass : List OpenGroup → Rest → Rest
 turns_after_pass [] k counts = k counts
 turns_after_pass (s ∷ outer) k counts =
     pass_end (passes s.frame.left (unroll s.body) (unroll s.more (turns_after_pass outer k)) counts)
 
--- the cells from the end of the innermost group's pass on
+-- the cells from the end of the current pass of the innermost group on
 abbrev pub tail_of : List OpenGroup → List Cell
 tail_of [] = cell.Finish ∷ []
 tail_of (s ∷ outer) = cell.PassEnd ∷ cells_of s.more s.frame.after (tail_of outer)
 
--- each open group is in the cells, no deeper than 32
+-- The cells contain each open group, at a depth of at most 32.
 abbrev pub AllGroupsFit : List Cell → List OpenGroup → Type 0
 AllGroupsFit cells [] = Unit {0}
 AllGroupsFit cells (s ∷ outer) =
@@ -107,7 +108,8 @@ AllGroupsFit cells (s ∷ outer) =
     × (length outer + 1 + depth s.body ≤ 32) × (length outer + depth s.more ≤ 32)
     × IsLegal s.body × IsLegal s.more × AllGroupsFit cells outer
 
--- A walk is at a place before these nodes, with these open groups; `left` is the rest of its turns.
+-- A walk is at a place before these nodes, inside these open groups, and `left` is its remaining
+-- turns.
 pub record IsAtNodes (cells : List Cell) (place : ℕ) (stack : List Frame) (left : Rest → Rest)
     (more : Tree) (groups : List OpenGroup) : Type 0 where
   pub frames : stack ≡ frames_of groups
@@ -118,12 +120,12 @@ pub record IsAtNodes (cells : List Cell) (place : ℕ) (stack : List Frame) (lef
   pub left_is : (k : Rest) (counts : List ℕ) → left k counts
       ≡ unroll more (turns_after_pass groups k) counts
 
--- a walk is at a place, with this stack of open groups
+-- A walk is at this place, with this stack of open groups.
 abbrev pub IsAtCell : List Cell → ℕ → List Frame → (Rest → Rest) → Type 0
 IsAtCell cells place stack left =
     (more : Tree) × (groups : List OpenGroup) × IsAtNodes cells place stack left more groups
 
--- the most turns from a cell to the end of its pass, by those from each later cell
+-- the maximum number of turns from a cell to the end of its pass, given that from each later cell
 abbrev pub cost_of : Cell → ℕ → List ℕ → ℕ
 cost_of (cell.Element f) at later = 1 + slice_index later 0
 cost_of (cell.Operator f) at later = 1 + slice_index later 0
@@ -135,18 +137,18 @@ cost_of (cell.Factor f) at later = 0
 cost_of cell.PassEnd at later = 0
 cost_of cell.Finish at later = 0
 
--- the most turns from each cell to the end of its pass
+-- the maximum number of turns from each cell to the end of its pass
 abbrev pub costs : List Cell → ℕ → List ℕ
 costs [] at = []
 costs (c ∷ cells) at = cost_of c at (costs cells (at + 1)) ∷ costs cells (at + 1)
 
--- the most turns that open groups still have after their passes
+-- the maximum number of turns in the open groups after their current passes
 abbrev pub owed : List ℕ → List Frame → ℕ
 owed cost [] = 0
 owed cost (f ∷ frames) =
     1 + f.left * (1 + slice_index cost f.start) + slice_index cost f.after + owed cost frames
 
--- the most turns that are left
+-- the maximum number of turns that are left
 abbrev pub weight : List Cell → ℕ → List Frame → ℕ
 weight cells place stack = slice_index (costs cells 0) place + owed (costs cells 0) stack
 

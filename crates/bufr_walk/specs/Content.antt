@@ -1,6 +1,6 @@
--- A field: its specification, its content, the value that it shows, and how it is read, plain or
--- compressed. (WMO-No. 306, Volume I.2, FM 94: section 4, Tables B and C; what compression leaves
--- open is our choice)
+-- The specification and the content of a field, the value that is shown for the field, and how the
+-- field is read from plain or compressed data. (WMO-No. 306, Volume I.2, FM 94: section 4, Tables B
+-- and C; what the compression rules leave open is our choice)
 -- Cited by public contracts.
 use Rattle.std.specs.Prelude.{ℕ, ◌≡◌, ◌≤◌, ◌^◌, ◌%◌, Bool, ℤ, unsigned_abs, ◌<◌, ◌&&◌, ◌||◌, nat_le, nat_lt, not, true, false, zero, suc, ◌-◌, ◌/◌, if◌then◌else◌, List, [], ◌∷◌, take, drop, replicate, pos, negsuc, neg_ℤ, nat_abs, ◌+ℤ◌, length, Result, Ok, Err, ◌+◌, ◌*◌, ◌==◌, ◌++◌, map}
 use Rattle.bufr_tables.specs.declared.table_b.Kind.{Kind}
@@ -20,7 +20,7 @@ use Rattle.std.specs.Str.{bytes_eq}
 use Rattle.std.specs.Ordering.{int_eq}
 use Rattle.std.specs.List.{list_all, AllByRecursion}
 
--- How to read one field of the data. The width is in bits.
+-- How one field of the data is encoded. The data width is in bits.
 pub record FieldSpec : Type 0 where
   pub fxy : ℕ
   pub role : Role
@@ -28,31 +28,35 @@ pub record FieldSpec : Type 0 where
   pub width : ℕ
   pub scale : ℤ
   pub reference : ℤ
-  -- whether all ones mean that a number is missing (in a text they always do)
+  -- whether a number whose bits are all ones is missing (a string whose bits are all ones is always
+  -- missing)
   pub may_be_missing : Bool
-  -- whether the field is read by its row of Table B, so that a dump shows the row's name and unit
+  -- whether the field is read according to its row in Table B, in which case a dump shows the row's
+  -- name and unit
   pub listed : Bool
 
--- A field of this kind may have this width: 1 to 63 bits, or 1 to 255 whole octets for text.
+-- The data width is valid for a field of the given kind. A text field is a whole number of octets
+-- wide (1 to 255), and any other field is 1 to 63 bits wide.
 abbrev pub HasWidth : Kind → ℕ → Type 0
 HasWidth kind.Character width = (8 ≤ width) × (width ≤ 2040) × (width % 8 ≡ 0)
 HasWidth kind.Coded width = (1 ≤ width) × (width ≤ 63)
 HasWidth kind.Numeric width = (1 ≤ width) × (width ≤ 63)
 
--- An inserted field is a text. Factors and redefined references are numeric and never missing.
+-- A field with the given role may have the given kind. Inserted characters are text. Replication
+-- factors and redefined reference values are numeric and never missing.
 abbrev pub HasRole : Role → Kind → Bool → Type 0
 HasRole role.Element k m = Unit {0}
 HasRole role.Inserted k m = k ≡ kind.Character
 HasRole role.Factor k m = (k ≡ kind.Numeric) × (m ≡ Bool.false)
 HasRole role.Reference k m = (k ≡ kind.Numeric) × (m ≡ Bool.false)
 
--- A text may always be missing.
+-- A text field may be missing.
 abbrev pub HasMissing : Kind → Bool → Type 0
 HasMissing kind.Character m = m ≡ Bool.true
 HasMissing kind.Coded m = Unit {0}
 HasMissing kind.Numeric m = Unit {0}
 
--- what holds for every specification
+-- Every specification of a field has the following properties.
 pub record IsSpec (a : FieldSpec) : Type 0 where
   pub width : HasWidth a.kind a.width
   pub role : HasRole a.role a.kind a.may_be_missing
@@ -60,12 +64,12 @@ pub record IsSpec (a : FieldSpec) : Type 0 where
   pub scale : unsigned_abs a.scale ≤ 300
   pub reference : unsigned_abs a.reference ≤ 2 ^ 125
 
--- a specification whose descriptor has 16 bits
+-- The specification is valid and has a 16-bit descriptor.
 pub record IsField (a : FieldSpec) : Type 0 where
   pub spec : IsSpec a
   pub word : a.fxy < 2 ^ 16
 
--- The magnitude of a returned reference is at most 2^63.
+-- If the answer is a redefined reference value, its magnitude is at most 2^63.
 abbrev pub IsWithin : Taken → Type 0
 IsWithin taken.Plain = Unit {0}
 IsWithin (taken.Count n) = Unit {0}
@@ -74,8 +78,9 @@ IsWithin (taken.Reference r) = unsigned_abs r ≤ 2 ^ 63
 abbrev pub AreWithin : List Taken → Type 0
 AreWithin answers = AllByRecursion (λ (t : Taken). IsWithin t) answers
 
--- The answer fits the role: a count for a factor, a reference for a redefined reference, and
--- `Plain` for the others.
+-- The answer of a field, which is the part of its content that affects the walk, fits the field's
+-- role. A replication factor gives a count, a field that redefines a reference value gives the new
+-- value, and any other field gives `Plain`.
 abbrev pub IsForRole : Role → Taken → Type 0
 IsForRole role.Element taken.Plain = Unit {0}
 IsForRole role.Inserted taken.Plain = Unit {0}
@@ -83,7 +88,7 @@ IsForRole role.Factor (taken.Count n) = Unit {0}
 IsForRole role.Reference (taken.Reference r) = Unit {0}
 IsForRole _ _ = ⊥
 
--- The answer fits the role of the field.
+-- The answer fits the field's role.
 abbrev pub IsFor : FieldSpec → Taken → Type 0
 IsFor spec t = IsForRole spec.role t
 
@@ -93,7 +98,7 @@ is_reference _ = Bool.false
 
 -- ---- Fields that are numbers.
 
--- a field that is a number, given its parts
+-- the specification of a field that is a number, with the given parts
 abbrev pub number_field : (fxy : ℕ) → Role → NumberParts → FieldSpec
 number_field fxy role n =
     record {
@@ -107,8 +112,8 @@ number_field fxy role n =
       listed = n.listed;
     }
 
--- whether a number is plain: it is a listed element of at most 62 bits, and the magnitude of its
--- reference is below 2^62
+-- whether a number is plain, that is, whether it is an element that is read according to its row in
+-- Table B, has at most 62 bits, and has a reference value whose magnitude is less than 2^62
 abbrev pub is_plain_number : Role → (width : ℕ) → (reference : ℤ) → (listed : Bool) → Bool
 is_plain_number role.Element width r listed =
     listed && (nat_le width 62 && nat_lt (unsigned_abs r) (2 ^ 62))
@@ -118,7 +123,7 @@ is_plain_number _ width r listed = false
 abbrev pub is_plain : FieldSpec → Bool
 is_plain a = not (is_character a.kind) && is_plain_number a.role a.width a.reference a.listed
 
--- The field is a plain number: the conditions of `is_plain`, one by one.
+-- The field meets every condition for a plain number (see `is_plain`).
 pub record IsPlainNumber (a : FieldSpec) : Type 0 where
   pub kind : is_character a.kind ≡ false
   pub role : a.role ≡ role.Element
@@ -126,37 +131,39 @@ pub record IsPlainNumber (a : FieldSpec) : Type 0 where
   pub width : a.width ≤ 62
   pub reference : unsigned_abs a.reference < 2 ^ 62
 
--- a specification, and whether it is plain
+-- The specification is valid, and `plain` is true if and only if the field is a plain number.
 pub record IsSpecWith (plain : Bool) (a : FieldSpec) : Type 0 where
   pub spec : IsSpec a
   pub same : is_plain a ≡ plain
 
--- the content of a field: a number to which the reference is not added yet, a text, missing, or a
--- redefined reference
+-- the content of a field, which is a number (before the reference value is added), a string, a
+-- missing value, or a redefined reference value
 pub data Content : Type 0 where
   number : (raw : ℕ) → Content
   text : (octets : List ℕ) → Content
   missing : Content
   reference : (value : ℤ) → Content
 
--- the first n octets of bits
+-- the first n octets of the given bits
 abbrev pub octets_in : ℕ → List Bool → List ℕ
 octets_in zero bits = []
 octets_in (suc n) bits = number_of (take 8 bits) ∷ octets_in n (drop 8 bits)
 
--- a number whose first bit is its sign and whose other bits are its magnitude
+-- the signed number in the given bits; the first bit is the sign, and the other bits are the
+-- magnitude
 -- rule: new-reference, reads-minus-zero
 abbrev pub signed_by : List Bool → ℤ
 signed_by [] = pos 0
 signed_by (sign ∷ bits) = if sign then neg_ℤ (pos (number_of bits)) else pos (number_of bits)
 
--- how a field is coded
+-- how a field is coded (as a number, a string of `octets` octets, or a redefined reference value)
 pub data Coding : Type 0 where
   numbers : (width : ℕ) → (may_be_missing : Bool) → Coding
   texts : (octets : ℕ) → Coding
   references : Coding
 
--- the coding of a field: a redefined reference is recognized by its role, and a text by its kind
+-- the coding of a field; a redefined reference value is recognized by its role, and a string by its
+-- kind
 abbrev pub coding_by : Role → Kind → FieldSpec → Coding
 coding_by role.Reference _ spec = references
 coding_by _ kind.Character spec = texts (spec.width / 8)
@@ -165,8 +172,9 @@ coding_by _ _ spec = numbers spec.width spec.may_be_missing
 abbrev pub coding_of : FieldSpec → Coding
 coding_of spec = coding_by spec.role spec.kind spec
 
--- The content of the bits of a field. All ones mean missing in a text, and in a number that may be
--- missing. (own for a text that 2 05 Y inserts)
+-- The content of a field with the given bits. If all bits are ones, a string is missing, and so is
+-- a number that may be missing. It is our choice that characters inserted by 2 05 Y can be missing
+-- (own).
 -- rule: missing, missing-inserted-text
 abbrev pub content_by : Coding → List Bool → Content
 content_by (numbers width m) bits =
@@ -177,12 +185,13 @@ content_by references bits = reference (signed_by bits)
 abbrev pub content_in : FieldSpec → List Bool → Content
 content_in spec bits = content_by (coding_of spec) bits
 
--- the sign bit of a number: true if the number is negative
+-- the sign bit of a number (true if the number is negative)
 abbrev pub sign_bit : ℤ → Bool
 sign_bit (pos n) = false
 sign_bit (negsuc n) = true
 
--- the bits of a content, whose width is `width`; a reference of zero gets the plus sign
+-- the bits that represent a field's content in the given data width; a redefined reference value of
+-- zero gets a plus sign
 -- rule: writes-plus-zero
 abbrev pub bits_for : ℕ → Content → List Bool
 bits_for width (number raw) = bits_in raw width
@@ -190,7 +199,7 @@ bits_for width (text octets) = bits_of octets
 bits_for width missing = replicate width true
 bits_for width (reference value) = sign_bit value ∷ bits_in (nat_abs value) (width - 1)
 
--- the count of a factor, whose content is always a number
+-- the count in a replication factor, whose content is always a number
 abbrev pub count_in : Content → ℕ
 count_in (number raw) = raw
 count_in _ = 0
@@ -199,7 +208,7 @@ abbrev pub reference_in : Content → ℤ
 reference_in (reference value) = value
 reference_in _ = pos 0
 
--- the answer of a field, which depends on its role
+-- the answer of a field with the given role and content
 abbrev pub answer_by_role : Role → Content → Taken
 answer_by_role role.Factor c = taken.Count (count_in c)
 answer_by_role role.Reference c = taken.Reference (reference_in c)
@@ -208,15 +217,15 @@ answer_by_role _ c = taken.Plain
 abbrev pub answer_of : FieldSpec → Content → Taken
 answer_of spec c = answer_by_role spec.role c
 
--- the value that an item shows: the number value / 10^scale, a text, missing, or a redefined
--- reference
+-- the value that is shown for an item, which is a number (value / 10^scale), a string, a missing
+-- value, or a redefined reference value
 pub data ShownValue : Type 0 where
   shown_number : (value scale : ℤ) → ShownValue
   shown_text : (octets : List ℕ) → ShownValue
   shown_missing : ShownValue
   shown_reference : (value : ℤ) → ShownValue
 
--- the value of a content; the reference of the field is added to a number
+-- the value that is shown for a field's content; numbers include the reference value
 -- rule: value
 abbrev pub shown : FieldSpec → Content → ShownValue
 shown spec (number raw) = shown_number (pos raw +ℤ spec.reference) spec.scale
@@ -226,13 +235,14 @@ shown spec (reference value) = shown_reference value
 
 -- ---- One field of plain data.
 
--- why a field cannot be read: the data end (30), an increment is invalid (34), factors differ (33)
+-- The reason why a field cannot be read. The data end inside the field (fault 30), an increment is
+-- invalid (fault 34), or a replication factor differs between subsets (fault 33).
 pub data FieldFault : Type 0 where
   data_end : FieldFault
   increment : FieldFault
   unequal_factor : FieldFault
 
--- a field that was read: its content, and the bits after it
+-- the content of a field that was read, and the bits after the field
 pub record FieldRead (C : Type 0) : Type 0 where
   pub content : C
   pub suffix : List Bool
@@ -240,44 +250,47 @@ pub record FieldRead (C : Type 0) : Type 0 where
 abbrev pub found : {C : Type 0} → C → List Bool → FieldRead C
 found content suffix = record { content = content; suffix = suffix }
 
--- the field at the beginning of bits, in plain data
+-- the field at the beginning of the given plain data, or a fault if the data end inside the field
 -- rule: field-past-end
 abbrev pub plain_field : FieldSpec → List Bool → Result (FieldRead Content) FieldFault
 plain_field spec bits =
     if nat_lt (length bits) spec.width then Err data_end
     else Ok (found (content_in spec (take spec.width bits)) (drop spec.width bits))
 
--- ---- One item of compressed data: a base, k in six bits, and an increment for each subset.
+-- ---- One item of compressed data, which consists of a base (the minimum value), a six-bit number
+-- k, and an increment (a local difference) for each subset.
 
--- the number whose k bits are all ones
+-- the k-bit number whose bits are all ones
 abbrev pub ones : ℕ → ℕ
 ones k = 2 ^ k - 1
 
--- the first `count` increments of k bits each
+-- the first `count` increments, each of which is k bits wide
 abbrev pub increments : (count k : ℕ) → List Bool → List (List Bool)
 increments zero k bits = []
 increments (suc n) k bits = take k bits ∷ increments n k (drop k bits)
 
--- the number of bits of an increment; in a text, k counts octets
+-- the width of an increment in bits; for a string, k is the width in octets
 -- rule: compressed-references
 abbrev pub step_of : Coding → ℕ → ℕ
 step_of (numbers width m) k = k
 step_of (texts octets) k = 8 * k
 step_of references k = 0
 
--- The sum of a base and an increment: `None` if it exceeds the width. All ones in the sum mean
--- missing if the number may be missing (own).
+-- The content whose raw value is the sum of a base and an increment, or `None` if the sum does not
+-- fit in the data width. A number that may be missing is missing if all bits of the sum are ones
+-- (own).
 -- rule: compressed-past-width, compressed-class-31, compressed-sum-of-ones
 abbrev pub sum_within : (width : ℕ) → (may_be_missing : Bool) → (sum : ℕ) → Option Content
 sum_within width m sum =
     if nat_lt (ones width) sum then None
     else Some (if m && (sum == ones width) then missing else number sum)
 
--- The content of one subset if k is not 0, or `None` (fault 34). A number that may be missing is
--- missing if its base or its increment is all ones; any other number is their sum. A text has k
--- octets of its own; spaces follow them (own). It is missing if these octets are all 255 (own), and
--- refused if k exceeds its length (own). Its base is ignored (own). A redefined reference has no
--- increments (own).
+-- The content of an item in one subset if k is not 0, or `None` if the increment is invalid (fault
+-- 34). A number that may be missing is missing if all bits of its base or of its increment are
+-- ones. Any other number is the sum of its base and its increment. A string consists of the k
+-- octets of its increment, followed by spaces (own). The string is missing if all k octets are 255
+-- (own), and invalid if k is greater than the string's length (own). A string's base is ignored
+-- (own). A redefined reference value must not have increments (own).
 -- rule: compressed-all-missing, compressed-missing-increment, compressed-text
 -- rule: compressed-text-missing, compressed-text-past-width, compressed-text-base
 -- rule: compressed-references
@@ -291,14 +304,14 @@ increased (texts octets) k base i =
     else text (octets_in k i ++ replicate (octets - k) 32))
 increased references k base i = None
 
--- the values of a list of options, or `None` if one of them is `None`
+-- the values in a list of options, or `None` if any option is `None`
 abbrev pub all_there : {A : Type 0} → List (Option A) → Option (List A)
 all_there [] = Some []
 all_there (None ∷ more) = None
 all_there (Some a ∷ more) = option_map (λ others. a ∷ others) (all_there more)
 
--- The contents of an item, one for each of n subsets, or `None` (fault 34). If k is 0, every subset
--- has the content of the base.
+-- The content of an item in each of n subsets, or `None` if an increment is invalid (fault 34). If
+-- k is 0, the base is the content in every subset.
 -- rule: compressed-equal
 abbrev pub contents_across : Coding → (k subsets : ℕ) → (base suffix : List Bool)
     → Option (List Content)
@@ -313,15 +326,16 @@ same missing missing = true
 same (reference a) (reference b) = int_eq a b
 same _ _ = false
 
--- the contents of an item; a factor must have the same count in all subsets (own)
+-- the content of an item in each subset, or a fault if the item is a replication factor that
+-- differs between subsets (own)
 -- rule: compressed-factors
 abbrev pub if_equal : Role → List Content → Result (List Content) FieldFault
 if_equal role.Factor (c ∷ cs) =
     if list_all (same c) cs then Ok (c ∷ cs) else Err unequal_factor
 if_equal _ cs = Ok cs
 
--- The item at the beginning of bits, in compressed data of n subsets: a base, 6 bits for k, and n
--- increments if k is not 0. The first fault counts, in the order 30, 34, 33.
+-- The item at the beginning of compressed data with n subsets, or its first fault in the order 30,
+-- 34, 33. An item consists of a base, six bits for k, and, if k is not 0, n increments.
 -- rule: compressed-item, compressed-increments-there, fault-30-before-34, fault-34-before-33
 abbrev pub packed_field : (subsets : ℕ) → FieldSpec → List Bool
     → Result (FieldRead (List Content)) FieldFault
@@ -337,8 +351,8 @@ packed_field n spec bits =
       equal ← if_equal spec.role contents
       Ok (found equal (drop used suffix))
 
--- the answer of an item: that of the first subset, since factors and redefined references are the
--- same in all subsets
+-- the answer of an item, which is taken from the first subset because replication factors and
+-- redefined reference values are the same in all subsets
 abbrev pub answer_first : FieldSpec → List Content → Taken
 answer_first spec [] = taken.Plain
 answer_first spec (c ∷ cs) = answer_of spec c

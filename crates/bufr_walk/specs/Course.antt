@@ -1,5 +1,5 @@
--- A walk over a template, turn by turn: which field comes next after the fields so far. (WMO-No.
--- 306, Volume I.2, FM 94: sections 3 and 4; the turns are our choice)
+-- The steps of a walk over a template, and how the preceding fields determine the next step.
+-- (WMO-No. 306, Volume I.2, FM 94: sections 3 and 4; the steps are our choice)
 -- Cited by public contracts.
 use Rattle.std.specs.Prelude.{ℕ, zero, suc, List, [], ◌∷◌, Result, Ok, Err, if◌then◌else◌, ◌≡◌}
 use Rattle.bufr_tables.specs.Prelude.{Tree, bare, element, operator, fixed, delayed, is_inserted_text, Row}
@@ -11,13 +11,14 @@ use Rattle.bufr_walk.specs.declared.spec.TurnRefusal.TheVariants as refusal
 use Rattle.bufr_walk.specs.declared.walker.WalkStop.TheVariants as stops
 use Rattle.bufr_walk.specs.declared.spec.Role.TheVariants as role
 
--- ---- The turns of a walk over a template. (WMO-No. 306, Volume I.2, FM 94: section 3)
+-- ---- The steps of a walk over a template. (WMO-No. 306, Volume I.2, FM 94: section 3)
 
--- The turns (steps) of a walk, in order. Nothing happens at `group` (a group begins) and `pass_end`
--- (one of its passes ends); they only count as steps. `finish` is the end of the template;
--- `open_end` comes after a factor whose count is not known yet. For example, 1 02 000, 0 31 001, A,
--- B with the count 2 has the turns: group, factor, A, B, pass_end, A, B, pass_end, finish; and
--- before its count is known: group, factor, open_end.
+-- The steps of a walk, in order. A turn is one step of a walk. `group` begins a group, and
+-- `pass_end` ends one pass over a group. Nothing else happens at `group` and `pass_end`, but both
+-- count as steps. `finish` is the end of the template. `open_end` comes after a replication factor
+-- whose count is not known yet. For example, if the count is 2, the template 1 02 000, 0 31 001, A,
+-- B has the steps group, factor, A, B, pass_end, A, B, pass_end, finish. Before the count is known,
+-- the steps are group, factor, open_end.
 pub data Turns : Type 0 where
   finish : Turns
   open_end : Turns
@@ -27,22 +28,22 @@ pub data Turns : Type 0 where
   element_turn : (fxy : ℕ) → (next : Turns) → Turns
   operator_turn : (fxy : ℕ) → (next : Turns) → Turns
 
--- the turns from some point of a template to its end, given the counts of the factors among them
+-- the steps from some point in a template to its end, given the counts of the replication factors
+-- among those steps
 abbrev pub Rest : Type 0
 Rest = List ℕ → Turns
 
--- n passes of a body, and then the turns of `rest`. `body rest` is the turns of one pass and then
--- those of `rest`: each part takes the counts that it needs from the front of the list, and leaves
--- the others to the next part. For example, `passes 1 body rest counts` is `body (λ left. pass_end
--- (rest left)) counts`.
+-- The steps of n passes over the body of a group, followed by the steps of `rest`. Each pass
+-- consists of the steps of the body and `pass_end`. Every part takes the counts that it needs from
+-- the front of the list of counts and leaves the others for the next part.
 -- rule: passes-by-count
 abbrev pub passes : ℕ → (Rest → Rest) → Rest → Rest
 passes zero body rest counts = rest counts
 passes (suc n) body rest counts = body (λ left. pass_end (passes n body rest left)) counts
 
--- The turns of nodes, and then those of `rest`, given the counts of the factors read so far. The
--- nodes use the first of these counts, and `rest` gets the others. If the counts run out,
--- `open_end` follows the factor that is read next.
+-- The steps of a template's nodes, followed by the steps of `rest`. The nodes use the first counts,
+-- one for each replication factor, and leave the others for `rest`. If the counts run out,
+-- `open_end` comes after the next replication factor.
 abbrev pub unroll : Tree → Rest → Rest
 unroll bare rest counts = rest counts
 unroll (element fxy more) rest counts = element_turn fxy (unroll more rest counts)
@@ -52,43 +53,46 @@ unroll (delayed fxy body more) rest [] = group (factor_turn fxy open_end)
 unroll (delayed fxy body more) rest (n ∷ counts) =
     group (factor_turn fxy (passes n (unroll body) (unroll more rest) counts))
 
--- the turns of a whole template, given the counts so far
+-- the steps of a whole template, given the known counts of its replication factors
 abbrev pub turns_of : Tree → Rest
 turns_of template = unroll template (λ _. finish)
 
--- the counts of a field (one, if it is a factor) and of the fields after it
+-- the list `counts`, preceded by a field's count if the field is a replication factor
 abbrev pub counts_in : Taken → List ℕ → List ℕ
 counts_in taken.Plain counts = counts
 counts_in (taken.Count n) counts = n ∷ counts
 counts_in (taken.Reference r) counts = counts
 
--- the counts of the fields so far, from their answers
+-- the counts of the replication factors among the preceding fields, given the answers of those
+-- fields
 abbrev pub counts_of : List Taken → List ℕ
 counts_of [] = []
 counts_of (t ∷ answers) = counts_in t (counts_of answers)
 
--- what comes next in a walk: a field to read or write, the end of the template, or a refusal
+-- what comes next in a walk (a field to read or write, the end of the template, or a refusal)
 pub data Next : Type 0 where
   take_next : (spec : FieldSpec) → Next
   at_end : Next
-  -- the counts do not match the factors: never
+  -- The counts do not match the replication factors. This never happens.
   astray : Next
   refused : (why : TurnRefusal) → Next
 
--- A field. If no answers are left, it comes next; otherwise it is one of the fields so far, and
--- `go` continues after it with its answer and the answers after that.
+-- What comes next at a field. If no answers are left, the field itself comes next. Otherwise, the
+-- first answer belongs to the field, and `go` continues with the remaining answers.
 abbrev pub asked : Result FieldSpec TurnRefusal → (Taken → List Taken → Next) → List Taken → Next
 asked (Err why) go answers = refused why
 asked (Ok spec) go [] = take_next spec
 asked (Ok spec) go (t ∷ answers) = go t answers
 
--- an operator: `go` continues with the operators in effect after it, or it is refused
+-- What comes next at an operator. Unless the walk refuses the operator, `go` continues with the
+-- operators that are then in effect.
 abbrev pub operated : Result OperatorModel TurnRefusal → (OperatorModel → Next) → Next
 operated (Err why) go = refused why
 operated (Ok settings) go = go settings
 
--- What comes next in these turns, if `answers` are those of the fields so far and the operators `s`
--- are in effect at the first turn. Each field changes the operators by `after_field`.
+-- What comes next in a list of steps, given the answers of the fields that have already been read
+-- or written. `s` contains the operators in effect at the first step, and `after_field` returns
+-- those in effect after a field.
 -- rule: defining-fixed-groups, 2-03-255-alone
 abbrev pub ahead : List Row → Turns → OperatorModel → List Taken → Next
 ahead table finish s answers = at_end
@@ -104,29 +108,30 @@ ahead table (operator_turn fxy next) s answers =
     then asked (inserted_spec s fxy) (λ t more. ahead table next (after_field s fxy t) more) answers
     else operated (after_operator s fxy) (λ s'. ahead table next s' answers)
 
--- what comes next, as a function of the answers of the fields so far
+-- a course, which returns what comes next in a walk, given the answers of the preceding fields
 abbrev pub Course : Type 0
 Course = List Taken → Next
 
--- what comes next in a whole template
+-- the course of a whole template
 unfoldable pub next_item : List Row → Tree → Course
 next_item table template answers = ahead table (turns_of template (counts_of answers)) begin answers
 
--- ---- A walk that stops because a turn is refused.
+-- ---- A walk that stops because a step is refused.
 
--- a refusal, as the reason why a walk stopped
+-- the reason why a walk stops if a step is refused
 abbrev pub stop_by : {E : Type 0} → TurnRefusal → WalkStop E
 stop_by (refusal.Width fxy) = stops.Width fxy
 stop_by (refusal.Defining fxy) = stops.Defining fxy
 
--- ---- The fields that a walk takes, in order.
+-- ---- The fields that a walk reads or writes, in order.
 
--- a field that was taken, and its answer
+-- a field that was read or written, and its answer
 pub record TakenField : Type 0 where
   pub spec : FieldSpec
   pub taken : Taken
 
--- A walk took these fields from state s to s'. Each of them comes next after those before it.
+-- A walk read or wrote the given fields, and its state changed from s to s'. The fields are those
+-- that the course determines, in order.
 abbrev pub Takes : {S : Type 0} → (S → FieldSpec → Taken → S → Type 0) → Course → S
     → List TakenField → S → Type 0
 Takes takes course s [] s' = s' ≡ s
@@ -136,18 +141,18 @@ Takes {S} takes course s (i ∷ items) s' =
 
 -- ---- A whole walk over fields, and how it ends.
 
--- A field was taken without a fault.
+-- A field was read or written without a fault.
 abbrev pub oks : {S E : Type 0} → (S → FieldSpec → Result Taken E → S → Type 0) → S → FieldSpec
     → Taken → S → Type 0
 oks takes s spec t s' = takes s spec (Ok t) s'
 
--- the answers of the fields that were taken
+-- the answers of the fields that were read or written
 abbrev pub answers_of : List TakenField → List Taken
 answers_of [] = []
 answers_of (i ∷ items) = i.taken ∷ answers_of items
 
--- How a walk stops if this comes next: the field has a fault, or memory runs out before a redefined
--- reference is taken, or the turn is refused.
+-- The walk stopped because the next field had a fault, because memory for a redefined reference
+-- value ran out, or because the next step was refused.
 abbrev pub StopsWalk : {S E : Type 0} → (S → FieldSpec → Result Taken E → S → Type 0) → Next → S
     → WalkStop E → S → Type 0
 StopsWalk takes (take_next spec) s (stops.Field e) s' = takes s spec (Err e) s'
@@ -155,8 +160,8 @@ StopsWalk takes (take_next spec) s stops.Memory s' = (spec.role ≡ role.Referen
 StopsWalk takes (refused why) s w s' = (w ≡ stop_by why) × (s' ≡ s)
 StopsWalk takes _ s _ s' = ⊥
 
--- One field: it was taken, or it had a fault, or memory for its redefined reference ran out, or it
--- was refused.
+-- A field was read or written, or the walk stopped because the field was refused or had a fault, or
+-- because memory for a redefined reference value ran out.
 abbrev pub TakesField : {S E : Type 0} → (S → FieldSpec → Result Taken E → S → Type 0)
     → Result FieldSpec TurnRefusal
     → S → Result Taken (WalkStop E) → S → Type 0

@@ -1,25 +1,26 @@
--- Only laws need this file. A walk meets no element that Table B lacks. (WMO-No. 306, Volume I.2,
--- FM 94: section 3)
+-- Only laws need this file. A walk needs no row that Table B lacks. (WMO-No. 306, Volume I.2, FM
+-- 94: section 3)
 use Rattle.std.specs.Prelude.{◌≡◌, true, false, List, [], ◌∷◌, Result, Ok, Err, is_some}
 use Rattle.bufr_tables.specs.Prelude.{Row, entry_of, is_inserted_text}
 use Rattle.bufr_walk.specs.Content.{Taken, FieldSpec}
 use Rattle.bufr_walk.specs.Rules.{TurnRefusal, OperatorModel, after_operator, after_field, element_spec, factor_spec, inserted_spec}
 use Rattle.bufr_walk.specs.Course.{Turns, finish, open_end, group, pass_end, factor_turn, element_turn, operator_turn}
 
--- `holds` is true after a field, if the field is one of those so far.
+-- If the field has already been read or written, `holds` is true of its answer and the answers that
+-- follow.
 abbrev pub IfTaken : Result FieldSpec TurnRefusal → (Taken → List Taken → Type 0) → List Taken
     → Type 0
 IfTaken (Err why) holds answers = Unit {0}
 IfTaken (Ok spec) holds [] = Unit {0}
 IfTaken (Ok spec) holds (t ∷ answers) = holds t answers
 
--- `holds` is true after an operator, if it is not refused.
+-- If the operator is not refused, `holds` is true of the operators that are then in effect.
 abbrev pub IfApplied : Result OperatorModel TurnRefusal → (OperatorModel → Type 0) → Type 0
 IfApplied (Err why) holds = Unit {0}
 IfApplied (Ok settings) holds = holds settings
 
--- Table B has the row of each factor and element in these turns, if the fields so far returned
--- `answers`; an element after 2 06 Y need not have a row.
+-- Table B has a row for every replication factor and element that a walk with the given answers
+-- reaches in a list of steps. An element after 2 06 Y need not have a row.
 abbrev pub HasRows : List Row → Turns → OperatorModel → List Taken → Type 0
 HasRows table finish s answers = Unit {0}
 HasRows table open_end s answers = Unit {0}

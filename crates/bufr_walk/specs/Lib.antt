@@ -1,20 +1,20 @@
--- the operators in effect, and the specification of a field under them
+-- the operators in effect, and how they determine the specification of a field
 pub mod Rules
--- the turns of a template, what comes next after some items, and a walk over its cells
+-- the steps of a walk, and how the preceding fields determine the next step
 pub mod Course
--- the steps of a walk: the turns up to what comes next
+-- the number of steps that a walk takes to reach what comes next
 pub mod Steps
--- each element that a walk meets has a row in Table B
+-- the rows of Table B that a walk needs
 pub mod KnownRows
--- a field: its specification, its content, the value that is shown, and how it is read
+-- the specification and the content of a field, the value that is shown for it, and how it is read
 pub mod Content
--- the items of data, why data cannot be read, and the calls that show a reading
+-- the items of the data, the reasons why data cannot be read, and the calls that show the items
 pub mod Reading
--- a pass over a template, reading data in passes, and the result of reading
+-- one pass over a template, and how data are read in passes
 pub mod Pass
--- the readers of plain and compressed data, and what a reading stores of its items
+-- the readers of plain and compressed data, and what is stored when a message is read
 pub mod Readers
--- the cached descriptor lists with their templates, and the specs of their cells
+-- the cached descriptor lists with their templates, and the cached specifications of fields
 pub mod TemplateCache
--- the names that proofs and other crates cite, re-exported
+-- re-exports of the names that proofs and other crates use
 pub mod Prelude

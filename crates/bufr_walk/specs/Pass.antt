@@ -1,6 +1,6 @@
--- One pass over a whole template, for one subset or for all subsets of compressed data, and the
--- reading of data in such passes. (WMO-No. 306, Volume I.2, FM 94: sections 3 and 4; the order of
--- the faults at one item is our choice)
+-- One pass over a whole template, for one subset or for all subsets of compressed data, and how
+-- data are read in passes. (WMO-No. 306, Volume I.2, FM 94: sections 3 and 4; the order of the
+-- faults in an item is our choice)
 -- Cited by public contracts.
 use Rattle.std.specs.Prelude.{ℕ, zero, suc, ◌+◌, ◌-◌, Bool, true, false, List, [], ◌∷◌, length, Result, Ok, Err, Option, Some, None, option_map, map, get_or, if◌then◌else◌, ◌≡◌, ◌<◌, ◌++◌, ◌%◌, ◌⊎◌, ◌==◌, is_none, is_some}
 use Rattle.bufr_walk.specs.Content.{Taken, FieldSpec, Content, FieldFault, FieldRead, answer_of, answer_first}
@@ -16,25 +16,27 @@ use Rattle.bufr_tables.specs.Prelude.{Row, Tree}
 
 -- ---- A pass that reads or writes fields.
 
--- a field that was read or written: its content, its answer, and the state after it
+-- the content and the answer of a field that was read or written, and the state after the field
 pub record Step (S C : Type 0) : Type 0 where
   pub content : C
   pub returned : Taken
   pub state : S
 
--- How a pass is made, from field to field: it reads (`reading`) or writes (`filling`). S is the
--- state between two fields, and E is a reason to stop.
+-- How a pass reads fields (`reading`) or writes them (`filling`). S is the type of the state
+-- between two fields, and E is the type of the reasons to stop.
 pub record Passing (S C E : Type 0) : Type 0 where
-  -- the step at a field: it is read or written, or the reason why not
+  -- the result of reading or writing a field, or the reason why the field cannot be read or written
   pub step : FieldSpec → S → Result (Step S C) E
   -- the reason to stop if the walk refuses a step
   pub refuses : TurnRefusal → S → E
-  -- the reason why the pass may not end here, if any (when writing, items may be left)
+  -- the reason, if any, why the pass must not end in the given state (for example, because items
+  -- remain to be written)
   pub ends : S → Option E
-  -- never used: the reason to stop if the walk is `astray`, or if the bound of `pass` is reached
+  -- the reason to stop if the walk is `astray` or if the bound of `pass` is reached, neither of
+  -- which ever happens
   pub lost : E
 
--- a pass: its items, the state after it, and the reason why it stopped, if any
+-- the items of a pass, the state after it, and the reason why it stopped, if any
 pub record Pass (S C E : Type 0) : Type 0 where
   pub items : List (Item C)
   pub state : S
@@ -44,27 +46,28 @@ pub record Pass (S C E : Type 0) : Type 0 where
 abbrev pub empty_pass : {S C E : Type 0} → S → Option E → Pass S C E
 empty_pass state stop = record { items = []; state = state; stop = stop }
 
--- an item, and then a pass
+-- the pass that begins with an item and continues as p
 abbrev pub item_then : {S C E : Type 0} → FieldSpec → C → Pass S C E → Pass S C E
 item_then spec content p =
     record p { items = record { spec = spec; content = content } ∷ p.items }
 
 module _ {S C E : Type 0} (how : Passing S C E) where
-  -- a field: either its step stops the pass, or `rest` is the pass after it
+  -- the pass from a field on, which either stops at the field or continues as `rest`
   abbrev pub pass_field : FieldSpec → S → Result (Step S C) E → (Step S C → Pass S C E)
       → Pass S C E
   pass_field spec s (Err why) rest = empty_pass s (Some why)
   pass_field spec s (Ok f) rest = item_then spec f.content (rest f)
 
-  -- what comes next: a field, the end, or a refusal; `rest` is the pass after a field
+  -- the pass from a point where a field, the end, or a refusal comes next; `rest` is the pass after
+  -- the field
   abbrev pub pass_next : Next → S → (Step S C → Pass S C E) → Pass S C E
   pass_next (take_next spec) s rest = pass_field spec s (how.step spec s) rest
   pass_next at_end s rest = empty_pass s (how.ends s)
   pass_next (refused why) s rest = empty_pass s (Some (how.refuses why s))
-  -- this never happens, since each factor returns its count
+  -- The walk is never `astray` because each replication factor returns its count.
   pass_next astray s rest = empty_pass s (Some how.lost)
 
-  -- What comes next ends the pass, or stops it for this reason.
+  -- The pass ends at the next point of the walk, or stops there for the given reason.
   abbrev pub EndsPass : Next → S → Option E → Type 0
   EndsPass (take_next spec) s None = ⊥
   EndsPass (take_next spec) s (Some why) = how.step spec s ≡ Err why
@@ -72,10 +75,10 @@ module _ {S C E : Type 0} (how : Passing S C E) where
   EndsPass (refused why) s stop = stop ≡ Some (how.refuses why s)
   EndsPass astray s stop = ⊥
 
-  -- The pass along a course, on which `course []` comes next. If that is a field with the answer t,
-  -- the pass continues along the course after it, on which `course (t ∷ [])` comes next, and after
-  -- one more answer `course (t ∷ u ∷ [])`. `most` bounds the recursion: it is greater than the
-  -- number of bits (or of items to write), and each field uses at least one of them.
+  -- The pass over the fields of a course. If `course []`, which comes first, is a field with the
+  -- answer t, then `course (t ∷ [])` comes next, and so on. `most`, which bounds the recursion, is
+  -- greater than the number of bits to read or items to write, and each field uses at least one bit
+  -- or item.
   abbrev pub pass : (most : ℕ) → Course → S → Pass S C E
   pass zero course s = empty_pass s (Some how.lost)
   pass (suc more) course s =
@@ -83,12 +86,12 @@ module _ {S C E : Type 0} (how : Passing S C E) where
 
 -- ---- A pass that reads data.
 
--- how far data have been read: the number of items so far, and the bits that are left
+-- the number of items that a pass has read so far, and the remaining bits
 pub record Place : Type 0 where
   pub items : ℕ
   pub left : List Bool
 
--- the step at a field: the item that was read, or the fault of its field
+-- the item that results from reading a field, or the field's fault
 abbrev pub read_field : {C : Type 0} → DataCoding C → FieldSpec → (items : ℕ)
     → Result (FieldRead C) FieldFault → Result (Step Place C) Stop
 read_field coding spec items (Err why) = Err (stops.Field (wrong_of spec.fxy why))
@@ -98,8 +101,8 @@ read_field coding spec items (Ok f) = Ok (record {
   state = record { items = items + 1; left = f.suffix };
 })
 
--- How data are read. `many` says whether one more item would be too many: this is checked if the
--- walk does not refuse the field, before it is read.
+-- How a pass reads data. `many` returns whether one more item would be too many. Once the walk has
+-- accepted a field, the number of items is checked before the field is read.
 -- rule: compressed-fault-order
 abbrev pub reading : {C : Type 0} → DataCoding C → (many : ℕ → Bool) → Passing Place C Stop
 reading coding many = record {
@@ -110,19 +113,20 @@ reading coding many = record {
   lost = stops.Field (data_fault.TooManyValues 0);
 }
 
--- one pass over bits; `suc (length bits)` is enough, since each field takes at least one bit
+-- one pass that reads the given bits; its bound, `suc (length bits)`, is large enough because each
+-- field has at least one bit
 abbrev pub read_pass : {C : Type 0} → DataCoding C → (many : ℕ → Bool) → Course → List Bool
     → Pass Place C Stop
 read_pass coding many course bits =
     pass (reading coding many) (suc (length bits)) course (record { items = 0; left = bits })
 
--- ---- Reading data: one pass for each subset, or a single pass over compressed data.
+-- ---- Reading data in one pass for each subset, or in a single pass over compressed data.
 
 abbrev pub DataPass : Type 0 → Type 0
 DataPass C = Pass Place C Stop
 
--- plain data: one pass for each of n subsets, each from the beginning of the template, up to one
--- that stops
+-- the passes over plain data, one for each of n subsets; each starts at the beginning of the
+-- template, and a pass that stops because of a fault is the last one
 -- rule: operators-end-with-subset, subsets-without-padding
 abbrev pub passes_apart : Course → (n : ℕ) → List Bool → List (DataPass Content)
 passes_apart course zero bits = []
@@ -130,32 +134,34 @@ passes_apart course (suc n) bits =
     let p = read_pass plain (λ items. false) course bits in
     p ∷ (if is_none p.stop then passes_apart course n p.state.left else [])
 
--- compressed data: one pass for all n subsets; no bits are read if there are no subsets (own)
+-- the single pass over compressed data with n subsets, or no pass if n is 0, in which case no bits
+-- are read (own)
 -- rule: no-subsets
 abbrev pub passes_together : Course → (n : ℕ) → List Bool → List (DataPass (List Content))
 passes_together course zero bits = []
 passes_together course (suc n) bits =
     read_pass (packed (suc n)) (would_be_many (suc n)) course bits ∷ []
 
--- why the first pass that stopped did so, if any
+-- the first reason why a pass stopped, if any
 abbrev pub stop_of : {C : Type 0} → List (DataPass C) → Option Stop
 stop_of [] = None
 stop_of (p ∷ passes) = if is_some p.stop then p.stop else stop_of passes
 
--- the bits that are left after passes over bits
+-- the bits that remain after the given passes
 abbrev pub left_after : {C : Type 0} → List Bool → List (DataPass C) → List Bool
 left_after bits [] = bits
 left_after bits (p ∷ passes) = left_after p.state.left passes
 
--- A reading of data: its items; why it stopped (if it did) and in which subset, from 1 (0 in
--- compressed data); and the bits after its items.
+-- The result of reading data, which consists of the items, the reason why reading stopped (if it
+-- did), the number of the subset in which it stopped (counted from 1, or 0 for compressed data),
+-- and the bits after the items.
 pub record DataReading : Type 0 where
   pub values : Values
   pub stop : Option Stop
   pub subset : ℕ
   pub left : List Bool
 
--- the reading that has these values and consists of these passes over bits
+-- the result of reading data in the given passes, with the values that were read
 abbrev pub reading_by : {C : Type 0} → Values → (subset : ℕ) → List Bool → List (DataPass C)
     → DataReading
 reading_by values subset bits passes = record {
@@ -165,8 +171,9 @@ reading_by values subset bits passes = record {
   left = left_after bits passes;
 }
 
--- The reading of data by a course. In plain data, the last pass is the one that stopped, if any, so
--- its number is that of the subset. Compressed data have one pass, or none if there are no subsets.
+-- The result of reading data according to a course. With plain data, only the last pass can stop,
+-- so the number of passes is the number of the subset in which reading stops. Compressed data are
+-- read in one pass, or in none if the message has no subsets.
 abbrev pub reading_in : Course → (compressed : Bool) → (subsets : ℕ) → List Bool → DataReading
 reading_in course false n bits =
     let passes = passes_apart course n bits in
@@ -178,35 +185,35 @@ reading_in course true n bits =
 abbrev pub reading_of : Course → Data → DataReading
 reading_of course d = reading_in course d.compressed d.subsets d.bits
 
--- the fault of a reading, if it stopped
+-- the fault in the data, if reading stopped
 -- rule: stream-fault-place
 abbrev pub fault_of : Data → DataReading → Option WalkFault
 fault_of d r =
     option_map (λ why. fault_at why r.subset (length d.bits - length r.left)) r.stop
 
--- ---- The items of a reading, and the calls that show them.
+-- ---- The items read from a message, and the calls that show them.
 
--- the items that were read
+-- the items read from a message
 abbrev pub values_read : Read → Values
 values_read r = (reading_of (course_of r) r.source).values
 
--- the calls that show a reading
+-- the calls that show the items read from a message
 abbrev pub calls_of : Read → List Timed
 calls_of r = calls_for r (values_read r)
 
--- the number of turns that showing a reading takes
+-- the number of steps needed to show the items read from a message
 abbrev pub turns_shown : Read → ℕ
 turns_shown r = turns_for r (values_read r)
 
--- A reading has this table, this number of subsets, and these items of compressed data.
+-- `p` contains the table, the number of subsets, and the items that were read from compressed data.
 pub record IsPackedOf (p : PackedValues) (r : Read) : Type 0 where
   pub table : p.table ≡ r.table
   pub subsets : p.subsets ≡ r.source.subsets
   pub values : values_read r ≡ together p.items
 
--- ---- A pass described item by item: each item is read where the one before it ended.
+-- ---- A pass described item by item. Each item begins where the preceding one ends.
 
--- Starting at a place, a pass reads its items and then ends.
+-- The pass starts at the place `from`, reads its items, and then ends.
 pub record ReadsTo {C : Type 0} (form : DataCoding C) (many : ℕ → Bool) (course : Course)
     (from : Place) (p : DataPass C) : Type 0 where
   pub reads : ReadsItems form course p.items from.left p.state.left
@@ -214,9 +221,9 @@ pub record ReadsTo {C : Type 0} (form : DataCoding C) (many : ℕ → Bool) (cou
   pub count : p.state.items ≡ from.items + length p.items
   pub ends : EndsPass (reading form many) (course (answers_in form.gives p.items)) p.state p.stop
 
--- ---- The turns of passes.
+-- ---- The number of steps in passes.
 
--- the number of turns that reading data by a course takes
+-- the number of steps needed to read data according to a course
 abbrev pub turns_read_in : CountedCourse → (compressed : Bool) → (subsets : ℕ) → List Bool → ℕ
 turns_read_in course false n bits =
     turns_in answer_of course (map (λ p. p.items) (passes_apart (uncounted course) n bits))
@@ -228,9 +235,9 @@ turns_read course d = turns_read_in course d.compressed d.subsets d.bits
 
 -- ---- When memory may run out.
 
--- Memory may run out in one of these passes, before the field that follows some of its items: if
--- the field is a redefined reference, which must be stored, or if memory is allocated after this
--- many items (`wants`). `turns` is the number of turns made up to this field.
+-- Memory may run out in one of the given passes, just before a field is read. Memory is allocated
+-- at that point if the field is a redefined reference value, which must be stored, or if the number
+-- of preceding items requires it (`wants`). `turns` is the number of steps up to that field.
 pub record RunsShort {C : Type 0} (form : DataCoding C) (wants : ℕ → Bool) (course : CountedCourse)
     (passes : List (DataPass C)) (turns : ℕ) : Type 0 where
   pub done : List (DataPass C)
@@ -246,7 +253,7 @@ pub record RunsShort {C : Type 0} (form : DataCoding C) (wants : ℕ → Bool) (
   pub turns_are : turns ≡ turns_in form.gives course (map (λ p. p.items) done)
       + (course (answers_in form.gives items)).turns
 
--- Memory may run out in one of the passes of a reading. For compressed data, memory is allocated
+-- Memory may run out in one of the passes over the data. For compressed data, memory is allocated
 -- for 64 items at a time.
 abbrev pub MayRunShort : CountedCourse → (compressed : Bool) → (subsets : ℕ) → List Bool
     → (turns : ℕ) → Type 0
@@ -258,9 +265,9 @@ MayRunShort course true n bits turns =
 
 -- ---- The result of a call that reads data.
 
--- A call that reads data returns the number of bits that the items take, or the fault that stopped
--- the reading, or `Memory` if memory ran out (`MayRunShort`). Its steps are those of the turns that
--- it made.
+-- A call that reads data returns the number of bits that the items occupy, the fault at which
+-- reading stopped, or `Memory` if memory ran out (see `MayRunShort`). `steps` is the number of
+-- steps that the walk took.
 -- rule: bits-left-over
 abbrev pub ReadsData : CountedCourse → Data → Result ℕ WalkFault → (steps : ℕ) → Type 0
 ReadsData course d (Ok used) steps =
@@ -273,7 +280,7 @@ ReadsData course d (Err why) steps =
     ⊎ ((why ≡ walk_fault.Memory) × (turns : ℕ)
     × MayRunShort course d.compressed d.subsets d.bits turns × (steps ≡ ticked 0 turns))
 
--- A call returns a reading with this table, this template and these data, or a fault.
+-- A call returned a fault, or a `Reading` with the given table, template and data.
 abbrev pub AnswersReading : List Row → Tree → Data → Result Read WalkFault → (steps : ℕ) → Type 0
 AnswersReading table template d (Ok r) steps =
     (r.table ≡ table) × (r.template ≡ template) × (r.source ≡ d)

@@ -1,4 +1,4 @@
--- Re-exports the names that proofs and other crates cite, and declares nothing.
+-- Re-exports the names that proofs and other crates use, and declares nothing.
 pub use Rattle.bufr_walk.specs.Rules.{TableField, TurnRefusal, operator_width, AreOperands, IsOperatorKey, OperatorModel, IsKey, is_defining, element_spec, factor_spec, factor_by, factor_field, spec_by_kind, new_reference_spec, numeric_spec, coded_spec, text_spec, text_width, local_width_spec, listed_by, unsigned_field, begin, IsFieldKey, spec_key, HasOctetOperands, IsSpecKey, Dependence, by_reference, dependence, dependence_number, HasNumber, OnNothing, OnWidth, OnReference, with_all, known_of, last_of, redefined, descriptor_of, key_word, spec_of, Redefined, current_reference, with_reference, known_by, after_operator, after_field, inserted_spec, if_valid_width, defined_field, operator_model, scale_change_of, with_references, with_operator}
 pub use Rattle.bufr_walk.specs.Course.{WalkStop, Course, Turns, finish, operator_turn, Rest, unroll, passes, pass_end, Next, take_next, refused, at_end, astray, ahead, asked, operated, counts_of, TakenField, Takes, oks, answers_of, StopsWalk, counts_in, open_end, group, element_turn, turns_of, TakesField, stop_by, factor_turn}
 pub use Rattle.bufr_walk.specs.Steps.{NextTurn, CountedCourse, uncounted, counted_item, turns_ahead, turns_asked, turns_operated, Walked, ticked}

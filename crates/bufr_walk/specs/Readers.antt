@@ -1,5 +1,5 @@
--- Only contracts need this file. How plain and compressed data are read: a pass over them, fields
--- that are shown as they are read, items as the code reads them, and what a reading stores.
+-- Only contracts need this file. How the code reads and shows plain and compressed data, and what
+-- it stores when it reads a message.
 use Rattle.std.specs.Prelude.{ℕ, ◌≡◌, ◌≤◌, ◌+◌, Bool, List, drop, Result, Ok, Err, ◌++◌, ◌<◌, ◌*◌, ◌^◌, ◌%◌, ◌==◌, ◌&&◌, ◌||◌, true, false, [], ◌∷◌, length, take, ◌/◌, ◌-◌, map, get_or, is_some, Option, None}
 use Rattle.bufr_walk.specs.Content.{Taken, missing, ShownValue, Coding, step_of, increments, increased, FieldSpec, Content, answer_of, plain_field, found, data_end, FieldFault, FieldRead, packed_field, answer_first}
 use Rattle.bufr_walk.specs.Reading.{wrong_of, Item, plain, answers_in, Read, course_of, max_values, items_at_once, Data, Values, apart, together, each_subset, ShowFault, Call, item_call, view_of, Timed, item_calls, Shows, View, PackedValues}
@@ -18,7 +18,8 @@ use Rattle.bufr_walk.specs.declared.compressed.ItemBits.{ItemBits}
 use Rattle.bufr_walk.specs.declared.reading.StoredItems.{StoredItems}
 use Rattle.bufr_walk.specs.declared.reading.StoredItems.TheVariants as stored
 
--- data, a reading, a view and a place, each made from its parts
+-- data with the given parts; the next three definitions likewise construct a `Read`, a `View`, and
+-- a `Place`
 abbrev pub data_in : (compressed : Bool) → (subsets : ℕ) → (octets : List ℕ) → Data
 data_in compressed subsets octets =
     record { compressed = compressed; subsets = subsets; bits = bits_of octets }
@@ -33,7 +34,7 @@ view fxy entry value = record { fxy = fxy; entry = entry; value = value }
 abbrev pub place_at : ℕ → List Bool → Place
 place_at items left = record { items = items; left = left }
 
--- the content of an item in one subset, counted from 0
+-- the content of an item in one subset; subsets are counted from 0
 abbrev pub content_at : (subset : ℕ) → List Content → Content
 content_at j contents = get_or contents j missing
 
@@ -41,11 +42,12 @@ content_at j contents = get_or contents j missing
 abbrev pub items_by_pass : {C : Type 0} → List (DataPass C) → List (List (Item C))
 items_by_pass passes = map (λ p. p.items) passes
 
--- the items of the first pass, which is the only one over compressed data; none if there is no pass
+-- the items of the first pass, which is the only pass over compressed data, or an empty list if no
+-- pass was made
 abbrev pub first_items : {C : Type 0} → List (List (Item C)) → List (Item C)
 first_items passes = get_or passes 0 []
 
--- a reader of plain data: the bits, and how many of them have been read
+-- a reader that has read the first `at` bits of plain data
 pub record Cursor : Type 0 where
   pub bits : List Bool
   pub at : ℕ
@@ -54,11 +56,12 @@ pub record Cursor : Type 0 where
 abbrev pub rest_of : Cursor → List Bool
 rest_of s = drop s.at s.bits
 
--- the reader after a field with this specification
+-- the reader after it has read a field with the given specification
 abbrev pub past : Cursor → FieldSpec → Cursor
 past s spec = record { bits = s.bits; at = s.at + spec.width }
 
--- The remaining bits begin with this field, and t is its answer.
+-- The remaining bits begin with a field that has the given specification, t is its answer, and s'
+-- is the reader after the field.
 pub record IsTaken (s : Cursor) (spec : FieldSpec) (t : Taken) (s' : Cursor) : Type 0 where
   pub content : Content
   pub some : 1 ≤ spec.width
@@ -66,21 +69,21 @@ pub record IsTaken (s : Cursor) (spec : FieldSpec) (t : Taken) (s' : Cursor) : T
   pub gives : t ≡ answer_of spec content
   pub next : s' ≡ past s spec
 
--- One call: the field was read, or the bits end inside it and nothing changes.
+-- A call read a field, or changed nothing because the data end inside the field.
 abbrev pub PlainTakes : Cursor → FieldSpec → Result Taken DataFault → Cursor → Type 0
 PlainTakes s spec (Ok t) s' = IsTaken s spec t s'
 PlainTakes s spec (Err e) s' =
     (plain_field spec (rest_of s) ≡ Err data_end) × (e ≡ data_fault.DataEnd spec.fxy) × (s' ≡ s)
 
--- the state while data are shown: the reader, the visitor, Table B, and the ghost names of the
--- first two
+-- the state while data are shown, which consists of the reader, the visitor, Table B, and the ghost
+-- names of the reader and the visitor
 pub record Stage (V : Type 0) : Type 0 where
   pub cursor : Cursor
   pub visitor : V
   pub table : List Row
   pub names : ℕ × ℕ
 
--- a state made from its parts
+-- the state with the given parts
 abbrev pub stage : {V : Type 0} → Cursor → V → List Row → ℕ → ℕ → Stage V
 stage cursor visitor table a b =
     record { cursor = cursor; visitor = visitor; table = table; names = (a, b) }
@@ -102,7 +105,8 @@ pub record IsUnshown {V E : Type 0} (sees : V → Call → Result (Unit {0}) E �
   pub cursor : s'.cursor ≡ s.cursor
   pub names : s'.names ≡ s.names
 
--- One call: a field was shown, or the data end inside it, or the visitor refused it.
+-- A call showed a field, or failed because the data end inside it or because the visitor refused
+-- it.
 abbrev pub ShowingTakes : {V E : Type 0} → (V → Call → Result (Unit {0}) E → V → Type 0) → Stage V
     → FieldSpec → Result Taken (ShowStop E) → Stage V → Type 0
 ShowingTakes sees s spec (Ok t) s' = IsShown sees s spec t s'
@@ -110,20 +114,21 @@ ShowingTakes sees s spec (Err show_stop.DataEnd) s' =
     (plain_field spec (rest_of s.cursor) ≡ Err data_end) × (s' ≡ s)
 ShowingTakes sees s spec (Err (show_stop.Visitor e)) s' = IsUnshown sees s spec e s'
 
--- After a fault, the reader is at the same bit.
+-- A fault leaves the reader at the same bit.
 pub refusal_keeps : {V E : Type 0} (sees : V → Call → Result (Unit {0}) E → V → Type 0)
     (s : Stage V) (spec : FieldSpec) (e : ShowStop E) (s' : Stage V)
     → ShowingTakes sees s spec (Err e) s' → s'.cursor.at ≡ s.cursor.at
 refusal_keeps sees s spec show_stop.DataEnd s' h = ap (λ x. x.cursor.at) h.1
 refusal_keeps sees s spec (show_stop.Visitor e) s' h = ap (λ c. c.at) h.cursor
 
--- The calls before `rest` were made: if `rest` is made after them, its result is that of all calls.
+-- The calls before `rest` were made. If the calls in `rest` follow, their result is the result of
+-- all calls.
 pub record Sofar {S E : Type 0} (sees : S → Call → Result (Unit {0}) E → S → Type 0) (s : S)
     (calls : List Timed) (s1 : S) (rest : List Timed) : Type 0 where
   pub on : (turns : ℕ) (r : Result (Unit {0}) (ShowFault E)) (s' : S) (steps : ℕ)
       → Shows sees s1 rest turns r s' steps → Shows sees s calls turns r s' steps
 
--- The items of a pass were shown, whatever calls follow them.
+-- The items of a pass were shown, regardless of the calls that follow.
 pub record IsAllShown {S E : Type 0} (sees : S → Call → Result (Unit {0}) E → S → Type 0)
     (table : List Row) (course : CountedCourse) (s : S) (steps : ℕ) (p : DataPass Content)
     (c' : Cursor) (s' : S) (steps' : ℕ) : Type 0 where
@@ -132,7 +137,7 @@ pub record IsAllShown {S E : Type 0} (sees : S → Call → Result (Unit {0}) E 
   pub left : rest_of c' ≡ p.state.left
   pub ticks : steps' ≡ ticked steps (course (answers_in answer_of p.items)).turns
 
--- The items of the next subset were shown, or showing stopped at one of them.
+-- The items of the next subset were shown, either all of them or only those before a fault.
 abbrev pub ItemsGo : {S E : Type 0} → (S → Call → Result (Unit {0}) E → S → Type 0) → List Row
     → CountedCourse → Cursor → S → ℕ → Result (Unit {0}) (ShowFault E) → Cursor → S → ℕ → Type 0
 ItemsGo sees table course c s steps (Ok _) c' s' steps' =
@@ -143,15 +148,15 @@ ItemsGo sees table course c s steps (Err why) c' s' steps' =
     (before : ℕ) (more : List Timed) (turns : ℕ) → steps ≡ ticked 0 before
     → Shows sees s (item_calls table before course p.items ++ more) turns (Err why) s' steps'
 
--- a reader of compressed data: the bits, how many of them have been read, the number of subsets,
--- and the items read so far
+-- a reader that has read the first `at` bits of compressed data; `items` contains the items that it
+-- has read
 pub record PackedCursor : Type 0 where
   pub bits : List Bool
   pub at : ℕ
   pub subsets : ℕ
   pub items : List (Item (List Content))
 
--- a reader that has read nothing
+-- a reader of compressed data that has not read anything yet
 abbrev pub new_packed_in : (bits : List Bool) (subsets : ℕ) → PackedCursor
 new_packed_in bits n = record { bits = bits; at = 0; subsets = n; items = [] }
 
@@ -159,7 +164,7 @@ new_packed_in bits n = record { bits = bits; at = 0; subsets = n; items = [] }
 abbrev pub remaining_bits : PackedCursor → List Bool
 remaining_bits s = drop s.at s.bits
 
--- the contents of an item that was read; none if there is a fault
+-- the content of an item in each subset, or an empty list if the item has a fault
 abbrev pub contents_found : Result (FieldRead (List Content)) FieldFault → List Content
 contents_found (Ok f) = f.content
 contents_found (Err why) = []
@@ -169,52 +174,53 @@ abbrev pub was_found : Result (FieldRead (List Content)) FieldFault → Bool
 was_found (Ok f) = true
 was_found (Err why) = false
 
--- the bit at which the item of an index entry begins
+-- the position of the first bit of the item that an index entry locates
 abbrev pub start_of : IndexedItem → ℕ
 start_of e = 2 ^ 32 * e.at_high + e.at_low
 
--- the item at the location of an entry
+-- the item that an index entry locates
 abbrev pub item_at : (bits : List Bool) (subsets : ℕ) → IndexedItem → Item (List Content)
 item_at bits n e = record {
   spec = e.spec;
   content = contents_found (packed_field n e.spec (drop (start_of e) bits));
 }
 
--- the items at the locations of entries
+-- the items that the given index entries locate
 abbrev pub items_at : (bits : List Bool) (subsets : ℕ) → List IndexedItem
     → List (Item (List Content))
 items_at bits n [] = []
 items_at bits n (e ∷ kept) = item_at bits n e ∷ items_at bits n kept
 
--- whether the base stored in an entry is the base in the bits; always true for a text
+-- whether an index entry stores the base that the bits contain; always true for strings
 abbrev pub has_base : (bits : List Bool) → IndexedItem → Bool
 has_base bits e =
     is_character e.spec.kind || (e.base == number_of (take e.spec.width (drop (start_of e) bits)))
 
--- whether every increment is valid
+-- whether every increment of an item is valid
 abbrev pub are_valid : Coding → (k subsets : ℕ) → (base suffix : List Bool) → Bool
 are_valid c k n base suffix =
     list_all (λ i. is_some (increased c k base i)) (increments n (step_of c k) suffix)
 
--- whether a valid item is at the location of an entry, with the k and the base of the entry
+-- whether the item that an index entry locates is valid and has the k and the base that the entry
+-- stores
 abbrev pub fits_at : (bits : List Bool) (subsets : ℕ) → IndexedItem → Bool
 fits_at bits n e =
     was_found (packed_field n e.spec (drop (start_of e) bits))
     && ((e.step == number_of (take 6 (drop (start_of e + e.spec.width) bits))) && has_base bits e)
 
--- compressed data whose items are at the locations of these entries
+-- compressed data whose items are located by the given index entries
 abbrev pub packed_values : List Row → (bits : List Bool) (subsets : ℕ) → List IndexedItem
     → PackedValues
 packed_values table bits n kept =
     record { table = table; subsets = n; items = items_at bits n kept }
 
--- a reader of compressed data whose items are at the locations of these entries
+-- a reader of compressed data whose items are located by the given index entries
 abbrev pub packed_view : (bits : List Bool) (at subsets : ℕ) → List IndexedItem → PackedCursor
 packed_view bits at n kept =
     record { bits = bits; at = at; subsets = n; items = items_at bits n kept }
 
--- What holds for a reader of compressed data. Each item has at least 7 bits (one for the base and
--- six for k), and at most 2,550 bits for each subset.
+-- Every reader of compressed data has the following properties. Each item has at least 7 bits (one
+-- for the base and six for k) and at most 2,550 bits for each subset.
 pub record IsPackedIn (bits : List Bool) (at subsets : ℕ) (kept : List IndexedItem) : Type 0 where
   pub within : at ≤ length bits
   pub some : 1 ≤ subsets
@@ -223,8 +229,8 @@ pub record IsPackedIn (bits : List Bool) (at subsets : ℕ) (kept : List Indexed
   pub near : at ≤ 2550 * (length kept * subsets)
   pub fit : list_all (fits_at bits subsets) kept ≡ true
 
--- The remaining bits begin with an item for this field, and t is its answer. The item is added to
--- those read so far.
+-- The remaining bits begin with an item for the given field, and t is its answer. The item was
+-- added to the items that the reader has read.
 pub record IsPackedTaken (s : PackedCursor) (spec : FieldSpec) (t : Taken)
     (s' : PackedCursor) : Type 0 where
   pub contents : List Content
@@ -237,15 +243,15 @@ pub record IsPackedTaken (s : PackedCursor) (spec : FieldSpec) (t : Taken)
   pub items : s'.items ≡ s.items ++ record { spec = spec; content = contents } ∷ []
   pub forth : s.at + 7 ≤ s'.at
 
--- The item at this bit is invalid, and e is its fault.
+-- The item that begins at the given bit is invalid, and e is its fault.
 pub record IsUnseen (bits : List Bool) (at n : ℕ) (spec : FieldSpec)
     (e : DataFault) : Type 0 where
   pub why : FieldFault
   pub field : packed_field n spec (drop at bits) ≡ Err why
   pub fault : e ≡ wrong_of spec.fxy why
 
--- One call: an item was read and stored, or there would be too many values, or the item is invalid,
--- or memory for more items ran out. A fault changes nothing.
+-- A call read and stored an item, or failed because the data would have too many values, because
+-- the item is invalid, or because memory for more items ran out. A call that fails changes nothing.
 abbrev pub PackedTakes : PackedCursor → FieldSpec → Result Taken DataFault → PackedCursor → Type 0
 PackedTakes s spec (Ok t) s' = IsPackedTaken s spec t s'
 PackedTakes s spec (Err (data_fault.TooManyValues fxy)) s' =
@@ -255,7 +261,7 @@ PackedTakes s spec (Err e) s' =
     IsUnseen s.bits s.at s.subsets spec e × (s' ≡ s)
     × ((length s.items + 1) * s.subsets ≤ max_values)
 
--- A fault changes nothing.
+-- A call that fails changes nothing.
 pub refuses_packed : (s : PackedCursor) (spec : FieldSpec) (e : DataFault) (s' : PackedCursor)
     → PackedTakes s spec (Err e) s' → s' ≡ s
 refuses_packed s spec (data_fault.TooManyValues fxy) s' h = h.2
@@ -264,8 +270,8 @@ refuses_packed s spec (data_fault.DataEnd fxy) s' h = h.1
 refuses_packed s spec (data_fault.Increment fxy) s' h = h.1
 refuses_packed s spec (data_fault.UnequalFactor fxy) s' h = h.1
 
--- The item at this bit was read: s has its answer, its k, its base (if it is a number) and the bit
--- after it.
+-- The item that begins at the given bit was read. `s` contains the item's answer, its k, its base
+-- (if the item is a number), and the index of the bit after the item.
 pub record IsSeen (bits : List Bool) (at n : ℕ) (spec : FieldSpec) (s : ItemBits) : Type 0 where
   pub contents : List Content
   pub field : packed_field n spec (drop at bits) ≡ Ok (found contents (drop s.end bits))
@@ -275,13 +281,13 @@ pub record IsSeen (bits : List Bool) (at n : ℕ) (spec : FieldSpec) (s : ItemBi
   pub within : s.end ≤ length bits
   pub least : at + 7 ≤ s.end
 
--- There is one entry for each item of compressed data, and the item is at the entry's location.
+-- The index has one entry for each item of compressed data, and each entry locates its item.
 abbrev pub AreKept : Data → List IndexedItem → List (Item (List Content)) → Type 0
 AreKept d entries items =
     (items_at d.bits d.subsets entries ≡ items)
     × (list_all (fits_at d.bits d.subsets) entries ≡ true)
 
--- the content of a stored item in one subset, counted from 0
+-- the content of a stored item in one subset; subsets are counted from 0
 abbrev pub content_kept : (bits : List Bool) (subsets : ℕ) → IndexedItem → (subset : ℕ) → Content
 content_kept bits n e j =
     content_at j (contents_found (packed_field n e.spec (drop (start_of e) bits)))
@@ -296,25 +302,25 @@ abbrev pub held_of : StoredItems → ℕ
 held_of stored.Apart = 0
 held_of (stored.Together entries) = length entries
 
--- What is stored of the values: nothing if the data are plain, and an entry for each item if they
--- are compressed.
+-- For plain data, nothing is stored. For compressed data, an index entry is stored for each item.
 abbrev pub KeepsValues : StoredItems → Data → Values → Type 0
 KeepsValues stored.Apart d (apart subsets) = Unit {0}
 KeepsValues stored.Apart d (together items) = ⊥
 KeepsValues (stored.Together entries) d (apart subsets) = ⊥
 KeepsValues (stored.Together entries) d (together items) = AreKept d entries items
 
--- the number of items in all subsets together
+-- the total number of items in all subsets
 abbrev pub items_in : List (List (Item Content)) → ℕ
 items_in [] = 0
 items_in (items ∷ subsets) = length items + items_in subsets
 
--- In plain data, each item has at least one bit.
+-- Plain data have at least as many bits as items, because each item has at least one bit.
 abbrev pub PaysBits : Values → (used : ℕ) → Type 0
 PaysBits (apart subsets) used = items_in subsets ≤ used
 PaysBits (together items) used = Unit {0}
 
--- A reading that completed, and what is stored of it. Each stored item has at least 7 bits.
+-- All items were read without a fault, and those of compressed data are stored (see `KeepsValues`).
+-- Each stored item has at least 7 bits.
 pub record IsStoredReading (r : Read) (k : StoredItems) : Type 0 where
   pub none : (reading_of (course_of r) r.source).stop ≡ None
   pub keeps : KeepsValues k r.source (values_read r)
@@ -322,10 +328,11 @@ pub record IsStoredReading (r : Read) (k : StoredItems) : Type 0 where
   pub pays : PaysBits (values_read r) r.bits
   pub most : items_in (each_subset r.source.subsets (values_read r)) ≤ max_values
 
--- ---- The index of the items of compressed data.
+-- ---- The index of the items in compressed data.
 
 -- The capacity of the index is at least the number of entries, rounded up to a multiple of 64,
--- since room is made for 64 at a time. It is at most twice the number of entries plus 64.
+-- because memory is allocated for 64 entries at a time. The capacity is at most 64 more than twice
+-- the number of entries.
 pub record HasRoom (entries room : ℕ) : Type 0 where
   pub enough : (entries + (items_at_once - 1)) / items_at_once * items_at_once ≤ room
   pub most : room ≤ 2 * entries + items_at_once

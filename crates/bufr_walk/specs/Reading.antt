@@ -1,5 +1,5 @@
--- The data of a message: their items, and why they cannot be read. (WMO-No. 306, Volume I.2, FM 94:
--- sections 3 and 4)
+-- The items in the data of a message, and the reasons why data cannot be read. (WMO-No. 306, Volume
+-- I.2, FM 94: sections 3 and 4)
 -- Cited by public contracts.
 use Rattle.std.specs.Prelude.{ℕ, zero, suc, ◌≡◌, ◌+◌, ◌*◌, Bool, List, [], ◌∷◌, length, drop, take, ◌<◌, Result, Ok, ◌⊎◌, nat_lt, Option, None, Err, codes, decimal, if◌then◌else◌, ◌++◌, option_map, map, get_or}
 use Rattle.bufr_walk.specs.Content.{Taken, FieldSpec, Content, answer_of, FieldFault, FieldRead, found, plain_field, data_end, increment, unequal_factor, packed_field, answer_first, ShownValue, shown, missing, shown_number, shown_text, shown_missing, shown_reference}
@@ -21,15 +21,15 @@ use Rattle.bufr_walk.specs.declared.visitor.ItemView.{ItemView}
 use Rattle.bufr_walk.specs.declared.fault.ShowFault.TheVariants as show_fault
 use Rattle.bufr_walk.specs.declared.visitor.Value.TheVariants as item_value
 
--- an item: its specification, and its content in one subset, or its contents in all
+-- the specification of an item, and its content in one subset or in all subsets
 pub record Item (C : Type 0) : Type 0 where
   pub spec : FieldSpec
   pub content : C
 
--- How data are coded: plain with C = Content, or compressed with C = List Content. (`Coding` is how
--- a single field is coded.)
+-- How data are coded. For plain data, C is `Content`; for compressed data, C is `List Content`.
+-- (`Coding` describes how a single field is coded.)
 pub record DataCoding (C : Type 0) : Type 0 where
-  -- reads the item at the beginning of bits
+  -- the item at the beginning of the given bits, or its fault
   pub field : FieldSpec → List Bool → Result (FieldRead C) FieldFault
   -- the answer of an item
   pub gives : FieldSpec → C → Taken
@@ -40,16 +40,16 @@ plain = record { field = plain_field; gives = answer_of }
 abbrev pub packed : ℕ → DataCoding (List Content)
 packed n = record { field = packed_field n; gives = answer_first }
 
--- the answers of items: the part of their contents that affects the walk
+-- the answers of items, which are the parts of their content that affect the walk
 abbrev pub answers_in : {C : Type 0} → (FieldSpec → C → Taken) → List (Item C) → List Taken
 answers_in gives items = map (λ i. gives i.spec i.content) items
 
--- a course after one more item, with turns or without
+-- the course after one more item, with or without step counts
 abbrev pub after : {C N : Type 0} → DataCoding C → (List Taken → N) → Item C → List Taken → N
 after form course i answers = course (form.gives i.spec i.content ∷ answers)
 
--- Each item is the content of the field that comes next, and is read where the item before it
--- ended; `suffix` is the bits after the last one.
+-- Each item belongs to the field that comes next, and begins where the preceding item ends.
+-- `suffix` contains the bits after the last item.
 abbrev pub ReadsItems : {C : Type 0} → DataCoding C → Course → List (Item C)
     → (bits suffix : List Bool) → Type 0
 ReadsItems form course [] bits suffix = bits ≡ suffix
@@ -58,70 +58,76 @@ ReadsItems form course (i ∷ items) bits suffix =
     × (form.field i.spec bits ≡ Ok (found i.content mid))
     × ReadsItems form (after form course i) items mid suffix
 
--- the maximum number of values in a compressed message: 2^27 (own)
+-- the maximum number of values in compressed data, which is 2^27 (own)
 -- rule: too-many-values
 abbrev pub max_values : ℕ
 max_values = 134217728
 
--- the number of items of compressed data for which memory is allocated at once (own)
+-- the number of items of compressed data for which memory is allocated at a time (own)
 abbrev pub items_at_once : ℕ
 items_at_once = 64
 
--- the data of a message: whether they are compressed, their number of subsets, and their bits
+-- whether the data of a message are compressed, the number of subsets, and the bits of the data
 pub record Data : Type 0 where
   pub compressed : Bool
   pub subsets : ℕ
   pub bits : List Bool
 
--- the items of the data: those of each subset, or in compressed data those of all subsets together
+-- the items in the data, in a separate list for each subset of plain data or in a single list for
+-- all subsets of compressed data
 pub data Values : Type 0 where
   apart : (subsets : List (List (Item Content))) → Values
   together : (items : List (Item (List Content))) → Values
 
--- the items of one subset of compressed data, from 0; each item has a content for each subset
+-- the items of compressed data, with their content in one subset (counted from 0)
 abbrev pub items_of_subset : (subset : ℕ) → List (Item (List Content)) → List (Item Content)
 items_of_subset j items =
     map (λ i. record { spec = i.spec; content = get_or i.content j missing }) items
 
--- the items of the next `left` subsets of compressed data, the first of which is `subset`, from 0
+-- the items of `left` consecutive subsets of compressed data, beginning with subset number `subset`
+-- (counted from 0)
 abbrev pub subsets_from : (left subset : ℕ) → List (Item (List Content))
     → List (List (Item Content))
 subsets_from zero j items = []
 subsets_from (suc left) j items = items_of_subset j items ∷ subsets_from left (suc j) items
 
--- the items of each subset, whether the data were plain or compressed
+-- the items of each subset, whether the data are plain or compressed
 abbrev pub each_subset : (subsets : ℕ) → Values → List (List (Item Content))
 each_subset n (apart subsets) = subsets
 each_subset n (together items) = subsets_from n 0 items
 
--- the number of items that a reading stores: all items of compressed data, none of plain data
+-- the number of items that are stored when data are read (all items of compressed data, but none of
+-- plain data)
 abbrev pub items_kept : Values → ℕ
 items_kept (apart subsets) = 0
 items_kept (together items) = length items
 
--- Why a reading stops: the walk refuses a step, or a field cannot be read. A `FieldFault` becomes a
--- `DataFault` (with the descriptor); that or a `TurnRefusal` becomes a `WalkStop`; and that becomes
--- a `WalkFault` (with the location).
+-- The reason why reading stops. Either the walk refuses a step, or a field cannot be read. A
+-- `FieldFault` becomes a `DataFault`, which includes the descriptor. A `DataFault` or a
+-- `TurnRefusal` becomes a `WalkStop`. A `WalkStop` becomes a `WalkFault`, which includes the
+-- location.
 abbrev pub Stop : Type 0
 Stop = WalkStop DataFault
 
--- the fault of the field with this descriptor
+-- the fault in the field with the given descriptor
 abbrev pub wrong_of : (fxy : ℕ) → FieldFault → DataFault
 wrong_of fxy data_end = data_fault.DataEnd fxy
 wrong_of fxy increment = data_fault.Increment fxy
 wrong_of fxy unequal_factor = data_fault.UnequalFactor fxy
 
--- whether one more item would make too many values
+-- whether one more item would exceed the maximum number of values
 -- rule: too-many-values
 abbrev pub would_be_many : (subsets items_before : ℕ) → Bool
 would_be_many subsets items_before = nat_lt max_values ((items_before + 1) * subsets)
 
--- ---- The faults of the data, by what stops a reading. (The numbers are our choice.)
+-- ---- The faults in the data, given the reason why reading stops. (The fault numbers are our
+-- choice.)
 
 abbrev pub spot : (subset fxy bit : ℕ) → Spot
 spot subset fxy bit = record { subset = subset; fxy = fxy; bit = bit }
 
--- the fault of a message whose reading stopped in this subset, after `bit` bits of the data
+-- the fault in the data, if reading stopped for the given reason in the given subset, after `bit`
+-- bits of the data
 -- rule: stream-fault-place
 abbrev pub fault_at : WalkStop DataFault → (subset bit : ℕ) → WalkFault
 fault_at (stops.Width fxy) subset bit = walk_fault.Width (spot subset fxy bit)
@@ -137,8 +143,8 @@ fault_at (stops.Field (data_fault.TooManyValues f)) subset bit =
 fault_at (stops.Field data_fault.Memory) subset bit = walk_fault.Memory
 fault_at stops.Memory subset bit = walk_fault.Memory
 
--- the number of bits before the invalid item; if memory ran out, no item is invalid, and as many as
--- `all` bits may have been read
+-- the number of bits before the invalid item; if memory ran out, no item is invalid, and the result
+-- is `all` because up to `all` bits may have been read
 abbrev pub bits_before : WalkFault → (all : ℕ) → ℕ
 bits_before (walk_fault.DataEnd s) all = s.bit
 bits_before (walk_fault.Width s) all = s.bit
@@ -148,27 +154,28 @@ bits_before (walk_fault.Increment s) all = s.bit
 bits_before (walk_fault.TooManyValues s) all = s.bit
 bits_before walk_fault.Memory all = all
 
--- the text of a fault: its name, and the location of the item
+-- the text of a fault, as a list of parts that begins with the fault's name and ends with the
+-- location of the item
 -- rule: stream-fault-place
 abbrev pub spot_text : List ℕ → Spot → List (List ℕ)
 spot_text name s =
     name ∷ codes " at subset " ∷ decimal s.subset ∷ codes " descriptor " ∷ fxy_text s.fxy
     ∷ codes " bit " ∷ decimal s.bit ∷ []
 
--- a fault of the data
+-- the number and the text of a fault in the data
 -- rule: fault-30, fault-31, fault-32, fault-33, fault-34, fault-35
 abbrev pub data_report : WalkFault → ℕ × List (List ℕ)
--- the data end inside an item
+-- The data end inside an item.
 data_report (walk_fault.DataEnd s) = (30, spot_text (codes "data end") s)
--- a field that is not text is under 1 or over 63 bits wide
+-- The data width of a field that is not text is less than 1 bit or greater than 63 bits.
 data_report (walk_fault.Width s) = (31, spot_text (codes "width") s)
--- the descriptor is not allowed while 2 03 Y redefines references
+-- The descriptor is not allowed while 2 03 Y redefines reference values.
 data_report (walk_fault.Defining s) = (32, spot_text (codes "defining") s)
--- a factor differs between subsets
+-- A replication factor differs between subsets.
 data_report (walk_fault.UnequalFactor s) = (33, spot_text (codes "unequal factor") s)
--- an increment is invalid (`increased`), or a redefined reference has increments
+-- An increment is invalid (see `increased`), or a redefined reference value has increments.
 data_report (walk_fault.Increment s) = (34, spot_text (codes "increment") s)
--- compressed data have more than 134,217,728 values
+-- The compressed data contain more than 134,217,728 values.
 data_report (walk_fault.TooManyValues s) = (35, spot_text (codes "too many values") s)
 data_report walk_fault.Memory = (73, [])
 
@@ -177,8 +184,8 @@ data_report walk_fault.Memory = (73, [])
 abbrev pub data_of : Sections → Data
 data_of m = record { compressed = m.compressed; subsets = m.subsets; bits = bits_of m.payload }
 
--- a reading as its users see it: the table, the template and the data, how many bits the items
--- took, and how many items are stored
+-- the result of reading a message, which consists of the table, the template, the data, the number
+-- of bits that the items occupy, and the number of items that are stored
 pub record Read : Type 0 where
   pub table : List Row
   pub template : Tree
@@ -186,34 +193,35 @@ pub record Read : Type 0 where
   pub bits : ℕ
   pub held : ℕ
 
--- the course of the template of a reading
+-- the course of the template that was used to read a message
 abbrev pub course_of : Read → Course
 course_of r = next_item r.table r.template
 
--- ---- The turns of a reading. (Only contracts need them.)
+-- ---- The number of steps needed to read a message. (Only contracts need this number.)
 
--- the same course, with its turns counted
+-- the course of the template that was used to read a message, with step counts
 abbrev pub counted_course_of : Read → CountedCourse
 counted_course_of r = counted_item r.table r.template
 
--- the total number of turns over the passes that have these items, each up to what comes next after
--- its items
+-- the total number of steps in the passes with the given items; each pass is counted up to what
+-- comes next after its items
 abbrev pub turns_in : {C : Type 0} → (FieldSpec → C → Taken) → CountedCourse
     → List (List (Item C)) → ℕ
 turns_in gives course [] = 0
 turns_in gives course (items ∷ more) =
     (course (answers_in gives items)).turns + turns_in gives course more
 
--- ---- The calls to a visitor that show a reading, in order, if the visitor accepts all of them.
+-- ---- The calls to a visitor that show the items read from a message, in order, if the visitor
+-- accepts all calls.
 
--- an item as it is shown: its descriptor, the row of Table B by which it was read (if it was), and
--- its value
+-- the descriptor of an item to be shown, its row in Table B (if the item was read according to that
+-- row), and its value
 pub record View : Type 0 where
   pub fxy : ℕ
   pub entry : Option Row
   pub value : ShownValue
 
--- a call to a visitor: a subset begins, or an item is shown
+-- a visitor call, which either begins a subset or shows an item
 pub data Call : Type 0 where
   subset_call : (number : ℕ) → Call
   item_call : (item : View) → Call
@@ -226,16 +234,16 @@ view_of table spec c =
       value = shown spec c;
     }
 
--- a call, and how many turns the walk makes before it
+-- a call, and the number of steps that the walk takes before the call
 pub record Timed : Type 0 where
   pub turns : ℕ
   pub call : Call
 
--- a call from its parts
+-- a call with its number of steps
 abbrev pub timed : ℕ → Call → Timed
 timed turns call = record { turns = turns; call = call }
 
--- the calls for the items of one subset; the walk made `before` turns before the subset
+-- the calls for the items of one subset; the walk takes `before` steps before that subset
 abbrev pub item_calls : List Row → (before : ℕ) → CountedCourse → List (Item Content)
     → List Timed
 item_calls table before course [] = []
@@ -243,8 +251,8 @@ item_calls table before course (i ∷ items) =
     timed (before + (course []).turns) (item_call (view_of table i.spec i.content))
     ∷ item_calls table before (after plain course i) items
 
--- the calls for subsets; the first one has this number (counted from 1), and the walk made `before`
--- turns before it
+-- the calls for consecutive subsets; `number` is the number of the first subset (counted from 1),
+-- and the walk takes `before` steps before that subset
 abbrev pub subset_calls : List Row → CountedCourse → (before number : ℕ)
     → List (List (Item Content)) → List Timed
 subset_calls table course before number [] = []
@@ -253,49 +261,49 @@ subset_calls table course before number (items ∷ subsets) =
     ++ subset_calls table course (before + (course (answers_in answer_of items)).turns) (number + 1)
     subsets
 
--- the course for showing compressed data: there is no walk, and therefore there are no turns
+-- the course for showing compressed data; it counts no steps because no walk is needed
 abbrev pub without_turns : CountedCourse
 without_turns answers = record { turns = 0; next = at_end }
 
--- compressed data to be shown: the table, the number of subsets, and the items of all subsets
+-- compressed data to be shown, with the table, the number of subsets, and the items of all subsets
 pub record PackedValues : Type 0 where
   pub table : List Row
   pub subsets : ℕ
   pub items : List (Item (List Content))
 
--- the items of one subset (counted from 0), from index `from` up to but not including index `to`
+-- the items whose indices are in `from..to`, in one subset (counted from 0)
 abbrev pub items_between : PackedValues → (subset from to : ℕ) → List (Item Content)
 items_between p j from to = items_of_subset j (drop from (take to p.items))
 
--- The item at this index is the same in all subsets.
+-- The item at the given index is the same in all subsets.
 abbrev pub IsSameInAll : PackedValues → (index : ℕ) → Type 0
 IsSameInAll p i = (j : ℕ) → j < p.subsets
     → items_between p j i (i + 1) ≡ items_between p 0 i (i + 1)
 
--- the calls that show the items of `items_between`
+-- the calls that show the items in `items_between`
 abbrev pub range_calls : PackedValues → (subset from to : ℕ) → List Timed
 range_calls p j from to = item_calls p.table 0 without_turns (items_between p j from to)
 
--- the calls that show all subsets
+-- the calls that show all subsets of compressed data
 abbrev pub packed_calls : PackedValues → List Timed
 packed_calls p = subset_calls p.table without_turns 0 1 (subsets_from p.subsets 0 p.items)
 
--- the course by which a reading is shown
+-- the course for showing the items read from a message
 abbrev pub walk_shown : Read → Values → CountedCourse
 walk_shown r (apart subsets) = counted_course_of r
 walk_shown r (together items) = without_turns
 
--- the calls that show a reading
+-- the calls that show the items read from a message
 abbrev pub calls_for : Read → Values → List Timed
 calls_for r values =
     subset_calls r.table (walk_shown r values) 0 1 (each_subset r.source.subsets values)
 
--- the number of turns that showing a reading takes
+-- the number of steps needed to show the items read from a message
 abbrev pub turns_for : Read → Values → ℕ
 turns_for r values =
     turns_in answer_of (walk_shown r values) (each_subset r.source.subsets values)
 
--- 1 for a call that shows an item, 0 for a call that begins a subset
+-- 1 for a call that shows an item, or 0 for a call that begins a subset
 abbrev pub item_or_not : Call → ℕ
 item_or_not (subset_call number) = 0
 item_or_not (item_call item) = 1
@@ -305,28 +313,29 @@ abbrev pub items_called : List Timed → ℕ
 items_called [] = 0
 items_called (t ∷ calls) = item_or_not t.call + items_called calls
 
--- ---- The calls that are made, up to the first fault, and the turns that they take.
+-- ---- The calls that are made up to the first fault, and the steps that they take.
 
--- The value is a redefined reference, the only kind of value that the walk stores.
+-- The value is a redefined reference value, which is the only kind of value that the walk stores.
 abbrev pub IsReferenceValue : ShownValue → Type 0
 IsReferenceValue (shown_number value scale) = ⊥
 IsReferenceValue (shown_text octets) = ⊥
 IsReferenceValue shown_missing = ⊥
 IsReferenceValue (shown_reference value) = Unit {0}
 
--- Memory may run out before this call, because the walk must store the value of the item.
+-- Memory may run out before the given call because the walk must store the item's value.
 abbrev pub NeedsMemory : Call → Type 0
 NeedsMemory (subset_call number) = ⊥
 NeedsMemory (item_call item) = IsReferenceValue item.value
 
--- The calls end with this one: the visitor refuses it, or memory runs out before it.
+-- The calls ended at the given call because the visitor refused it or because memory ran out before
+-- it.
 abbrev pub EndsAt : {S E : Type 0} → (S → Call → Result (Unit {0}) E → S → Type 0) → S → Call
     → ShowFault E → S → Type 0
 EndsAt sees s call (show_fault.Visitor e) s' = sees s call (Err e) s'
 EndsAt sees s call show_fault.Memory s' = (s' ≡ s) × NeedsMemory call
 
--- The calls were made: all of them if the result is `Ok`, or else those up to the fault. The steps
--- are those of all turns, or of the turns up to the fault.
+-- If the result is `Ok`, all calls were made. Otherwise, only the calls up to the fault were made.
+-- `steps` counts the steps of the walk up to the end or the fault.
 abbrev pub Shows : {S E : Type 0} → (S → Call → Result (Unit {0}) E → S → Type 0) → S → List Timed
     → (turns : ℕ) → Result (Unit {0}) (ShowFault E) → S → (steps : ℕ) → Type 0
 Shows sees s [] turns (Ok _) s' steps = (s' ≡ s) × (steps ≡ ticked 0 turns)

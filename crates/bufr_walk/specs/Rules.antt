@@ -1,5 +1,5 @@
--- The operators in effect, and the specification of a field under them. (WMO-No. 306, Volume I.2,
--- FM 94: Tables B and C; what these leave open is our choice)
+-- The operators in effect, and how they determine the specification of a field. (WMO-No. 306,
+-- Volume I.2, FM 94: Tables B and C; what the tables leave open is our choice)
 -- Cited by public contracts.
 use Rattle.std.specs.Prelude.{ℕ, ◌==◌, ◌&&◌, not, nat_lt, Bool, if◌then◌else◌, List, [], ◌∷◌, ℤ, Result, Ok, Err, ◌+◌, ◌-◌, ◌*◌, ◌/◌, ◌^◌, nat_le, true, false, pos, ◌+ℤ◌, ◌-ℤ◌, ◌*ℤ◌, Option, Some, None, ◌≤◌, ◌≡◌, ◌<◌}
 use Rattle.bufr_tables.specs.Prelude.{x_of, y_of, Row, entry_of}
@@ -16,34 +16,35 @@ use Rattle.bufr_tables.specs.declared.table_b.Kind.TheVariants as kind
 use Rattle.bufr_walk.specs.declared.spec.Role.TheVariants as role
 use Rattle.bufr_walk.specs.declared.operators.TableField.TheVariants as field
 
--- ---- The operators in force, in one subset. (WMO-No. 306, Volume I.2, FM 94: Table C)
+-- ---- The operators in effect in one subset. (WMO-No. 306, Volume I.2, FM 94: Table C)
 
--- a redefined reference of an element, which the data define after 2 03 Y
+-- an element and its redefined reference value, which the data contain after 2 03 Y
 pub record Redefined : Type 0 where
   pub fxy : ℕ
   pub reference : ℤ
 
--- The operators in effect: the operand Y of each, or 0 if it is not in effect, and the redefined
--- references. (No operator in effect has the operand 0: Y = 0 cancels 2 01, 2 02, 2 07 and 2 08,
--- 2 03 000 cancels all redefined references, and 2 06 000 is refused.) All but 2 06 stay in effect
--- until they are cancelled, another one of the same X replaces them (own), or the subset ends.
+-- The operators in effect, and the redefined reference values. Each operator is represented by its
+-- operand Y, or by 0 if it is not in effect. No operator in effect has the operand 0, because Y = 0
+-- cancels 2 01, 2 02, 2 07 and 2 08. Likewise, 2 03 000 cancels all redefined reference values, and
+-- 2 06 000 is rejected. Each operator except 2 06 Y stays in effect until it is cancelled, until
+-- another operator with the same X replaces it (own), or until the subset ends.
 pub record OperatorModel : Type 0 where
-  -- 2 01 Y: Y - 128 is added to the width of a quantity
+  -- 2 01 Y, which adds Y - 128 to the data width of quantities
   pub width_change : ℕ
-  -- 2 02 Y: Y - 128 is added to the scale of a quantity
+  -- 2 02 Y, which adds Y - 128 to the scale of quantities
   pub scale_change : ℕ
-  -- 2 03 Y: references are being redefined, with Y bits each; 0 after 2 03 255
+  -- 2 03 Y, after which redefined reference values follow, each Y bits wide (0 after 2 03 255)
   pub new_reference_width : ℕ
-  -- 2 07 Y: a quantity has Y more decimal digits
+  -- 2 07 Y, which gives quantities Y more decimal digits
   pub precision_increase : ℕ
-  -- 2 08 Y: a text element has Y octets
+  -- 2 08 Y, which makes text elements Y octets long
   pub character_octets : ℕ
-  -- 2 06 Y: the next element has Y bits
+  -- 2 06 Y, which makes the next element Y bits wide
   pub local_width : ℕ
-  -- the redefined references, one for each element that has one, in the order of the descriptors
+  -- the redefined reference values, at most one for each element, sorted by descriptor
   pub new_references : List Redefined
 
--- no operator is in effect, as at the beginning of each subset
+-- the operators at the beginning of a subset, when no operator is in effect
 -- rule: operators-end-with-subset
 abbrev pub begin : OperatorModel
 begin =
@@ -57,12 +58,12 @@ begin =
       new_references = [];
     }
 
--- whether references are being redefined
+-- whether reference values are being redefined
 abbrev pub is_defining : OperatorModel → Bool
 is_defining s = nat_lt 0 s.new_reference_width
 
--- the operators after 2 03 Y: 255 ends a definition of references, 0 cancels redefined ones, and
--- any other Y begins a definition
+-- The operators in effect after 2 03 Y. Y = 255 ends the redefinition of reference values, Y = 0
+-- cancels all redefined reference values, and any other Y begins a redefinition.
 -- rule: 2-03-y, 2-03-000, 2-03-y-again, 2-03-255-alone
 abbrev pub with_references : ℕ → OperatorModel → OperatorModel
 with_references y s =
@@ -82,16 +83,16 @@ with_operator x y s =
     else if x == 8 then record s { character_octets = y }
     else s
 
--- the operators in effect after one more; while references are being redefined, only 2 03 255 is
--- allowed (own)
+-- the operators in effect after one more operator, which must be 2 03 255 while reference values
+-- are being redefined (own)
 -- rule: defining-no-other-operator, fault-32-before-31
 abbrev pub after_operator : OperatorModel → ℕ → Result OperatorModel TurnRefusal
 after_operator s fxy =
     if is_defining s && not (x_of fxy == 3 && y_of fxy == 255) then Err (refusal.Defining fxy)
     else Ok (with_operator (x_of fxy) (y_of fxy) s)
 
--- The redefined references with one more. It replaces an earlier one of the same element (own).
--- They are sorted by descriptor, as the code stores them.
+-- The redefined reference values, including a new one, which replaces an earlier value for the same
+-- element (own). The values are sorted by descriptor, as in the code.
 -- rule: last-reference-counts
 abbrev pub with_reference : (fxy : ℕ) → (reference : ℤ) → List Redefined → List Redefined
 with_reference fxy reference [] = record { fxy = fxy; reference = reference } ∷ []
@@ -100,39 +101,42 @@ with_reference fxy reference (r ∷ more) =
     else if fxy == r.fxy then record r { reference = reference } ∷ more
     else r ∷ with_reference fxy reference more
 
--- the operators in effect after a field: 2 06 Y ends, and a redefined reference is stored
+-- the operators in effect after a field, which ends the effect of 2 06 Y; if the field is a
+-- redefined reference value, it is stored
 -- rule: 2-06-y-used-up
 abbrev pub after_field : OperatorModel → ℕ → Taken → OperatorModel
 after_field s fxy (taken.Reference r) =
     record s { local_width = 0; new_references = with_reference fxy r s.new_references }
 after_field s fxy _ = record s { local_width = 0 }
 
--- the reference of an element: the redefined one, or else `listed`, that of Table B
+-- the reference value of an element, which is the redefined value, if any, or else `listed` (the
+-- value in Table B)
 abbrev pub current_reference : List Redefined → ℕ → ℤ → ℤ
 current_reference [] fxy listed = listed
 current_reference (r ∷ more) fxy listed =
     if r.fxy == fxy then r.reference else current_reference more fxy listed
 
--- a field that is not text must be 1 to 63 bits wide (own)
+-- the specification of a field that is not text; its data width must be 1 to 63 bits (own)
 -- rule: widths
 abbrev pub if_valid_width : FieldSpec → Result FieldSpec TurnRefusal
 if_valid_width a = if nat_le 1 a.width && nat_le a.width 63 then Ok a else Err (refusal.Width a.fxy)
 
--- what 2 02 Y adds to a scale: Y - 128, or nothing if it is not in effect
+-- the number that 2 02 Y adds to a scale (Y - 128, or 0 if the operator is not in effect)
 -- rule: 2-02-y, cancel-2-01-and-2-02
 abbrev pub scale_change_of : ℕ → ℤ
 scale_change_of y = if y == 0 then pos 0 else pos y -ℤ pos 128
 
--- The width of a quantity: 2 07 Y adds (10 Y + 2) / 3, rounded down, and then 2 01 Y adds Y - 128.
--- A negative result becomes 0, which is refused as well.
+-- The data width of a quantity. First, 2 07 Y adds (10 Y + 2) / 3, rounded down, and then 2 01 Y
+-- adds Y - 128. A negative result becomes 0, and a width of 0 is rejected.
 -- rule: 2-01-y, 2-07-y, cancel-2-01-and-2-02, cancel-2-07-and-2-08
 abbrev pub operator_width : (width precision change : ℕ) → ℕ
 operator_width width precision change =
     let wider = width + (10 * precision + 2) / 3 in
     if change == 0 then wider else (wider + change) - 128
 
--- An unsigned number of this width with scale 0 and reference 0. In class 31, which contains the
--- factors, all ones do not mean missing (own).
+-- The specification of an unsigned number with the given data width, scale 0 and reference value 0.
+-- In class 31, which contains the replication factors, a number is not missing even if all its bits
+-- are ones (own).
 -- rule: 2-06-y-of-class-31, class-31-never-missing
 abbrev pub unsigned_field : (fxy width : ℕ) → FieldSpec
 unsigned_field fxy width =
@@ -147,8 +151,8 @@ unsigned_field fxy width =
       listed = false;
     }
 
--- An element of a code or flag table: 2 01, 2 02 and 2 07 do not apply to it, but a redefined
--- reference does. (Both are own.)
+-- The specification of a code table or flag table element. 2 01 Y, 2 02 Y and 2 07 Y do not apply
+-- to such elements (own), but redefined reference values do (own).
 -- rule: new-reference-of-figures, figures-unchanged
 abbrev pub coded_spec : OperatorModel → Row → FieldSpec
 coded_spec s row = record (unsigned_field row.fxy row.width) {
@@ -158,9 +162,9 @@ coded_spec s row = record (unsigned_field row.fxy row.width) {
   listed = true;
 }
 
--- A quantity: 2 01, 2 02, 2 03 and 2 07 apply, and what is not given here is as in `coded_spec`.
--- They may be in effect together, and their changes then add up (own); 2 07 also multiplies a
--- redefined reference (own).
+-- The specification of a quantity, to which 2 01 Y, 2 02 Y, 2 03 Y and 2 07 Y apply. Parts that are
+-- not set here are the same as in `coded_spec`. If several operators are in effect, their changes
+-- add up (own), and 2 07 Y also multiplies a redefined reference value by 10^Y (own).
 -- rule: 2-07-y, 2-01-2-02-2-07-add-up, 2-07-y-of-a-new-reference, new-reference-of-quantities
 abbrev pub numeric_spec : OperatorModel → Row → FieldSpec
 numeric_spec s row = record (coded_spec s row) {
@@ -171,38 +175,42 @@ numeric_spec s row = record (coded_spec s row) {
       (10 ^ s.precision_increase);
 }
 
--- a text of `width` bits, which may be missing; the last argument is `listed`
+-- the specification of a text field that is `width` bits wide and may be missing; the last argument
+-- becomes the field `listed`
 abbrev pub text_spec : Role → (fxy width : ℕ) → Bool → FieldSpec
 text_spec r fxy width listed = record (unsigned_field fxy width)
     { role = r; kind = kind.Character; may_be_missing = true; listed = listed }
 
--- the width of a text element: that of its row, or Y octets after 2 08 Y
+-- the data width of a text element, which is the width in its row, or Y octets if 2 08 Y is in
+-- effect
 -- rule: 2-08-y, cancel-2-07-and-2-08
 abbrev pub text_width : OperatorModel → ℕ → ℕ
 text_width s width = if s.character_octets == 0 then width else 8 * s.character_octets
 
--- the specification of an element, from its row, its kind and the operators in effect
+-- the specification of an element, given its kind, the operators in effect and its row
 abbrev pub spec_by_kind : Kind → OperatorModel → Row → Result FieldSpec TurnRefusal
 spec_by_kind kind.Numeric s row = if_valid_width (numeric_spec s row)
 spec_by_kind kind.Coded s row = if_valid_width (coded_spec s row)
 spec_by_kind kind.Character s row = Ok
     (text_spec role.Element row.fxy (text_width s row.width) true)
 
--- a redefined reference of an element, whose width 2 03 Y gives; its kind is not used, since
--- `coding_by` looks at the role first
+-- the specification of a redefined reference value, with the data width that 2 03 Y specifies; its
+-- kind is not used because `coding_by` checks the role first
 abbrev pub defined_field : OperatorModel → ℕ → FieldSpec
 defined_field s fxy = record (unsigned_field fxy s.new_reference_width)
     { role = role.Reference; may_be_missing = false }
 
--- the specification of a redefined reference; text is refused, since it has none (own)
+-- the specification of an element's redefined reference value; text elements are rejected because
+-- they have no reference value (own)
 -- rule: defining-no-text
 abbrev pub new_reference_spec : Kind → OperatorModel → ℕ → Result FieldSpec TurnRefusal
 new_reference_spec kind.Character s fxy = Err (refusal.Defining fxy)
 new_reference_spec _ s fxy = if_valid_width (defined_field s fxy)
 
--- An element after 2 06 Y. If its row has the width Y, the element is read by this row alone: no
--- operator applies (`begin`). Otherwise, it is an unsigned number of Y bits. (own) A number of more
--- than 63 bits is refused (own), so data of 64 to 255 bits cannot be skipped by 2 06 Y.
+-- The specification of an element after 2 06 Y. If the element is Y bits wide in Table B, it is
+-- read according to its row alone, and no other operator applies (own). Otherwise, the element is
+-- read as an unsigned Y-bit number (own). Numbers with more than 63 bits are rejected (own), so 2
+-- 06 Y cannot be used to skip 64 to 255 bits.
 -- rule: 2-06-y, 2-06-y-width-of-table-b, 2-06-y-other-width
 abbrev pub local_width_spec : Option Row → OperatorModel → ℕ → Result FieldSpec TurnRefusal
 local_width_spec None s fxy = if_valid_width (unsigned_field fxy s.local_width)
@@ -210,8 +218,9 @@ local_width_spec (Some row) s fxy =
     if row.width == s.local_width then spec_by_kind row.kind begin row
     else if_valid_width (unsigned_field fxy s.local_width)
 
--- The specification of an element that does not follow 2 06 Y: a redefined reference or a value. By
--- the law `elements_have_their_rows`, its row always exists, so the case `None` does not matter.
+-- The specification of an element that does not follow 2 06 Y. The element is either a redefined
+-- reference value or an ordinary value. The law `elements_have_their_rows` states that the
+-- element's row always exists, so the case `None` does not matter.
 -- rule: fault-32-before-31
 abbrev pub listed_by : Option Row → OperatorModel → ℕ → Result FieldSpec TurnRefusal
 listed_by None s fxy = Err (refusal.Width fxy)
@@ -223,58 +232,64 @@ element_spec table s fxy =
     if nat_lt 0 s.local_width then local_width_spec (entry_of table fxy) s fxy
     else listed_by (entry_of table fxy) s fxy
 
--- The factor of a delayed replication, as its row gives it: no operator applies (own), it is never
--- missing (own), and its kind is that of a quantity, whatever its unit.
+-- The specification of a replication factor, according to its row. No operator applies to a
+-- replication factor (own). A replication factor is never missing (own) and is treated as a
+-- quantity, whatever its unit.
 abbrev pub factor_field : Row → ℕ → FieldSpec
 factor_field row fxy = record (coded_spec begin row)
     { fxy = fxy; role = role.Factor; kind = kind.Numeric; may_be_missing = false }
 
--- the specification of a factor, from its row, which it always has (see `listed_by`)
+-- the specification of a replication factor, given its row, which always exists (see `listed_by`)
 abbrev pub factor_by : Option Row → ℕ → Result FieldSpec TurnRefusal
 factor_by None fxy = Err (refusal.Width fxy)
 factor_by (Some row) fxy = if_valid_width (factor_field row fxy)
 
--- the same, but refused while references are being redefined (own)
+-- the specification of a replication factor, which is rejected while reference values are being
+-- redefined (own)
 -- rule: factor-by-entry, defining-no-delayed-group
 abbrev pub factor_spec : List Row → OperatorModel → ℕ → Result FieldSpec TurnRefusal
 factor_spec table s fxy =
     if is_defining s then Err (refusal.Defining fxy) else factor_by (entry_of table fxy) fxy
 
--- the Y characters that 2 05 Y inserts; refused while references are being redefined (own)
+-- the specification of the Y characters that 2 05 Y inserts, which are rejected while reference
+-- values are being redefined (own)
 -- rule: 2-05-y, defining-no-inserted-text
 abbrev pub inserted_spec : OperatorModel → ℕ → Result FieldSpec TurnRefusal
 inserted_spec s fxy =
     if is_defining s then Err (refusal.Defining fxy)
     else Ok (text_spec role.Inserted fxy (8 * y_of fxy) false)
 
--- ---- The operators in force, as the walk keeps them.
+-- ---- The operators in effect, in the form in which the walk stores them.
 
--- redefined references, by the words of their descriptors
+-- the redefined reference values in a list of pairs; each pair contains a descriptor and a
+-- reference value
 abbrev pub known_by : List (ℕ × ℤ) → List Redefined
 known_by [] = []
 known_by (e ∷ more) = record { fxy = e.0; reference = e.1 } ∷ known_by more
 
--- the redefined references with more of them, the last one last
+-- `known`, with the redefined reference values in a list added to it one by one
 abbrev pub with_all : List NewReference → List Redefined → List Redefined
 with_all [] known = known
 with_all (n ∷ more) known = with_all more (with_reference n.word n.reference known)
 
--- the redefined references that are kept
+-- the redefined reference values that the walk stores, which are the values in `sorted`, updated
+-- with the values in `recent`
 abbrev pub known_of : References → List Redefined
 known_of r = with_all r.recent.items (known_by r.sorted.entries)
 
--- the last of some redefined references that has this word, else the one before them
+-- the last redefined reference value for the descriptor `word` in a list, or `before` if the list
+-- contains none
 abbrev pub last_of : List NewReference → ℕ → Option ℤ → Option ℤ
 last_of [] word before = before
 last_of (n ∷ more) word before =
     last_of more word (if n.word == word then Some n.reference else before)
 
--- the redefined reference of an element, if it has one
+-- the redefined reference value of an element, if any
 abbrev pub redefined : List Redefined → ℕ → Option ℤ
 redefined [] fxy = None
 redefined (r ∷ more) fxy = if r.fxy == fxy then Some r.reference else redefined more fxy
 
--- operands and redefined references together
+-- the operators in effect, given their operands and the redefined reference values
 abbrev pub operator_model : OperatorOperands → List Redefined → OperatorModel
 operator_model o known = record {
   width_change = o.width_change;
@@ -286,21 +301,23 @@ operator_model o known = record {
   new_references = known;
 }
 
--- operands of legal operators
+-- The operands do not exceed the limits for valid operators.
 pub record AreOperands (o : OperatorOperands) : Type 0 where
   pub new_reference_width : o.new_reference_width ≤ 63
   pub precision_increase : o.precision_increase ≤ 18
 
--- ---- The key that a spec is cached under: the operators in force and a descriptor in one number.
+-- ---- The key under which a specification is cached. The key represents the operators in effect
+-- and a descriptor as one number.
 
--- the operands of the operators in force, and a word after them, in one number
+-- a number whose low 40 bits contain the operands of the operators in effect and whose higher bits
+-- contain the given word (see `key_word`)
 abbrev pub spec_key : OperatorModel → ℕ → ℕ
 spec_key s word =
     s.width_change + 256 * s.scale_change + 65536 * s.precision_increase + 16777216
     * s.character_octets
     + 4294967296 * s.local_width + 1099511627776 * word
 
--- each operand in the key is an octet
+-- Each operand in the key fits in an octet.
 pub record HasOctetOperands (s : OperatorModel) : Type 0 where
   pub width_change : s.width_change < 256
   pub scale_change : s.scale_change < 256
@@ -308,14 +325,15 @@ pub record HasOctetOperands (s : OperatorModel) : Type 0 where
   pub character_octets : s.character_octets < 256
   pub local_width : s.local_width < 256
 
--- the key of operators and a word, where no reference is being defined and none was redefined
+-- `key` is the key for the given operators and the given word. No reference value is being
+-- redefined, and none has been redefined.
 pub record IsKey (s : OperatorModel) (word key : ℕ) : Type 0 where
   pub is : key ≡ spec_key s word
   pub new_reference_width : s.new_reference_width ≡ 0
   pub new_references : s.new_references ≡ []
   pub octets : HasOctetOperands s
 
--- the key of the operators; a number from 2^62 on is no key
+-- `key` is the key for the given operators alone, or 2^62 if they have no such key.
 pub record IsOperatorKey (s : OperatorModel) (key : ℕ) : Type 0 where
   pub most : key ≤ 2 ^ 62
   pub is : key < 2 ^ 62 → IsKey s 0 key
@@ -325,7 +343,7 @@ abbrev pub descriptor_of : TableField → ℕ
 descriptor_of (field.Element fxy) = fxy
 descriptor_of (field.Factor fxy) = fxy
 
--- the word of a field in the key of the cache
+-- the word that represents a field in the field's key
 abbrev pub key_word : TableField → ℕ
 key_word (field.Element fxy) = fxy
 key_word (field.Factor fxy) = fxy + 65536
@@ -335,14 +353,14 @@ abbrev pub spec_of : List Row → OperatorModel → TableField → Result FieldS
 spec_of table s (field.Element fxy) = element_spec table s fxy
 spec_of table s (field.Factor fxy) = factor_spec table s fxy
 
--- the key of a field
+-- `key` is the field's key, or a number that is at least 2^62 if the field has none.
 pub record IsFieldKey (s : OperatorModel) (f : TableField) (key : ℕ) : Type 0 where
   pub most : key < 2 ^ 63
   pub word : descriptor_of f < 65536
   pub is : key < 2 ^ 62 → IsKey s (key_word f) key
 
--- what the specification of a field depends on beside operands and its descriptor: on nothing, on
--- the width of a reference that is being defined, or on a redefined reference
+-- what a field's specification depends on besides the descriptor and the operands (nothing, the
+-- data width of a reference value that is being redefined, or a redefined reference value)
 pub data Dependence : Type 0 where
   OnNothing : Dependence
   OnWidth : (width : ℕ) → Dependence
@@ -352,25 +370,27 @@ abbrev pub by_reference : Option ℤ → Dependence
 by_reference None = OnNothing
 by_reference (Some reference) = OnReference reference
 
--- on what the specification of the field of a descriptor depends
+-- the `Dependence` of a field's specification, given the field's descriptor
 abbrev pub dependence : OperatorModel → ℕ → Dependence
 dependence s fxy =
     if is_defining s then OnWidth s.new_reference_width
     else by_reference (redefined s.new_references fxy)
 
--- its number in the key of the cache
+-- the number in the key that represents the kind of `Dependence`
 abbrev pub dependence_number : Dependence → ℕ
 dependence_number OnNothing = 0
 dependence_number (OnWidth width) = 1
 dependence_number (OnReference reference) = 2
 
--- the number beside the key
+-- If the specification depends on a data width or a reference value, `number` is that width or
+-- value.
 abbrev pub HasNumber : Dependence → ℤ → Type 0
 HasNumber OnNothing number = Unit {0}
 HasNumber (OnWidth width) number = number ≡ pos width
 HasNumber (OnReference reference) number = number ≡ reference
 
--- the whole key of a field
+-- `key` is the complete key of the field. The key identifies the field, the operands of the
+-- operators in effect, and the `Dependence` of the field's specification.
 pub record IsSpecKey (s : OperatorModel) (f : TableField) (key : SpecKey) : Type 0 where
   pub word : descriptor_of f < 65536
   pub is : key.operators ≡ spec_key s

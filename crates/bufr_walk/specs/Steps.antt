@@ -1,25 +1,25 @@
--- Only contracts need this file. The steps of a walk: one step for each turn up to what comes next.
--- (own)
+-- Only contracts need this file. The number of steps that a walk takes to reach what comes next
+-- (own).
 use Rattle.std.specs.Prelude.{ℕ, List, [], ◌∷◌, ◌+◌, Result, Ok, Err, if◌then◌else◌, ◌-◌, ◌^◌, min, max, ◌≡◌}
 use Rattle.bufr_tables.specs.Prelude.{Tree, is_inserted_text, Row}
 use Rattle.bufr_walk.specs.Content.{Taken, FieldSpec}
 use Rattle.bufr_walk.specs.Rules.{TurnRefusal, OperatorModel, begin, after_operator, after_field, element_spec, factor_spec, inserted_spec}
 use Rattle.bufr_walk.specs.Course.{WalkStop, Turns, finish, open_end, group, pass_end, factor_turn, element_turn, operator_turn, turns_of, counts_of, Next, at_end, Course, next_item, TakenField, Takes, oks, answers_of, StopsWalk}
 
--- ---- The turns up to what comes next.
+-- ---- The number of steps to what comes next.
 
--- the number of turns up to a field, or up to what comes after it
+-- the number of steps from a field to what comes next, inclusive; the field itself may come next
 abbrev pub turns_asked : Result FieldSpec TurnRefusal → (Taken → List Taken → ℕ) → List Taken → ℕ
 turns_asked (Err why) go answers = 1
 turns_asked (Ok spec) go [] = 1
 turns_asked (Ok spec) go (t ∷ answers) = 1 + go t answers
 
--- the number of turns up to what comes after an operator
+-- the number of steps from an operator to what comes next, inclusive
 abbrev pub turns_operated : Result OperatorModel TurnRefusal → (OperatorModel → ℕ) → ℕ
 turns_operated (Err why) go = 1
 turns_operated (Ok settings) go = 1 + go settings
 
--- the number of turns up to and including what comes next by `ahead`
+-- the number of steps to what comes next, inclusive (see `ahead`)
 abbrev pub turns_ahead : List Row → Turns → OperatorModel → List Taken → ℕ
 turns_ahead table finish s answers = 1
 turns_ahead table open_end s answers = 1
@@ -37,34 +37,35 @@ turns_ahead table (operator_turn fxy next) s answers =
     (λ t more. turns_ahead table next (after_field s fxy t) more) answers
     else turns_operated (after_operator s fxy) (λ s'. turns_ahead table next s' answers)
 
--- what comes next, and the number of turns up to it
+-- what comes next, and the number of steps up to that point
 pub record NextTurn : Type 0 where
   pub turns : ℕ
   pub next : Next
 
--- what comes next and the number of turns, as a function of the answers of the fields so far
+-- a course with step counts, which returns what comes next and the number of steps up to that point
 abbrev pub CountedCourse : Type 0
 CountedCourse = List Taken → NextTurn
 
--- the same course without the numbers of turns
+-- a course without step counts
 abbrev pub uncounted : CountedCourse → Course
 uncounted course answers = (course answers).next
 
--- what comes next in a whole template, and the number of turns up to it
+-- the course of a whole template, with step counts
 abbrev pub counted_item : List Row → Tree → CountedCourse
 counted_item table template answers = record {
   turns = turns_ahead table (turns_of template (counts_of answers)) begin answers;
   next = next_item table template answers;
 }
 
--- ---- The steps of a walk.
+-- ---- The step counter of a walk.
 
 -- a counter after n more steps; it stops at 2^64 - 1 (`u64::MAX`)
 abbrev pub ticked : ℕ → ℕ → ℕ
 ticked count n = max count (min (count + n) (2 ^ 64 - 1))
 
--- A whole walk: each field comes next after those before it. If the result is `Ok`, the end comes
--- next; otherwise the walk stopped at what comes next. The steps are the turns up to this point.
+-- A walk read or wrote the fields of a course, in order. If the result is `Ok`, the walk reached
+-- the end of the template. Otherwise, the walk stopped for the given reason (see `StopsWalk`).
+-- Every step of the walk was counted.
 abbrev pub Walked : {S E : Type 0} → (S → FieldSpec → Result Taken E → S → Type 0) → CountedCourse
     → S → ℕ → Result (Unit {0}) (WalkStop E) → S → ℕ → Type 0
 Walked takes n s steps (Ok _) s' steps' =

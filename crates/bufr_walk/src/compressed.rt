@@ -1,5 +1,5 @@
-//! Compressed data, in which each item occurs once for all subsets: its fields, and how they are
-//! read and shown.
+//! Functions that read and show compressed data. In compressed data, each item is stored once for
+//! all subsets.
 ghost use Rattle.std.specs.Prelude.{unwrap_or, option_map, ◌≡◌, ◌≤◌, ◌<◌, ◌+◌, ◌*◌, ◌^◌, false, true, length, IfSome, ◌-◌, ◌/◌, ◌++◌, drop, MatchResult, IfOk, ◌==◌, ◌&&◌, ◌||◌, not, nat_lt, take, get_or, replicate};
 ghost use Rattle.bufr_bits.specs.Prelude.{bits_at, number_of, bits_of, octets_of};
 ghost use Rattle.bufr_tables.specs.Prelude.{is_character};
@@ -20,8 +20,8 @@ use bufr_tables::{Kind, TableB};
 use std::alloc::Global;
 use std::marker::Model;
 
-/// Returns whether an increment of `k` bits is valid, that is, whether it represents a missing
-/// value or its sum with the base fits in the field's width.
+/// Returns whether a `k`-bit increment is valid. An increment is valid if it represents a missing
+/// value or if the sum of the base and the increment fits in the field.
 // rule: compressed-past-width, compressed-class-31
 fn stays_within(spec: &Spec, base: u64, k: u32, increment: u64) -> bool
     requires k { k ≤ 63 }
@@ -35,8 +35,8 @@ fn stays_within(spec: &Spec, base: u64, k: u32, increment: u64) -> bool
     missing || base + increment <= (1 << spec.width()) - 1
 }
 
-/// Returns whether the increments of a number are valid. If the base means missing, all of them
-/// are.
+/// Returns whether the increments of a numeric item are valid. If the base represents a missing
+/// value, every increment is valid.
 // rule: compressed-all-missing
 fn are_number_increments_valid(
     bits: &BitSlice<'_>,
@@ -58,7 +58,7 @@ fn are_number_increments_valid(
     if missing {
         return true;
     }
-    // Almost always, even the greatest increment of `k` bits fits, and then every increment does.
+    // In almost all cases, even the greatest `k`-bit increment fits, and then all increments fit.
     if base.number + ((1 << k) - 1) <= (1 << width) - 1 {
         return true;
     }
@@ -74,8 +74,8 @@ fn are_number_increments_valid(
     true
 }
 
-/// Returns whether each of the increments of `k` bits, the first of which begins at bit `at`, is
-/// the number `first`.
+/// Returns whether all `k`-bit increments are equal to `first`. The increments are contiguous and
+/// begin at bit `at`.
 fn are_equal(bits: &BitSlice<'_>, at: u64, subsets: u16, k: u32, first: u64) -> bool
     requires increment { k ≤ 63 }
     requires within { at + subsets * k ≤ 8 * length (octets_of bits.now) }
@@ -93,7 +93,8 @@ fn are_equal(bits: &BitSlice<'_>, at: u64, subsets: u16, k: u32, first: u64) -> 
     true
 }
 
-/// Returns the number of bits that each subset has after the base and `k`.
+/// Returns the width, in bits, of each subset's increment. The increments come after the base and
+/// `k`.
 fn increment_bits_of(spec: &Spec, k: u32) -> u32
     requires { k ≤ 63 }
     ensures value { result ≡ step_of (coding_of spec.now) k }
@@ -108,8 +109,8 @@ fn increment_bits_of(spec: &Spec, k: u32) -> u32
     }
 }
 
-/// An item that was found in the bits: the answer of its field, its `k`, its base (0 for a text),
-/// and the bit after it.
+/// An item found in compressed data, with the part of its value that affects the walk, its `k`, its
+/// base (0 if the field is text), and the index of the first bit after it.
 #[derive(Clone, Copy)]
 struct ItemBits {
     answer: Taken,
@@ -118,7 +119,7 @@ struct ItemBits {
     end: u64,
 }
 
-/// Finds the item that begins at bit `at`, and checks that it is valid.
+/// Finds the item that begins at bit `at` and checks that it is valid.
 // rule: compressed-item, compressed-increments-there, fault-30-before-34, fault-34-before-33
 // rule: compressed-equal, compressed-references, compressed-factors
 // rule: compressed-text-past-width, compressed-text-base
@@ -185,13 +186,15 @@ fn valid_item_at(
     })
 }
 
-/// The maximum number of values in a compressed message that is read or written: the number of its
-/// items times the number of its subsets. (own)
+/// The maximum number of values in a compressed message, both for reading and for writing. The
+/// number of values is the number of items multiplied by the number of subsets. This limit is our
+/// choice (own).
 pub const MAX_VALUES: u64 = 134_217_728;
 
-/// A reader of the fields in compressed data, in which each item occurs once for all subsets. An
-/// item is a base, six bits `k` and, if `k` is not 0, an increment for each subset. The reader
-/// stores each item with its location. (WMO-No. 306, Volume I.2, FM 94: section 4, compression)
+/// A reader for the fields of compressed data. In compressed data, each item is stored once for all
+/// subsets. An item consists of a base, a 6-bit number `k` and, if `k` is not 0, an increment for
+/// each subset. The reader stores each item with its location. (WMO-No. 306, Volume I.2, FM 94:
+/// section 4, compression)
 #[derive(Drop)]
 pub struct PackedIn<'a> {
     bits: BitSlice<'a>,
@@ -212,7 +215,8 @@ impl<'a> Model for PackedIn<'a> {
 }
 
 impl<'a> PackedIn<'a> {
-    /// Creates a reader of compressed data that starts at bit 0. There must be at least one subset.
+    /// Creates a reader that starts at bit 0 of compressed data. The data must have at least one
+    /// subset.
     pub fn new(alloc: Global, bits: BitSlice<'a>, subsets: u16) -> PackedIn<'a>
         requires { 1 ≤ subsets }
         ensures { result ≡ new_packed_in (bits_of (octets_of bits.entry)) subsets }
@@ -261,7 +265,7 @@ impl<'a> Fields for PackedIn<'a> {
     }
 }
 
-/// Compressed data, the number of subsets, and the table by which the data were read.
+/// Compressed data, the number of subsets, and the table that was used to read the data.
 #[derive(Clone, Copy)]
 pub(crate) struct PackedData<'a> {
     pub(crate) bits: BitSlice<'a>,
@@ -269,8 +273,8 @@ pub(crate) struct PackedData<'a> {
     pub(crate) table: &'a TableB,
 }
 
-/// Returns the number in the bits of a stored item for one subset, counted from 0, or `None` if it
-/// is missing. The reference value is not added.
+/// Returns the number that a stored item's bits encode for one subset, or `None` if the value is
+/// missing. Subsets are counted from 0. The reference value is not added.
 #[inline(always)]
 // rule: compressed-equal, compressed-all-missing, compressed-missing-increment
 // rule: compressed-sum-of-ones, compressed-class-31
@@ -298,15 +302,15 @@ fn number_of(pack: &PackedData<'_>, item: &IndexedItem, subset: u16) -> Option<u
     if !may_be_missing {
         return Some(sum);
     }
-    // If the base is all ones, the value is missing whatever the increment is. No other sum exceeds
-    // all ones.
+    // If all bits of the base are ones, the value is missing for every increment. Otherwise, the
+    // sum cannot exceed the greatest number that fits in the field.
     if increment == (1 << k) - 1 || sum >= (1 << width) - 1 {
         return None;
     }
     Some(sum)
 }
 
-/// Writes spaces after the first `from` octets, up to `count` octets in all.
+/// Pads the text with spaces from index `from` up to a length of `count` octets.
 #[tactic(auto, using(crate::proofs::PackedShowing::pad_none, crate::proofs::PackedShowing::pad_more))]
 fn pad(text: &mut [u8; 255], from: usize, count: usize)
     requires few { count ≤ 255 }
@@ -318,8 +322,8 @@ fn pad(text: &mut [u8; 255], from: usize, count: usize)
     }
 }
 
-/// Returns the value of a stored item for one subset, counted from 0. A text is copied to `text` if
-/// it cannot be borrowed.
+/// Returns the value that a stored item has in one subset. Subsets are counted from 0. If a string
+/// cannot be borrowed from the data, it is copied to `text`.
 // rule: compressed-text, compressed-text-missing
 fn value_of<'a: 't, 't>(
     pack: &PackedData<'a>,
@@ -354,8 +358,8 @@ fn value_of<'a: 't, 't>(
     Value::Text(&text[..count])
 }
 
-/// Shows the stored item at an index if [`show_item`] cannot show it as a plain field. Looks up the
-/// item itself, so that no item is copied twice.
+/// Shows a stored item that [`show_item`] cannot show as a plain field. The item is looked up by
+/// its index, because passing it as an argument would copy it again.
 #[inline(never)]
 fn show_other<V: Visitor>(
     pack: &PackedData<'_>,
@@ -378,7 +382,7 @@ fn show_other<V: Visitor>(
     show_value(pack.table, &item.spec, value, visitor)
 }
 
-/// Shows the stored item at an index for one subset, counted from 0.
+/// Shows the stored item at an index for one subset. Subsets are counted from 0.
 #[inline(always)]
 fn show_item<V: Visitor>(
     pack: &PackedData<'_>,
@@ -403,7 +407,8 @@ fn show_item<V: Visitor>(
         let Some(raw) = number_of(pack, &item, subset) else {
             return show_missing(fxy, entry, visitor);
         };
-        // Pass the entry's own descriptor, so that a visitor sees that both are the same.
+        // Pass the descriptor from the entry, so that a visitor's comparison of the two descriptors
+        // can be optimized away.
         return visitor.item(&ItemView {
             fxy: entry.fxy(),
             entry: Some(entry),
@@ -413,7 +418,8 @@ fn show_item<V: Visitor>(
     show_other(pack, kept, index, subset, visitor)
 }
 
-/// The items of compressed data, each once for all subsets, as returned by [`Reading::packed`].
+/// The items of compressed data, as returned by [`Reading::packed`]. Each item represents the
+/// values of all subsets.
 ///
 /// [`Reading::packed`]: crate::Reading::packed
 #[derive(Drop)]
@@ -455,8 +461,8 @@ impl<'r, 'a> PackedItems<'r, 'a> {
         self.data.subsets
     }
 
-    /// Returns whether the item at an index has no increments, so that it is the same in all
-    /// subsets.
+    /// Returns whether the item at an index has no increments. Such an item has the same value in
+    /// every subset.
     #[inline(always)]
     // rule: compressed-equal
     pub fn is_alike(&self, index: usize) -> bool
@@ -466,13 +472,14 @@ impl<'r, 'a> PackedItems<'r, 'a> {
         self.kept.item(index).step == 0
     }
 
-    /// Shows the items of one subset, counted from 0, whose indices are at least `from` and below
-    /// `to`.
+    /// For one subset, shows the items whose indices are in the range `from..to`. Subsets are
+    /// counted from 0.
     ///
     /// # Errors
     ///
-    /// [`ShowFault::Visitor`] with the visitor's fault if the visitor returns one.
-    // Not inlined, so that the line of an item is formatted in the loop of this function.
+    /// [`ShowFault::Visitor`] with the visitor's fault, if the visitor returns one.
+    // This function is not inlined, so that its loop contains the code that formats the line of an
+    // item.
     #[inline(never)]
     pub fn show<V: Visitor>(
         &self,
@@ -497,7 +504,7 @@ impl<'r, 'a> PackedItems<'r, 'a> {
         Ok(())
     }
 
-    /// Shows each subset and its items.
+    /// Shows all subsets and their items to a visitor.
     #[tactic(auto, using(crate::proofs::PackedShowing::subsets_start, crate::proofs::PackedShowing::subsets_done))]
     #[inline(never)]
     pub(crate) fn show_all<V: Visitor>(&self, visitor: &mut V) -> Result<(), ShowFault<V::Fault>>

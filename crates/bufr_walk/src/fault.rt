@@ -1,4 +1,4 @@
-//! Faults in the data of a message. (Their numbers and their order are our choice.)
+//! Faults in the data of a message. (We chose the numbers and the order of the faults.)
 ghost use Rattle.std.specs.Prelude.{◌≡◌};
 ghost use Rattle.bufr_walk.specs.Prelude.{data_report, fault_at};
 ghost use Rattle.bufr_walk.specs.declared.walker.WalkStop.TheVariants as stops;
@@ -12,15 +12,15 @@ use thiserror::Error;
 /// The location of an item in the data.
 #[derive(Clone, Copy, Debug, PartialEq, Eq)]
 pub struct Spot {
-    /// The subset number, counted from 1, or 0 in compressed data.
+    /// The subset number, counted from 1. For compressed data, the number is 0.
     pub subset: u16,
-    /// The descriptor of an element, a factor or an operator.
+    /// The descriptor of an element, a replication factor, or an operator.
     pub fxy: Fxy,
     /// The number of data bits before the item.
     pub bit: u64,
 }
 
-/// Writes the location in the form that fault lines use.
+/// Formats the location as it appears in fault lines.
 impl fmt::Display for Spot {
     fn fmt<W: fmt::Write>(&self, f: &mut fmt::Formatter<W>) -> fmt::Result {
         let Spot { subset, fxy, bit } = self;
@@ -28,37 +28,37 @@ impl fmt::Display for Spot {
     }
 }
 
-/// The number of the fault for an invalid width. A document can have this fault too.
+/// The fault number for an invalid width. This fault can also occur in a document.
 pub const WIDTH: u8 = 31;
 
-/// The number of the fault for a descriptor that is not allowed while 2 03 Y redefines references.
-/// A document can have this fault too.
+/// The fault number for a descriptor that is not allowed while 2 03 Y redefines reference values.
+/// This fault can also occur in a document.
 pub const DEFINING: u8 = 32;
 
-/// The number of the fault for too many values in compressed data. A document can have this fault
-/// too.
+/// The fault number for too many values in compressed data. This fault can also occur in a
+/// document.
 pub const TOO_MANY_VALUES: u8 = 35;
 
 /// The reason why the data of a message cannot be read.
 #[derive(Clone, Copy, Debug, PartialEq, Eq, Error)]
 pub enum WalkFault {
-    /// The data end inside the item.
+    /// The data end within the item.
     #[error("data end {0}")]
     DataEnd(Spot),
-    /// A field that is not text is less than 1 or more than 63 bits wide, or Table B does not
-    /// contain its element.
+    /// The width of a non-text field is outside the range of 1 to 63 bits, or Table B does not
+    /// contain the element.
     #[error("width {0}")]
     Width(Spot),
-    /// The descriptor is not allowed while 2 03 Y redefines references.
+    /// The descriptor is not allowed while 2 03 Y redefines reference values.
     #[error("defining {0}")]
     Defining(Spot),
-    /// The factor of a replication is not the same in all subsets of compressed data.
+    /// A replication factor is not the same in all subsets of compressed data.
     #[error("unequal factor {0}")]
     UnequalFactor(Spot),
-    /// The increments of an item of compressed data are invalid.
+    /// The increments of an item in compressed data are invalid.
     #[error("increment {0}")]
     Increment(Spot),
-    /// With this item, compressed data would have more than 134,217,728 values.
+    /// With this item, the compressed data would contain more than 134,217,728 values.
     #[error("too many values {0}")]
     TooManyValues(Spot),
     /// Memory ran out.
@@ -67,7 +67,7 @@ pub enum WalkFault {
 }
 
 impl WalkFault {
-    /// Returns the number of this fault: 30 to 35, or 73 if memory ran out.
+    /// Returns the number of this fault (30 to 35, or 73 if memory ran out).
     pub fn number(self) -> u8
         ensures { result ≡ (data_report self).0 }
     {
@@ -83,20 +83,21 @@ impl WalkFault {
     }
 }
 
-/// The reason why an item of the data cannot be read, with the descriptor of the item.
+/// The reason why an item in the data cannot be read. Each variant except `Memory` contains the
+/// item's descriptor.
 #[derive(Clone, Copy, Debug, PartialEq, Eq, Error)]
 pub enum DataFault {
-    /// The data end inside the item.
+    /// The data end within the item.
     #[error("the data end inside an item")]
     DataEnd(Fxy),
-    /// The sum of a base and an increment exceeds the width, `k` exceeds the length of a text, or a
-    /// redefined reference has increments.
+    /// The sum of a base and an increment does not fit in the field, `k` is greater than the length
+    /// of a text field, or a redefined reference value has increments.
     #[error("an increment that cannot be")]
     Increment(Fxy),
-    /// A replication factor is not the same in all subsets.
+    /// A replication factor is not the same in all subsets of compressed data.
     #[error("a factor is not the same in all subsets")]
     UnequalFactor(Fxy),
-    /// With this item, there would be more than 134,217,728 values.
+    /// With this item, the compressed data would contain more than 134,217,728 values.
     #[error("too many values")]
     TooManyValues(Fxy),
     /// Memory ran out.
@@ -105,8 +106,8 @@ pub enum DataFault {
 }
 
 impl DataFault {
-    /// Returns the number of the [`WalkFault`] that this fault becomes: 30, 33 to 35, or 73 if
-    /// memory ran out.
+    /// Returns the number of the corresponding [`WalkFault`] (30, 33 to 35, or 73 if memory ran
+    /// out).
     pub fn number(self) -> u8
         ensures { result ≡ (data_report (fault_at (stops.Field self) 0 0)).0 }
     {
@@ -114,7 +115,8 @@ impl DataFault {
     }
 }
 
-/// Returns the fault of a walk that stopped in this subset after `bit` bits.
+/// Converts the reason why a walk stopped into a fault, given the subset number and the number of
+/// bits read before the walk stopped.
 pub(crate) fn fault_at(why: WalkStop<DataFault>, subset: u16, bit: u64) -> WalkFault
     ensures { result ≡ fault_at why subset bit }
 {
@@ -132,10 +134,10 @@ pub(crate) fn fault_at(why: WalkStop<DataFault>, subset: u16, bit: u64) -> WalkF
     }
 }
 
-/// The reason why a reading was not shown to its end.
+/// The reason why a `Reading` was not shown completely.
 #[derive(Debug, PartialEq, Eq, Drop, Error)]
 pub enum ShowFault<E> {
-    /// The visitor returned this fault.
+    /// The fault that the visitor returned.
     #[error("the visitor stopped the showing")]
     Visitor(E),
     /// Memory ran out.

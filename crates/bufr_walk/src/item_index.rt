@@ -1,4 +1,4 @@
-//! The index of the items of compressed data.
+//! An index of the items in compressed data.
 ghost use Rattle.bufr_walk.specs.declared.fault.DataFault.TheVariants as wrong;
 ghost use Rattle.std.specs.Prelude.{◌≡◌, ◌≤◌, ◌<◌, ◌+◌, ◌*◌, max, ◌%◌, ◌++◌, ◌∷◌, [], length, vec_len, vec_capacity, IfErr, OnOk, OnErr, get_or};
 ghost use Rattle.bufr_walk.specs.Prelude.{items_at_once, start_of};
@@ -8,8 +8,10 @@ use crate::spec::Spec;
 use std::alloc::Global;
 use std::marker::Model;
 
-/// A stored item: its spec, its base (0 for a text), the bit at which it begins, and its `k`.
-// The bit is below 2^48. It is stored in two parts so that an item takes only 48 octets.
+/// A stored item, which consists of its spec, its base (0 if the field is text), the position of
+/// its first bit, and its `k`.
+// The position of the first bit is below 2^48. It is stored in two parts, so that an item takes up
+// only 48 octets.
 #[derive(Clone, Copy)]
 pub(crate) struct IndexedItem {
     pub(crate) spec: Spec,
@@ -20,7 +22,7 @@ pub(crate) struct IndexedItem {
 }
 
 impl IndexedItem {
-    /// Returns the bit at which the item begins.
+    /// Returns the position of the item's first bit.
     #[inline(always)]
     pub(crate) fn at(self) -> u64
         ensures { result ≡ start_of self }
@@ -29,10 +31,11 @@ impl IndexedItem {
     }
 }
 
-/// The number of items for which memory is reserved at once.
+/// The number of items for which memory is reserved at a time.
 const ITEMS_AT_ONCE: usize = 64;
 
-/// Makes room for 64 more items. If there is less room, the capacity roughly doubles.
+/// Reserves memory for at least 64 more items. If a reallocation is needed, the capacity roughly
+/// doubles.
 #[inline(always)]
 fn reserve(items: &mut Vec<IndexedItem>) -> Result<(), DataFault>
     ensures same { items.new.items ≡ items.old.items }
@@ -98,7 +101,7 @@ impl ItemIndex {
         self.items[index]
     }
 
-    /// Appends an item. Memory is reserved for 64 items at once.
+    /// Appends an item. If necessary, memory for 64 items is reserved first.
     #[inline(always)]
     pub(crate) fn keep(&mut self, item: IndexedItem) -> Result<(), DataFault>
         ensures kept { OnOk result (self.new ≡ self.old ++ item ∷ []) }

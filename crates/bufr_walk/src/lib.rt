@@ -1,11 +1,13 @@
-//! The data of FM 94 BUFR messages: the walk over a template, and the reading of a message's data.
+//! This crate walks over the templates of FM 94 BUFR messages and reads the messages' data.
 //!
 //! [`read_message`] reads the data of a message, and [`Reading::show`] passes each subset and item
-//! to a [`Visitor`]. The crates above this one write dumps with such a visitor. [`walk`] traverses
-//! a template for any [`Fields`]: [`PlainIn`] and [`PackedIn`] read data, and the writers of
-//! `bufr_fill` use the same walk. [`TemplateCache`] caches the most recent templates of a run and
-//! the specs of their cells. [`read_by`], [`Reading::show_by`] and [`walk_by`] use the cached
-//! specs.
+//! to a [`Visitor`]. Higher-level crates use visitors to write dumps.
+//!
+//! [`walk`] traverses a template and processes each field through the [`Fields`] trait. [`PlainIn`]
+//! and [`PackedIn`] implement this trait to read data, and the writers in `bufr_fill` implement it
+//! to write data. [`TemplateCache`] caches recently used templates, together with the specs of
+//! their cells. A spec describes how the bits of a field are read. [`read_by`],
+//! [`Reading::show_by`] and [`walk_by`] use cached specs.
 #![tactic(auto)]
 
 mod compressed;

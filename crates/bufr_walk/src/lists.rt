@@ -1,4 +1,5 @@
-//! A cache of recent descriptor lists, each with its template and the specs of its cells.
+//! A cache of recently used descriptor lists. Each list is cached with its template and the specs
+//! of the template's cells.
 ghost use Rattle.std.specs.Prelude.{◌≡◌, ◌<◌, Ok, IfOk, IfSome, ◌≢◌, ◌≤◌, ◌++◌, ◌∷◌, [], ℕ, length, vec_len, vec_capacity, true, false, IfErr, OnOk, OnErr, List, Err, Contains, IfNone, get_or};
 ghost use Rattle.bufr_tables.specs.Prelude.{Row, Sequence, tree_of, tables_of};
 ghost use Rattle.std.specs.List.{All};
@@ -11,14 +12,14 @@ use std::alloc::{AllocError, Global};
 use std::marker::Model;
 use std::mem;
 
-/// The maximum number of cached lists besides the last one.
+/// The maximum number of cached lists, not counting the list that was selected last.
 const MAX_OTHERS: usize = 127;
 
-/// The maximum number of descriptors of a cached list other than the last one, and the maximum
-/// number of cells of its template.
+/// The maximum number of descriptors in a cached list, and the maximum number of cells in its
+/// template. Neither limit applies to the list that was selected last.
 const MAX_KEPT: usize = 1024;
 
-/// A descriptor list, the template or fault that results from its expansion, and the specs of the
+/// A descriptor list, the result of expanding it (a template or a fault), and the specs of the
 /// template's cells.
 #[derive(Drop)]
 struct Slot<'a> {
@@ -28,7 +29,7 @@ struct Slot<'a> {
 }
 
 impl<'a> Slot<'a> {
-    /// Creates a slot for the empty list. Allocates no memory.
+    /// Creates a slot for the empty list. This function does not allocate.
     fn new(alloc: Global, table_b: &'a TableB) -> Slot<'a>
         ensures slot { (table_d : List Sequence) → IsSlotBy table_b.now table_d result }
         ensures list { result.list.items ≡ [] }
@@ -40,7 +41,7 @@ impl<'a> Slot<'a> {
         }
     }
 
-    /// Expands a list, and allocates memory for the specs of the template's cells.
+    /// Expands a list and allocates memory for the specs of the template's cells.
     ///
     /// # Errors
     ///
@@ -69,7 +70,7 @@ impl<'a> Slot<'a> {
         })
     }
 
-    /// Returns whether this slot's list is `descriptors`.
+    /// Returns whether the descriptor list in this slot equals `descriptors`.
     fn has(&self, descriptors: &[Fxy]) -> bool
         ensures same { result ≡ true → self.now.list.items ≡ descriptors.now }
         ensures other { result ≡ false → self.now.list.items ≢ descriptors.now }
@@ -77,8 +78,9 @@ impl<'a> Slot<'a> {
         self.list.as_slice() == descriptors
     }
 
-    /// Returns whether the slot may stay in the cache when another list becomes the last one: its
-    /// list has a template, and neither of them is too long.
+    /// Returns whether the slot may remain in the cache after another list is selected. A slot may
+    /// remain if its list was expanded into a template and if neither the list nor the template is
+    /// too long.
     fn may_stay(&self) -> bool
         ensures stays { result ≡ true → (table_b : List Row) (table_d : List Sequence)
             → IsSlotBy table_b table_d self.now → MayStay table_b table_d self.now.list.items }
@@ -95,7 +97,8 @@ impl<'a> Slot<'a> {
     }
 }
 
-/// Returns the index of the first slot whose list is `descriptors`, or `None` if there is none.
+/// Returns the index of the first slot whose list equals `descriptors`, or `None` if no such slot
+/// exists.
 fn index_of(slots: &[Slot<'_>], descriptors: &[Fxy]) -> Option<usize>
     ensures inside { IfSome result (λ index. index < length slots.now) }
     ensures there { IfSome result (λ index. (slot : Slot) → slot ≡ get_or slots.now index slot
@@ -105,7 +108,7 @@ fn index_of(slots: &[Slot<'_>], descriptors: &[Fxy]) -> Option<usize>
     slots.iter().position(|slot| slot.has(descriptors))
 }
 
-/// Drops the first slot if there are already [`MAX_OTHERS`].
+/// Drops the first slot if there are already [`MAX_OTHERS`] slots.
 fn drop_first(slots: &mut Vec<Slot<'_>>)
     requires { length slots.old.items ≤ 127 }
     ensures items { slots.new.items ≡ with_room slots.old.items }
@@ -117,11 +120,11 @@ fn drop_first(slots: &mut Vec<Slot<'_>>)
     }
 }
 
-/// A cache of templates for one Table B and one Table D.
+/// A cache of templates that are built from one Table B and one Table D.
 ///
-/// If a cached descriptor list is selected again, neither its template nor the specs of the
-/// template's cells are computed again. In contracts, a cache consists of its tables, the list that
-/// was selected last, and the other cached lists.
+/// If a cached descriptor list is selected again, its template and the specs of the template's
+/// cells are reused. Contracts describe a cache in terms of its two tables, the list that was
+/// selected last, and the other cached lists.
 ///
 /// ```
 /// let mut templates = TemplateCache::new(alloc, &table_b, &table_d);
@@ -158,7 +161,8 @@ impl<'a> Model for TemplateCache<'a> {
 }
 
 impl<'a> TemplateCache<'a> {
-    /// Creates a cache for these tables. Its last list is the empty list. Allocates no memory.
+    /// Creates a cache for the given tables, with the empty list selected. This function does not
+    /// allocate.
     pub fn new(alloc: Global, table_b: &'a TableB, table_d: &'a TableD) -> TemplateCache<'a>
         ensures { result ≡ record {
           table_b = table_b.now;
@@ -176,19 +180,20 @@ impl<'a> TemplateCache<'a> {
         }
     }
 
-    /// Makes a descriptor list the last one, and expands it if it is not cached.
+    /// Selects a descriptor list, and expands it if it is not cached.
     ///
-    /// The list that was last before stays in the cache if it has a template, at most 1,024
-    /// descriptors, and at most 1,024 cells in the template. At most 127 other lists are cached: if
-    /// there would be more, the first one is dropped. Selecting a cached list allocates no memory.
+    /// The previously selected list remains in the cache if it has a template and at most 1,024
+    /// descriptors, and if the template has at most 1,024 cells. In addition to the selected list,
+    /// the cache contains at most 127 lists. If another list would exceed this limit, the first of
+    /// the 127 lists is dropped. Selecting a cached list does not allocate.
     ///
-    /// The other lists take at most 9 MB: 2 octets for each descriptor, 8 for each cell (with room
-    /// for up to twice as many cells), and 48 for the spec of each cell. That is at most 67,584
-    /// octets for each list.
+    /// The lists that are not selected use at most 9 MB. Each of these lists uses 2 octets for each
+    /// descriptor, 8 octets for each cell (with space for up to twice as many cells), and 48 octets
+    /// for the spec of each cell. In total, a list uses at most 67,584 octets.
     ///
     /// # Errors
     ///
-    /// [`AllocError`] if memory runs out; the cache is left unchanged.
+    /// [`AllocError`] if memory runs out, in which case the cache is left unchanged.
     pub fn select(&mut self, descriptors: &[Fxy]) -> Result<(), AllocError>
         ensures table_b { self.new.table_b ≡ self.old.table_b }
         ensures table_d { self.new.table_d ≡ self.old.table_d }
@@ -229,8 +234,8 @@ impl<'a> TemplateCache<'a> {
         Ok(())
     }
 
-    /// Takes the specs of the last list's cells out of the cache, for a walk over its template. Put
-    /// them back with [`TemplateCache::put_specs`]; otherwise they must be computed again.
+    /// Takes the specs of the selected template's cells out of the cache, for use in a walk. If the
+    /// specs are not put back with [`TemplateCache::put_specs`], they must be computed again.
     pub fn take_specs(&mut self) -> SpecCache<'a>
         ensures specs { result ≡ self.old.table_b }
         ensures same { self.new ≡ self.old }
@@ -249,8 +254,9 @@ impl<'a> TemplateCache<'a> {
         self.last.specs = specs;
     }
 
-    /// Returns the result of expanding the last list: the template from [`Template::build`], or its
-    /// fault, which is never [`TemplateFault::Memory`]. Allocates no memory.
+    /// Returns the result of expanding the selected list, which is the template or the fault that
+    /// [`Template::build`] returned. The fault is never [`TemplateFault::Memory`]. This method does
+    /// not allocate.
     pub fn answer(&self) -> &Result<Template, TemplateFault>
         ensures answer { tree_of (tables_of self.now.table_b self.now.table_d)
             self.now.list ≡ result.now }
@@ -259,14 +265,14 @@ impl<'a> TemplateCache<'a> {
         &self.last.answer
     }
 
-    /// Returns Table B, which defines the elements in the templates.
+    /// Returns the Table B that defines the elements of the templates.
     pub fn table_b(&self) -> &'a TableB
         ensures { result.now ≡ self.now.table_b }
     {
         self.table_b
     }
 
-    /// Returns the number of cached lists besides the last one: at most 127.
+    /// Returns the number of cached lists (at most 127), not counting the selected list.
     pub fn others(&self) -> usize
         ensures value { result ≡ length self.now.others }
         ensures few { length self.now.others ≤ 127 }

@@ -1,4 +1,4 @@
-//! The operators in effect, and the spec of a field under them.
+//! The operators in effect, and the computation of field specs under these operators.
 ghost use Rattle.std.specs.Prelude.{◌≡◌, ◌≤◌, ◌<◌, ◌*◌, ◌+◌, ◌^◌, ◌+ℤ◌, ◌*ℤ◌, ◌==◌, pos, unsigned_abs, List, Result, Ok, Err, Some, OnOk, IfErr, true, false};
 ghost use Rattle.bufr_tables.specs.Prelude.{row_of_entry, is_legal_operator, IsRow};
 ghost use Rattle.bufr_walk.specs.Prelude.{if_valid_width, spec_by_kind, unsigned_field, scale_change_of, operator_width, OperatorModel, Redefined, current_reference, AreOperands, known_of, operator_model, IsOperatorKey, HasRole, descriptor_of, key_word, spec_key, HasOctetOperands, begin, after_operator, IsFieldKey, IsSpecKey, spec_of};
@@ -12,8 +12,8 @@ use bufr_tables::{Entry, Fxy, Kind, TableB};
 use std::alloc::Global;
 use std::marker::Model;
 
-/// The operand Y of each operator in effect, or 0 if it is not in effect, as in `OperatorModel` of
-/// `specs/`.
+/// The operand Y of each operator, or 0 if the operator is not in effect. `OperatorModel` in
+/// `specs/` uses the same representation.
 #[derive(Clone, Copy)]
 pub(crate) struct OperatorOperands {
     width_change: u8,
@@ -24,7 +24,7 @@ pub(crate) struct OperatorOperands {
     pub(crate) local_width: u8,
 }
 
-/// The operands if no operator is in effect.
+/// The operands when no operator is in effect.
 const NO_OPERATORS: OperatorOperands = OperatorOperands {
     width_change: 0,
     scale_change: 0,
@@ -34,13 +34,13 @@ const NO_OPERATORS: OperatorOperands = OperatorOperands {
     local_width: 0,
 };
 
-/// Added to the key of a field that defines a reference.
+/// The number added to the key of a field that redefines a reference value.
 const DEFINING: u64 = 0x200_0000_0000_0000;
 
-/// Added to the key of an element whose reference was redefined.
+/// The number added to the key of an element whose reference value has been redefined.
 const REDEFINED: u64 = 0x400_0000_0000_0000;
 
-/// A field that is looked up in Table B: an element, or the factor of a replication.
+/// A field whose descriptor is looked up in Table B (an element or a replication factor).
 #[derive(Clone, Copy)]
 pub(crate) enum TableField {
     Element(Fxy),
@@ -58,7 +58,8 @@ impl TableField {
         }
     }
 
-    /// Returns the number that stands for the descriptor and the kind of the field in a key.
+    /// Returns the number that represents the field's descriptor and kind (element or replication
+    /// factor) in a key.
     #[inline(always)]
     fn key_word(&self) -> u64
         ensures value { result ≡ key_word self.now }
@@ -71,12 +72,12 @@ impl TableField {
     }
 }
 
-/// The operators in effect, and the references that the data have redefined.
+/// The operators in effect, and the reference values that the data have redefined.
 #[derive(Drop)]
 pub(crate) struct OperatorState {
     pub(crate) operands: OperatorOperands,
     pub(crate) new_references: References,
-    /// The part of a spec's key that depends on the operators, or [`NO_KEY`].
+    /// The part of a spec's key that encodes the operators, or [`NO_KEY`].
     pub(crate) key: u64,
 }
 
@@ -91,7 +92,8 @@ impl Model for OperatorState {
         × IsOperatorKey (operator_model a.operands (known_of a.new_references)) a.key };
 }
 
-/// Returns the operands as one number, without the width of the references being defined.
+/// Encodes the operands as one number. The data width of redefined reference values is not
+/// included.
 #[inline(always)]
 fn operand_key(operands: OperatorOperands) -> u64
     ensures value { (known : List Redefined) → result ≡ spec_key (operator_model operands known) 0 }
@@ -105,8 +107,8 @@ fn operand_key(operands: OperatorOperands) -> u64
         + 0x1_0000_0000 * u64::from(operands.local_width)
 }
 
-/// Returns the operands as one number, or [`NO_KEY`] if references are being defined or have been
-/// redefined.
+/// Encodes the operands as one number. Returns [`NO_KEY`] if a reference value is being redefined
+/// or has been redefined.
 pub(crate) fn key_by(operands: OperatorOperands, new_references: &References) -> u64
     ensures { IsOperatorKey (operator_model operands (known_of new_references.now)) result }
 {
@@ -116,7 +118,8 @@ pub(crate) fn key_by(operands: OperatorOperands, new_references: &References) ->
     operand_key(operands)
 }
 
-/// Returns the redefined reference of an element if it has one, and otherwise that of Table B.
+/// Returns the reference value of an element, which is the redefined value if there is one, and the
+/// value in Table B otherwise.
 #[tactic(auto, using(crate::proofs::SpecLemmas::current_or))]
 #[inline(always)]
 // rule: new-reference-of-quantities
@@ -128,7 +131,8 @@ fn reference_of(new_references: &References, entry: &Entry<'_>) -> i64
     redefined.unwrap_or(entry.reference())
 }
 
-/// Returns the width of a quantity, in bits, after the changes in effect (2 01 Y, 2 07 Y).
+/// Returns the data width of a quantity in bits, after applying the changes in effect (2 01 Y, 2 07
+/// Y).
 #[inline(always)]
 // rule: 2-01-y, 2-07-y, cancel-2-01-and-2-02, cancel-2-07-and-2-08
 fn operator_width(width: u32, precision_increase: u8, width_change: u8) -> u32
@@ -143,7 +147,7 @@ fn operator_width(width: u32, precision_increase: u8, width_change: u8) -> u32
     }
 }
 
-/// Returns the scale of a quantity after the changes in effect (2 02 Y, 2 07 Y).
+/// Returns the scale of a quantity after applying the changes in effect (2 02 Y, 2 07 Y).
 #[inline(always)]
 // rule: 2-02-y, 2-07-y, cancel-2-01-and-2-02
 fn operator_scale(scale: i16, scale_change: u8, precision_increase: u8) -> i16
@@ -158,7 +162,7 @@ fn operator_scale(scale: i16, scale_change: u8, precision_increase: u8) -> i16
     scale + (i16::from(scale_change) - 128) + i16::from(precision_increase)
 }
 
-/// Returns a power of ten.
+/// Returns ten to the power of the increase in precision.
 #[tactic(auto, using(crate::proofs::SpecLemmas::power_small))]
 fn power_of_ten(precision_increase: u8) -> u64
     requires { precision_increase ≤ 18 }
@@ -168,7 +172,7 @@ fn power_of_ten(precision_increase: u8) -> u64
     10u64.pow(u32::from(precision_increase))
 }
 
-/// Returns the reference of a quantity after the change of precision in effect (2 07 Y).
+/// Returns the reference value of a quantity after applying the increase in precision (2 07 Y).
 #[tactic(auto, using(crate::proofs::SpecLemmas::product_small))]
 #[inline(always)]
 // rule: 2-07-y, 2-07-y-of-a-new-reference
@@ -178,14 +182,14 @@ fn scaled(reference: i64, precision_increase: u8) -> i128
     ensures near { unsigned_abs result ≤ 2 ^ 125 }
 {
     let reference = i128::from(reference);
-    // Usually no operator is in effect, and no multiplication is needed.
+    // In most cases no operator is in effect, and no multiplication is needed.
     if precision_increase == 0 {
         return reference;
     }
     reference * i128::from(power_of_ten(precision_increase))
 }
 
-/// Returns the spec of an element, given its row and its reference.
+/// Returns the spec of an element, given its Table B entry and its current reference value.
 #[inline(always)]
 // rule: class-31-never-missing, 2-01-2-02-2-07-add-up, new-reference-of-figures, figures-unchanged
 // rule: 2-08-y, cancel-2-07-and-2-08
@@ -235,7 +239,7 @@ fn spec_by_kind(
     }
 }
 
-/// Returns the spec of an unsigned number of the given width.
+/// Returns the spec of an unsigned numeric field with the given width in bits.
 #[inline(always)]
 // rule: 2-06-y-other-width, 2-06-y-of-class-31
 fn unlisted(fxy: Fxy, role: Role, width: u8, may_be_missing: bool) -> Result<Spec, TurnRefusal>
@@ -255,7 +259,7 @@ fn unlisted(fxy: Fxy, role: Role, width: u8, may_be_missing: bool) -> Result<Spe
 }
 
 impl OperatorState {
-    /// Creates the state at the beginning of a subset: no operator is in effect.
+    /// Creates the state at the start of a subset, when no operator is in effect.
     pub(crate) fn new(alloc: Global) -> OperatorState
         ensures { result ≡ begin }
     {
@@ -266,7 +270,8 @@ impl OperatorState {
         }
     }
 
-    /// Returns the key of a field's spec if no reference is being defined or has been redefined.
+    /// Returns the key of a field's spec. If a reference value is being redefined or has been
+    /// redefined, the result is not a valid key.
     #[tactic(auto, using(crate::proofs::CacheLemmas::with_word))]
     #[inline(always)]
     pub(crate) fn key(&self, field: &TableField) -> u64
@@ -275,7 +280,7 @@ impl OperatorState {
         self.key + 0x100_0000_0000 * field.key_word()
     }
 
-    /// Returns everything that the spec of a field depends on.
+    /// Returns the key of a field's spec. The key contains all inputs that determine the spec.
     #[inline(always)]
     pub(crate) fn spec_key(&self, field: &TableField) -> SpecKey
         ensures is { IsSpecKey self.now field.now result }
@@ -301,7 +306,8 @@ impl OperatorState {
         }
     }
 
-    /// Returns the spec of a field. (WMO-No. 306, Volume I.2, FM 94: Tables B and C)
+    /// Returns the spec of a field under the operators in effect. (WMO-No. 306, Volume I.2, FM 94:
+    /// Tables B and C)
     #[inline(never)]
     // rule: 2-06-y, 2-06-y-width-of-table-b, fault-32-before-31, defining-no-text
     // rule: factor-by-entry, defining-no-delayed-group
@@ -352,8 +358,8 @@ impl OperatorState {
         }
     }
 
-    /// Applies an operator. While references are being defined, the only operator allowed is the
-    /// one that ends their definition. (WMO-No. 306, Volume I.2, FM 94: Table C)
+    /// Applies an operator. While reference values are being redefined, the only valid operator is
+    /// 2 03 255, which ends the redefinition. (WMO-No. 306, Volume I.2, FM 94: Table C)
     // rule: 2-03-y, 2-03-000, later-operator-replaces, 2-03-y-again, defining-no-other-operator
     // rule: 2-03-255-alone, fault-32-before-31
     pub(crate) fn apply(&mut self, fxy: Fxy) -> Result<(), TurnRefusal>
@@ -380,7 +386,8 @@ impl OperatorState {
             6 => self.operands.local_width = y,
             7 => self.operands.precision_increase = y,
             8 => self.operands.character_octets = y,
-            // The walk does not apply 2 05 Y, which changes no operand.
+            // The remaining operator is 2 05 Y, which changes no operand. The walk never applies
+            // it.
             _ => {}
         }
         self.key = key_by(self.operands, &self.new_references);

@@ -1,4 +1,4 @@
-//! Plain data (data that are not compressed): their fields, and how they are read and shown.
+//! Functions that read and show the fields of plain (not compressed) data.
 ghost use Rattle.std.specs.Prelude.{◌≡◌, ◌≤◌, ◌<◌, ◌+◌, ◌-◌, ◌*◌, ◌^◌, length, take, drop, if◌then◌else◌, ◌==◌, pos, neg_ℤ, false, IfOk, IfErr, ◌/◌, Result, Some, None, Ok, Err, MatchResult};
 ghost use Rattle.bufr_bits.specs.Prelude.{number_of, bits_at, bits_of, are_all_ones, octets_of};
 ghost use Rattle.bufr_walk.specs.Prelude.{IsFor, answer_of, content_in, signed_by, octets_in, Content, shown, next_item, counted_item, bits_before, data_in, ReadsData, plain, read_pass, passes_apart, stop_of, items_by_pass, turns_in, PaysBits, reading_of, rest_of, ItemsGo, item_call, view_of, subset_calls, seen_value, Shows, PlainTakes, past, shown_missing};
@@ -16,8 +16,8 @@ use bufr_bits::BitSlice;
 use bufr_tables::{Entry, Fxy, TableB, Template};
 use std::marker::Model;
 
-/// Returns the number in the `width` bits that begin at bit `at`. They must be inside the data. The
-/// number in 0 bits is 0.
+/// Returns the `width`-bit number that begins at bit `at`. The bits must lie within the data. If
+/// `width` is 0, the number is 0.
 #[inline(always)]
 pub(crate) fn number_at(bits: &BitSlice<'_>, at: u64, width: u32) -> u64
     requires few { width ≤ 63 }
@@ -31,16 +31,16 @@ pub(crate) fn number_at(bits: &BitSlice<'_>, at: u64, width: u32) -> u64
     bits.number(at, width)
 }
 
-/// The number in some bits, and whether they are all ones.
+/// A number that was read, and a flag that indicates whether all of its bits are ones.
 #[derive(Clone, Copy)]
 pub(crate) struct RawNumber {
-    /// The number in the bits.
+    /// The number that the bits encode.
     pub(crate) number: u64,
-    /// Whether the bits are all ones.
+    /// Whether all bits of the number are ones.
     pub(crate) all_ones: bool,
 }
 
-/// Reads the number in 1 to 63 bits, which must be inside the data.
+/// Reads a number that is 1 to 63 bits wide. The bits must lie within the data.
 #[inline(always)]
 pub(crate) fn raw_at(bits: &BitSlice<'_>, at: u64, width: u32) -> RawNumber
     requires some { 1 ≤ width }
@@ -57,7 +57,7 @@ pub(crate) fn raw_at(bits: &BitSlice<'_>, at: u64, width: u32) -> RawNumber
     }
 }
 
-/// Returns `size`, negated if `sign` is 1.
+/// Returns `size`, or `-size` if `sign` is 1.
 // rule: reads-minus-zero
 fn signed(sign: u64, size: u64) -> i64
     requires { size < 2 ^ 62 }
@@ -67,7 +67,8 @@ fn signed(sign: u64, size: u64) -> i64
     if sign == 1 { -size } else { size }
 }
 
-/// Returns the number in the `width` bits that begin at bit `at`. The first bit is its sign.
+/// Returns the `width`-bit signed number that begins at bit `at`. The first bit is the sign, and
+/// the other bits are the magnitude.
 #[tactic(auto, using(crate::proofs::PlainLemmas::signed_parts, crate::proofs::PlainLemmas::small_power))]
 // rule: new-reference
 pub(crate) fn signed_at(bits: &BitSlice<'_>, at: u64, width: u32) -> i64
@@ -81,8 +82,7 @@ pub(crate) fn signed_at(bits: &BitSlice<'_>, at: u64, width: u32) -> i64
     signed(sign, size)
 }
 
-/// Returns the answer of a field that is inside the data: the part of its value that affects the
-/// walk.
+/// Returns the part of a field's value that affects the walk. The field must lie within the data.
 #[inline(always)]
 #[tactic(auto, using(crate::proofs::ShownLemmas::plain_answer, crate::proofs::ShownLemmas::plain_for, crate::proofs::PlainLemmas::answer_element, crate::proofs::PlainLemmas::answer_inserted, crate::proofs::PlainLemmas::answer_factor, crate::proofs::PlainLemmas::answer_reference, crate::proofs::PlainLemmas::some_width, crate::proofs::PlainLemmas::factor_width, crate::proofs::PlainLemmas::reference_width))]
 pub(crate) fn answer_at(bits: &BitSlice<'_>, at: u64, spec: &Spec) -> Taken
@@ -102,8 +102,8 @@ pub(crate) fn answer_at(bits: &BitSlice<'_>, at: u64, spec: &Spec) -> Taken
     }
 }
 
-/// Returns whether the `width` bits that begin at bit `at` are all ones. They must be inside the
-/// data.
+/// Returns whether all of the `width` bits that begin at bit `at` are ones. The bits must lie
+/// within the data.
 pub(crate) fn ones_at(bits: &BitSlice<'_>, at: u64, width: u32) -> bool
     requires { at + width ≤ 8 * length (octets_of bits.now) }
     ensures { result ≡ are_all_ones (bits_at (octets_of bits.now) at width) }
@@ -114,8 +114,8 @@ pub(crate) fn ones_at(bits: &BitSlice<'_>, at: u64, width: u32) -> bool
     }
 }
 
-/// Copies the `count` octets that begin at bit `at` to `text`. The bit need not be the first of an
-/// octet.
+/// Copies `count` octets of the data, beginning at bit `at`, to `text`. Bit `at` need not be at an
+/// octet boundary.
 pub(crate) fn copy_octets(bits: &BitSlice<'_>, at: u64, count: usize, text: &mut [u8; 255])
     requires few { count ≤ 255 }
     requires within { at + 8 * count ≤ 8 * length (octets_of bits.now) }
@@ -135,8 +135,8 @@ pub(crate) fn copy_octets(bits: &BitSlice<'_>, at: u64, count: usize, text: &mut
     }
 }
 
-/// Returns the value of the field that begins at bit `at`. A text is copied to `text` if it cannot
-/// be borrowed.
+/// Returns the value of the field that begins at bit `at`. If a string cannot be borrowed from the
+/// data, it is copied to `text`.
 #[tactic(auto, using(crate::proofs::ShownLemmas::reference_shown, crate::proofs::ShownLemmas::missing_shown, crate::proofs::ShownLemmas::number_shown))]
 // rule: value, missing, missing-inserted-text
 pub(crate) fn value_at<'a: 't, 't>(
@@ -173,8 +173,9 @@ pub(crate) fn value_at<'a: 't, 't>(
     Value::Number(i128::from(raw.number) + spec.reference(), spec.scale())
 }
 
-/// A reader of the fields in plain data, one after another. Contracts see the bits and how many of
-/// them were read. (WMO-No. 306, Volume I.2, FM 94: section 4)
+/// A reader for plain data. The fields are read one after another. Contracts describe a reader in
+/// terms of the data bits and the number of bits read so far. (WMO-No. 306, Volume I.2, FM 94:
+/// section 4)
 #[derive(Drop)]
 pub struct PlainIn<'a> {
     bits: BitSlice<'a>,
@@ -194,15 +195,15 @@ impl<'a> Model for PlainIn<'a> {
 }
 
 impl<'a> PlainIn<'a> {
-    /// Creates a reader of plain data that starts at bit 0.
+    /// Creates a reader that starts at bit 0 of plain data.
     pub fn new(bits: BitSlice<'a>) -> PlainIn<'a>
         ensures { result ≡ record { bits = bits_of (octets_of bits.entry); at = 0 } }
     {
         PlainIn { bits, at: 0 }
     }
 
-    /// Returns the answer of the next field without moving past it, or [`DataFault::DataEnd`] if
-    /// the data end inside the field.
+    /// Returns the part of the next field's value that affects the walk, without moving past the
+    /// field. Returns [`DataFault::DataEnd`] if the data end within the field.
     #[tactic(auto, using(crate::proofs::PlainLemmas::taken_here, crate::proofs::PlainLemmas::ends_here, crate::proofs::PlainLemmas::bits_length))]
     #[inline(always)]
     // rule: field-past-end
@@ -244,7 +245,7 @@ impl<'a> Fields for PlainIn<'a> {
     }
 }
 
-/// Reads all subsets, and returns the number of bits that they take.
+/// Reads all subsets and returns the number of bits that they occupy.
 // rule: operators-end-with-subset, subsets-without-padding, bits-left-over
 pub(crate) fn read_plain(
     bits: BitSlice<'_>,
@@ -276,7 +277,7 @@ pub(crate) fn read_plain(
     Ok(fields.at)
 }
 
-/// Shows a field with this value.
+/// Shows a field with the given value to a visitor.
 // rule: text-no-comment
 pub(crate) fn show_value<V: Visitor>(
     table: &TableB,
@@ -292,8 +293,8 @@ pub(crate) fn show_value<V: Visitor>(
     visitor.item(&ItemView { fxy, entry, value })
 }
 
-/// Shows a missing value that was read by an entry. Not inlined, so that the code that shows a
-/// number stays small.
+/// Shows a missing value to a visitor, given the Table B entry that was used to read it. This
+/// function is not inlined, so that the code that shows a number stays small.
 #[inline(never)]
 pub(crate) fn show_missing<V: Visitor>(
     fxy: Fxy,
@@ -310,7 +311,7 @@ pub(crate) fn show_missing<V: Visitor>(
     })
 }
 
-/// Shows a field of any kind.
+/// Shows the next field to a visitor. The field can be of any kind.
 #[inline(never)]
 fn show_other<V: Visitor>(
     input: &PlainIn<'_>,
@@ -327,7 +328,8 @@ fn show_other<V: Visitor>(
     show_value(table, spec, value, visitor)
 }
 
-/// Shows the next field. Not inlined, so that the loop over fields stays small.
+/// Shows the next field to a visitor. This function is not inlined, so that the loop over the
+/// fields stays small.
 #[tactic(auto, using(crate::proofs::ShownLemmas::plain_shown, crate::proofs::ShownLemmas::plain_missing))]
 #[inline(never)]
 fn show_field<V: Visitor>(
@@ -358,21 +360,21 @@ fn show_field<V: Visitor>(
     show_other(input, table, spec, text, visitor)
 }
 
-/// The reason why a field was not taken.
+/// The reason why a field was not processed.
 #[derive(Drop)]
 pub(crate) enum ShowStop<E> {
     DataEnd,
     Visitor(E),
 }
 
-/// Fields that are read from plain data. Each one is shown to a visitor before the reader moves
-/// past it.
+/// Fields that are read from plain data and shown to a visitor. Each field is shown before the
+/// reader moves past it.
 #[derive(Drop)]
 pub(crate) struct ShowFields<'i, 't, 'v, 'b, V: Visitor> {
     input: &'i mut PlainIn<'b>,
     table: &'t TableB,
     visitor: &'v mut V,
-    /// A buffer for a text that does not begin at the start of an octet.
+    /// A buffer for strings that do not begin at an octet boundary.
     text: [u8; 255],
 }
 
@@ -414,7 +416,7 @@ impl<'i, 't, 'v, 'b, V: Visitor> Fields for ShowFields<'i, 't, 'v, 'b, V> {
     }
 }
 
-/// Walks over one subset, and shows each of its items.
+/// Walks over the template once and shows the items of one subset to a visitor.
 fn walk_showing<V: Visitor>(
     template: &Template,
     cache: &mut SpecCache<'_>,
@@ -442,14 +444,15 @@ fn walk_showing<V: Visitor>(
     }
 }
 
-/// The input of walks over plain data, one for each subset, and the stack that all of them use.
+/// The state of the walks over plain data, which consists of the input and a stack that is reused
+/// for each subset.
 #[derive(Drop)]
 struct PlainWalks<'b> {
     input: PlainIn<'b>,
     open_groups: ArrayVec<Frame, 32>,
 }
 
-/// Shows the items of one subset.
+/// Shows the items of one subset to a visitor.
 fn show_items<V: Visitor>(
     template: &Template,
     cache: &mut SpecCache<'_>,
@@ -473,7 +476,7 @@ fn show_items<V: Visitor>(
     walk_showing(template, cache, &mut walks.open_groups, &mut fields, steps)
 }
 
-/// Plain data, the number of subsets, and their template.
+/// Plain data, the number of subsets, and the template that describes the data.
 #[derive(Drop)]
 pub(crate) struct PlainData<'a> {
     pub bits: BitSlice<'a>,
@@ -481,7 +484,7 @@ pub(crate) struct PlainData<'a> {
     pub template: &'a Template,
 }
 
-/// Shows each subset and its items.
+/// Shows all subsets and their items to a visitor.
 pub(crate) fn show_plain<V: Visitor>(
     given: &PlainData<'_>,
     cache: &mut SpecCache<'_>,

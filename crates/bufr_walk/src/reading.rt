@@ -1,4 +1,4 @@
-//! The reading of a message's data.
+//! Functions that read the data of a message, and the result of reading.
 ghost use Rattle.std.specs.Prelude.{◌≡◌, ◌≤◌, ◌+◌, ◌*◌, length, IfOk, IfErr, IfSome, is_some, false};
 ghost use Rattle.bufr_tables.specs.Prelude.{places};
 ghost use Rattle.bufr_walk.specs.Prelude.{bits_before, data_of, AnswersReading, calls_of, turns_shown, items_called, Shows, values_read, items_kept, max_values, IsPackedOf};
@@ -16,16 +16,16 @@ use bufr_tables::{TableB, Template};
 use std::alloc::Global;
 use std::marker::Model;
 
-/// The items that a reading stores: none for plain data, and each item with its location for
-/// compressed data.
+/// The items that a `Reading` stores. If the data are plain, no items are stored. If the data are
+/// compressed, each item is stored with its location.
 #[derive(Drop)]
 enum StoredItems {
     Apart,
     Together(ItemIndex),
 }
 
-/// The result of reading a message's data. It borrows the message's octets, the template and the
-/// table. (WMO-No. 306, Volume I.2, FM 94: section 4)
+/// The result of reading the data of a message. The result borrows the message's octets, the
+/// template, and the table. (WMO-No. 306, Volume I.2, FM 94: section 4)
 #[derive(Drop)]
 pub struct Reading<'a> {
     bits: BitSlice<'a>,
@@ -57,35 +57,37 @@ impl<'a> Model for Reading<'a> {
         (data_in r.compressed r.subsets (octets_of r.bits)) r.used (held_of r.kept)) r.kept };
 }
 
-/// Reads the data of a message by its template: in one pass for each subset or, if the data are
-/// compressed, in one pass for all subsets. (WMO-No. 306, Volume I.2, FM 94: sections 3 and 4)
+/// Reads the data of a message according to its template. Plain data are read in one pass for each
+/// subset, and compressed data are read in a single pass. (WMO-No. 306, Volume I.2, FM 94: sections
+/// 3 and 4)
 ///
-/// Sets `steps` to the number of steps that were made. If the template has `p` places and the items
-/// take `n` bits, this is at most `p * n`. If the data cannot be read, it is at most `p * (n + 1)`,
-/// where `n` is the number of bits before the item with the fault or, if memory ran out, the number
-/// of all bits of the data.
+/// Sets `steps` to the total number of steps in all passes. If the template has `p` places and the
+/// items occupy `n` bits, there are at most `p * n` steps. If the data cannot be read, there are at
+/// most `p * (n + 1)` steps, where `n` is the number of bits before the invalid item or, if memory
+/// ran out, the total number of data bits.
 ///
 /// ```
 /// let mut steps = Steps::new();
 /// let reading = read_message(alloc, &message, &template, &table_b, &mut steps)?;
-/// assert_eq!(rt; (reading.bits(), steps.count()), (7, 2)); // of one block number
+/// assert_eq!(rt; (reading.bits(), steps.count()), (7, 2)); // one 7-bit block number
 /// ```
 ///
 /// # Errors
 ///
-/// The first fault in the order of the data. It contains the subset (0 if the data are compressed),
-/// the descriptor, and the number of bits before the item. If an item has several faults, the first
-/// of these is returned:
-/// - [`WalkFault::Defining`] if the descriptor is not allowed while references are being redefined;
-/// - [`WalkFault::Width`] if a field that is not text is not 1 to 63 bits wide, or if the table
-///   does not contain its element;
-/// - [`WalkFault::TooManyValues`] if compressed data would have more than 134,217,728 values;
-/// - [`WalkFault::DataEnd`] if the data end inside the item;
+/// Returns the fault that comes first in the data. The fault contains the subset number (0 if the
+/// data are compressed), the descriptor, and the number of bits before the item. If an item has
+/// several faults, the fault that comes first in the following list is returned:
+/// - [`WalkFault::Defining`] if the descriptor is not allowed while reference values are being
+///   redefined;
+/// - [`WalkFault::Width`] if the width of a non-text field is outside the range of 1 to 63 bits, or
+///   if the table does not contain the element;
+/// - [`WalkFault::TooManyValues`] if compressed data would contain more than 134,217,728 values;
+/// - [`WalkFault::DataEnd`] if the data end within the item;
 /// - [`WalkFault::Increment`] if the increments are invalid;
-/// - [`WalkFault::UnequalFactor`] if a factor is not the same in all subsets.
+/// - [`WalkFault::UnequalFactor`] if a replication factor is not the same in all subsets.
 ///
-/// [`WalkFault::Memory`] if memory runs out. This can happen before a redefined reference is read
-/// and, in compressed data, at every 64th item.
+/// [`WalkFault::Memory`] if memory runs out. Memory can run out before a redefined reference value
+/// is read and, in compressed data, at the first item and at every 64th item after it.
 pub fn read_message<'a>(
     alloc: Global,
     message: &Message<'a>,
@@ -102,11 +104,11 @@ pub fn read_message<'a>(
     read_by(message, template, &mut cache, steps)
 }
 
-/// Reads the data of a message as [`read_message`] does, using the cached specs.
+/// Reads the data of a message as [`read_message`] does, but uses cached specs.
 ///
 /// # Errors
 ///
-/// The same as those of [`read_message`].
+/// Returns the same errors as [`read_message`].
 // rule: no-subsets
 pub fn read_by<'a, 't: 'a>(
     message: &Message<'a>,
@@ -171,22 +173,22 @@ impl<'a> Reading<'a> {
         self.subsets
     }
 
-    /// Returns the table by which the items are read.
+    /// Returns the Table B that was used to read the items.
     pub fn table(&self) -> &'a TableB
         ensures { result.now ≡ self.now.table }
     {
         self.table
     }
 
-    /// Returns the number of bits of the data that the items take.
+    /// Returns the number of data bits that the items occupy.
     pub fn bits(&self) -> u64
         ensures { result ≡ self.now.bits }
     {
         self.used
     }
 
-    /// Returns the number of stored items. For plain data, it is 0. For compressed data, each item
-    /// is stored once for all subsets, and there is at most one item for every seven bits.
+    /// Returns the number of stored items. For plain data, the number is 0. For compressed data,
+    /// each item is counted once for all subsets, and every item occupies at least seven bits.
     pub fn held(&self) -> u64
         ensures value { result ≡ self.now.held }
         ensures items { result ≡ items_kept (values_read self.now) }
@@ -199,8 +201,8 @@ impl<'a> Reading<'a> {
         }
     }
 
-    /// Returns the items of compressed data, each once for all subsets, or `None` if the data are
-    /// not compressed.
+    /// Returns the items of compressed data, or `None` if the data are not compressed. Each item
+    /// represents the values of all subsets.
     #[inline(always)]
     pub fn packed(&self) -> Option<PackedItems<'_, 'a>>
         ensures some { is_some result ≡ self.now.source.compressed }
@@ -219,18 +221,18 @@ impl<'a> Reading<'a> {
         }
     }
 
-    /// Shows each subset and its items to a visitor, in the order of the data, and stops at the
-    /// visitor's first fault. At most 134,217,728 items are shown.
+    /// Shows each subset and its items to a visitor, in the order of the data, and stops if the
+    /// visitor returns a fault. At most 134,217,728 items are shown.
     ///
-    /// Sets `steps` to the number of steps that were made, which is 0 if the data are compressed.
-    /// It is at most the number of places in the template times the number of bits that the items
-    /// take.
+    /// Sets `steps` to the number of steps in the walks over the template. For compressed data, the
+    /// number of steps is 0. For plain data, the number of steps is at most the number of places in
+    /// the template multiplied by the number of bits that the items occupy.
     ///
     /// # Errors
     ///
-    /// [`ShowFault::Visitor`] with the visitor's fault if the visitor returns one.
-    /// [`ShowFault::Memory`] if memory runs out, which can happen only before a redefined reference
-    /// is shown.
+    /// - [`ShowFault::Visitor`] with the visitor's fault, if the visitor returns one.
+    /// - [`ShowFault::Memory`] if memory runs out. Memory can run out only before a redefined
+    ///   reference value is shown.
     pub fn show<V: Visitor>(
         &self,
         alloc: Global,
@@ -246,12 +248,12 @@ impl<'a> Reading<'a> {
         self.show_by(&mut cache, visitor, steps)
     }
 
-    /// Shows each subset and its items to a visitor as [`Reading::show`] does, using the cached
-    /// specs. The cache must be one for the table of the reading.
+    /// Shows each subset and its items to a visitor as [`Reading::show`] does, but uses cached
+    /// specs. The cache must use the same table as this `Reading`.
     ///
     /// # Errors
     ///
-    /// The same as those of [`Reading::show`].
+    /// Returns the same errors as [`Reading::show`].
     #[tactic(auto, using(crate::proofs::PlainLemmas::readable_of, crate::proofs::PackedShowing::packed_shown, crate::proofs::ShownLemmas::apart_shown))]
     pub fn show_by<V: Visitor>(
         &self,
@@ -266,7 +268,8 @@ impl<'a> Reading<'a> {
         ensures few { items_called (calls_of self.now) ≤ max_values }
         ensures bounded { steps.new ≤ places self.now.template * self.now.bits }
     {
-        // Only for the proof: what this call ensures about the template's groups bounds the steps.
+        // This call is needed only for the proof: its contract describes the template's groups and
+        // thereby limits the number of steps.
         let _ = self.template.cells();
         *steps = Steps::new();
         if let Some(items) = self.packed() {

@@ -1,4 +1,4 @@
-//! References that the data redefine.
+//! The reference values that the data have redefined.
 ghost use Rattle.std.specs.Prelude.{◌≡◌, ◌<◌, [], true, Option, OnOk};
 ghost use Rattle.arrayvec.specs.ArrayVec.{array_vec_len};
 ghost use Rattle.bufr_walk.specs.Prelude.{known_by, known_of, last_of, redefined, with_all, with_reference};
@@ -7,23 +7,23 @@ use arrayvec::ArrayVec;
 use std::alloc::{AllocError, Global};
 use std::collections::BTreeMap;
 
-/// A redefined reference, and the 16-bit word of its descriptor.
+/// A redefined reference value, and the descriptor of its element as a 16-bit number.
 #[derive(Clone, Copy, Default)]
 pub(crate) struct NewReference {
     word: u16,
     reference: i64,
 }
 
-/// The references that the data have redefined: older ones in a map, and the most recent ones in an
-/// array, which needs no allocation. Data may redefine thousands of references, and each item looks
-/// up its own.
+/// The reference values that the data have redefined. The most recent values are stored in an
+/// array, which needs no allocation, and earlier values are stored in a map. A map is used because
+/// data may redefine thousands of reference values, and a value is looked up for each item.
 #[derive(Drop)]
 pub(crate) struct References {
     sorted: BTreeMap<u16, i64>,
     recent: ArrayVec<NewReference, 4>,
 }
 
-/// Adds references to the map.
+/// Adds recently redefined reference values to the map.
 fn sort(sorted: &mut BTreeMap<u16, i64>, recent: &[NewReference]) -> Result<(), AllocError>
     ensures { OnOk result
         (known_by sorted.new.entries ≡ with_all recent.now (known_by sorted.old.entries)) }
@@ -34,7 +34,8 @@ fn sort(sorted: &mut BTreeMap<u16, i64>, recent: &[NewReference]) -> Result<(), 
     Ok(())
 }
 
-/// Returns the last of the references with the given word, or `before` if there is none.
+/// Returns the last reference value with the given descriptor, or `before` if no value has this
+/// descriptor.
 fn last_of(recent: &[NewReference], word: u16, before: Option<i64>) -> Option<i64>
     ensures { result ≡ last_of recent.now word before }
 {
@@ -48,7 +49,7 @@ fn last_of(recent: &[NewReference], word: u16, before: Option<i64>) -> Option<i6
 }
 
 impl References {
-    /// Creates an empty collection. This does not allocate.
+    /// Creates an empty collection. This function does not allocate.
     pub(crate) fn new(alloc: Global) -> References
         ensures { known_of result ≡ [] }
     {
@@ -58,14 +59,15 @@ impl References {
         }
     }
 
-    /// Returns whether there is no reference.
+    /// Returns whether the collection is empty.
     pub(crate) fn is_empty(&self) -> bool
         ensures { result ≡ true → known_of self.now ≡ [] }
     {
         self.recent.is_empty() && self.sorted.is_empty()
     }
 
-    /// Returns the redefined reference of an element, if it has one.
+    /// Returns the redefined reference value of an element, or `None` if the element's reference
+    /// value has not been redefined.
     #[tactic(auto, using(crate::proofs::SpecLemmas::reference_found, crate::proofs::SpecLemmas::last_found))]
     pub(crate) fn get(&self, word: u16) -> Option<i64>
         ensures { result ≡ redefined (known_of self.now) word }
@@ -74,7 +76,7 @@ impl References {
         last_of(self.recent.as_slice(), word, before)
     }
 
-    /// Makes room for one more reference.
+    /// Reserves space for one more reference value.
     pub(crate) fn reserve(&mut self) -> Result<(), AllocError>
         ensures same { OnOk result (known_of self.new ≡ known_of self.old) }
         ensures room { OnOk result (array_vec_len self.new.recent < 4) }
@@ -86,7 +88,8 @@ impl References {
         Ok(())
     }
 
-    /// Adds the reference of an element. There must be room for it.
+    /// Adds a redefined reference value for an element. Space for the value must already be
+    /// reserved.
     #[tactic(auto, using(crate::proofs::SpecLemmas::all_more))]
     pub(crate) fn push(&mut self, word: u16, reference: i64)
         requires { array_vec_len self.old.recent < 4 }
@@ -95,7 +98,7 @@ impl References {
         self.recent.push(NewReference { word, reference });
     }
 
-    /// Drops all references.
+    /// Removes all reference values.
     pub(crate) fn clear(&mut self)
         ensures { known_of self.new ≡ [] }
     {

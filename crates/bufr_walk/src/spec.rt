@@ -1,4 +1,4 @@
-//! The spec of a field of the data.
+//! The spec of a field describes how its bits are read.
 ghost use Rattle.std.specs.Prelude.{◌≡◌, ◌≤◌, ◌^◌, false, true, unsigned_abs, ◌%◌};
 ghost use Rattle.bufr_tables.specs.Prelude.{is_character};
 ghost use Rattle.bufr_walk.specs.Prelude.{HasRole, HasWidth, number_field, if_valid_width, text_spec, IsSpec, is_reference, IsPlainNumber};
@@ -7,45 +7,47 @@ ghost use Rattle.bufr_tables.specs.declared.table_b.Kind.TheVariants as kinds;
 use bufr_tables::{Fxy, Kind};
 use std::marker::Model;
 
-/// The purpose of a field.
+/// The role of a field in the data.
 #[derive(Clone, Copy, Debug, PartialEq, Eq, PartialOrd, Ord)]
 pub enum Role {
     /// The value of an element.
     Element,
-    /// Characters that 2 05 Y inserts.
+    /// The characters that operator 2 05 Y inserts.
     Inserted,
-    /// The factor of a delayed replication.
+    /// The replication factor of a delayed replication.
     Factor,
-    /// A redefined reference of an element (after 2 03 Y).
+    /// A new reference value for an element, defined in the data while operator 2 03 Y is in
+    /// effect.
     Reference,
 }
 
-/// The reason why an element, a factor or an operator of a template is rejected, with its
-/// descriptor.
+/// The reason why a template's element, replication factor, or operator is rejected. Each variant
+/// contains the rejected descriptor.
 #[derive(Clone, Copy, Debug, PartialEq, Eq)]
 pub enum TurnRefusal {
-    /// A field that is not text is less than 1 or more than 63 bits wide, or Table B does not
-    /// contain its element.
+    /// The width of a non-text field is outside the range of 1 to 63 bits, or Table B does not
+    /// contain the element.
     Width(Fxy),
-    /// The descriptor is not allowed while 2 03 Y redefines references.
+    /// The descriptor is not allowed while 2 03 Y redefines reference values.
     Defining(Fxy),
 }
 
-/// The answer of a field: the part of its value that affects what comes after it.
+/// The part of a field's value that affects how the following fields are processed.
 #[derive(Clone, Copy, Debug, PartialEq, Eq)]
 pub enum Taken {
-    /// Nothing. Only factors and redefined references affect what comes after them.
+    /// The field's value has no effect on the following fields. This variant applies to all fields
+    /// except replication factors and redefined reference values.
     Plain,
-    /// The number of passes of the group that follows.
+    /// The number of passes over the replicated group.
     Count(u64),
-    /// The redefined reference of the element.
+    /// The redefined reference value of the element.
     Reference(i64),
 }
 
-/// The spec of a field: how its bits are read. (WMO-No. 306, Volume I.2, FM 94: section 4, Tables B
-/// and C)
-// The widest field comes first. If there were gaps between the fields, each copy would cost as much
-// as reading a number.
+/// The spec of a field describes how its bits are read. (WMO-No. 306, Volume I.2, FM 94: section 4,
+/// Tables B and C)
+// The widest struct field comes first, so that there are no gaps between the fields. With gaps,
+// each copy of a spec would cost as much as reading a number.
 #[derive(Clone, Copy, Debug, PartialEq, Eq)]
 pub struct Spec {
     pub(crate) reference: i128,
@@ -59,7 +61,7 @@ pub struct Spec {
     plain: bool,
 }
 
-/// The parts of a spec that describe a number.
+/// The parts of a spec that describe how a number is encoded.
 #[derive(Clone, Copy)]
 pub(crate) struct NumberParts {
     pub(crate) kind: Kind,
@@ -124,7 +126,8 @@ impl Model for Spec {
 }
 
 impl Spec {
-    /// Returns the spec of a number, or [`TurnRefusal::Width`] if its width is not 1 to 63 bits.
+    /// Returns the spec of a numeric field, or [`TurnRefusal::Width`] if the width is outside the
+    /// range of 1 to 63 bits.
     #[tactic(auto, using(crate::proofs::SpecLemmas::number_good))]
     #[inline(always)]
     // rule: widths
@@ -157,7 +160,7 @@ impl Spec {
         })
     }
 
-    /// Returns the spec of a text of `width` bits.
+    /// Returns the spec of a text field that is `width` bits wide.
     #[tactic(auto, using(crate::proofs::SpecLemmas::text_good))]
     #[inline(always)]
     pub(crate) fn text(role: Role, fxy: Fxy, width: u32, listed: bool) -> Spec
@@ -185,21 +188,23 @@ impl Spec {
         self.fxy
     }
 
-    /// Returns the purpose of the field.
+    /// Returns the role of the field.
     pub fn role(&self) -> Role
         ensures { result ≡ self.now.role }
     {
         self.role
     }
 
-    /// Returns whether the field is text, a figure of a code or flag table, or a number in a unit.
+    /// Returns the kind of the field (text, an entry of a code or flag table, or a number with a
+    /// unit).
     pub fn kind(&self) -> Kind
         ensures { result ≡ self.now.kind }
     {
         self.kind
     }
 
-    /// Returns the width of the field in bits: 1 to 63 or, for a text, a multiple of 8 up to 2,040.
+    /// Returns the width of the field in bits. The width is 1 to 63 or, if the field is text, a
+    /// multiple of 8 up to 2,040.
     #[tactic(auto, using(crate::proofs::SpecLemmas::some_width, crate::proofs::SpecLemmas::most_width, crate::proofs::SpecLemmas::narrow_width, crate::proofs::SpecLemmas::whole_width, crate::proofs::SpecLemmas::reference_width))]
     pub fn width(&self) -> u32
         ensures value { result ≡ self.now.width }
@@ -213,14 +218,15 @@ impl Spec {
         self.width
     }
 
-    /// Returns the scale: the number of the field is divided by ten to this power.
+    /// Returns the scale. The value of a field is its number divided by ten to the power of the
+    /// scale.
     pub fn scale(&self) -> i16
         ensures value { result ≡ self.now.scale }
     {
         self.scale
     }
 
-    /// Returns the reference value, which is added to the number in the bits.
+    /// Returns the reference value, which is added to the number encoded in the field's bits.
     pub fn reference(&self) -> i128
         ensures value { result ≡ self.now.reference }
         ensures spec { IsSpec self.now }
@@ -235,22 +241,22 @@ impl Spec {
         matches!(self.kind, Kind::Character)
     }
 
-    /// Returns whether the field is a redefined reference.
+    /// Returns whether the field redefines a reference value.
     pub fn is_reference(&self) -> bool
         ensures { result ≡ is_reference self.now.role }
     {
         matches!(self.role, Role::Reference)
     }
 
-    /// Returns whether the field is read by its entry of Table B.
+    /// Returns whether the field is read according to its entry in Table B.
     pub fn listed(&self) -> bool
         ensures { result ≡ self.now.listed }
     {
         self.listed
     }
 
-    /// Returns whether the field is the number of a listed element, and its magnitude is always
-    /// below 2^63.
+    /// Returns whether the field is a plain number. A plain number is read according to its entry
+    /// in Table B, and its magnitude is always less than 2^63.
     #[inline(always)]
     pub(crate) fn is_plain(&self) -> bool
         ensures { result ≡ true → IsPlainNumber self.now }
@@ -258,7 +264,7 @@ impl Spec {
         self.plain
     }
 
-    /// Returns whether bits that are all ones mean a missing value.
+    /// Returns whether the field can be missing. If a field is missing, all of its bits are ones.
     pub fn may_be_missing(&self) -> bool
         ensures { result ≡ self.now.may_be_missing }
     {

@@ -1,4 +1,5 @@
-//! A cache of the specs of a template's cells, reused from one reading to the next.
+//! A cache for the specs of a template's cells. The cached specs can be used to read several
+//! messages.
 ghost use Rattle.std.specs.Prelude.{◌≡◌, ◌<◌, ◌≤◌, ◌^◌, IfSome};
 ghost use Rattle.bufr_walk.specs.Prelude.{IsSpecBy, IsSpecFor};
 
@@ -7,18 +8,18 @@ use bufr_tables::{Fxy, TableB};
 use std::alloc::{AllocError, Global};
 use std::marker::Model;
 
-/// The maximum number of cells of a template whose specs are cached.
+/// The maximum number of cells whose specs are cached, counted from the first cell of a template.
 const MAX_CELLS: usize = 1024;
 
-/// The least number that is not a key. No spec is cached under such a number.
+/// The smallest number that is not a valid key. Every cached spec has a smaller key.
 pub(crate) const NO_KEY: u64 = 0x4000_0000_0000_0000;
 
-/// The key of an entry without a spec.
+/// The key of an empty cache entry.
 const EMPTY: u64 = u64::MAX;
 
-/// Everything that the spec of a field depends on: the operators and the descriptor as one number,
-/// and a number that the data determine (the width of a reference being defined, or a redefined
-/// reference).
+/// All inputs that determine the spec of a field. `operators` encodes the operators and the
+/// descriptor. `number` is a redefined reference value, the data width of a reference value that is
+/// being redefined, or 0.
 #[derive(Clone, Copy)]
 pub(crate) struct SpecKey {
     pub(crate) operators: u64,
@@ -32,10 +33,11 @@ pub(crate) struct CachedSpec {
     pub(crate) spec: Spec,
 }
 
-/// A cache of specs, found in a Table B, for the first 1,024 cells of a template. For each cell, it
-/// contains the last spec that was found there.
+/// A cache for the specs of a template's first 1,024 cells. The specs are computed from a Table B.
+/// For each cell, the cache contains the most recently computed spec.
 ///
-/// Contracts see only the table, because a spec is looked up by everything that it depends on.
+/// Contracts describe a cache only in terms of its table. A cached spec equals a newly computed
+/// one, because its key contains all inputs that determine the spec.
 ///
 /// ```
 /// let mut cache = SpecCache::new(alloc, &table_b);
@@ -45,7 +47,7 @@ pub(crate) struct CachedSpec {
 #[derive(Drop)]
 pub struct SpecCache<'a> {
     pub(crate) alloc: Global,
-    /// The table in which the specs are found.
+    /// The table from which the specs are computed.
     pub(crate) table: &'a TableB,
     entries: Vec<CachedSpec>,
 }
@@ -64,7 +66,7 @@ impl<'a> Model for SpecCache<'a> {
 }
 
 impl<'a> SpecCache<'a> {
-    /// Creates an empty cache without room for specs. This does not allocate.
+    /// Creates an empty cache that has no space for specs. This function does not allocate.
     pub fn new(alloc: Global, table: &'a TableB) -> SpecCache<'a>
         ensures { result ≡ table.now }
     {
@@ -75,21 +77,21 @@ impl<'a> SpecCache<'a> {
         }
     }
 
-    /// Returns the allocator of the cache.
+    /// Returns the allocator that the cache uses.
     #[inline(always)]
     pub fn allocator(&self) -> Global {
         self.alloc
     }
 
-    /// Returns the number of cells for which there is room.
+    /// Returns the number of specs for which the cache has space.
     pub fn cells(&self) -> usize
         ensures few { result ≤ 1024 }
     {
         self.entries.len()
     }
 
-    /// Drops all specs, and makes room for those of a template with this number of cells, but for
-    /// at most 1,024.
+    /// Drops all specs, and reserves memory for the specs of a template with the given number of
+    /// cells. Memory is reserved for at most 1,024 specs.
     ///
     /// # Errors
     ///
@@ -107,8 +109,9 @@ impl<'a> SpecCache<'a> {
         self.entries.resize(cells.min(MAX_CELLS), empty)
     }
 
-    /// Returns the last spec that was found for a cell, if it has this key and no reference was
-    /// being defined or had been redefined.
+    /// Returns the most recently computed spec of a cell, if that spec is cached under the given
+    /// key. If a reference value is being redefined or has been redefined, no cached spec matches
+    /// the key.
     #[tactic(auto, using(crate::proofs::CacheLemmas::plain_spec))]
     #[inline(always)]
     pub(crate) fn get(&self, place: u32, key: u64) -> Option<&Spec>
@@ -125,7 +128,8 @@ impl<'a> SpecCache<'a> {
         None
     }
 
-    /// Returns the last spec that was found for a cell, if it has this key.
+    /// Returns the most recently computed spec of a cell, if that spec is cached under the given
+    /// key.
     #[inline(always)]
     pub(crate) fn get_by(&self, place: u32, key: SpecKey) -> Option<&Spec>
         requires { key.operators < 2 ^ 62 }
@@ -141,7 +145,7 @@ impl<'a> SpecCache<'a> {
         None
     }
 
-    /// Caches the spec that was found for a cell, under its key.
+    /// Caches the spec that was computed for a cell under the given key.
     pub(crate) fn insert(&mut self, place: u32, key: SpecKey, spec: &Spec)
         requires { IsSpecFor self.old key spec.now }
         ensures { self.new ≡ self.old }

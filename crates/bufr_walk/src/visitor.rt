@@ -1,4 +1,4 @@
-//! The visitor of a reading, and the items that it is shown.
+//! The `Visitor` trait, and the items that are shown to a visitor.
 ghost use Rattle.std.specs.Prelude.{Result, ◌≡◌, ◌<◌, ◌^◌, ◌+ℤ◌, pos};
 ghost use Rattle.bufr_walk.specs.Prelude.{Call, subset_call, item_call, seen, seen_value, shown_number, IsPlainNumber};
 
@@ -10,16 +10,17 @@ use bufr_tables::{Entry, Fxy};
 pub enum Value<'a> {
     /// A number and its scale. The value is the number divided by ten to the power of the scale.
     Number(i128, i16),
-    /// The octets of a text. If they come from an increment of compressed data, they are padded
-    /// with spaces to the length of the field.
+    /// The octets of a string. A string from an increment in compressed data is padded with spaces
+    /// to the length of the field.
     Text(&'a [u8]),
     /// A missing value.
     Missing,
-    /// A redefined reference value of the element (2 03 Y).
+    /// A new reference value for an element, defined in the data while operator 2 03 Y is in
+    /// effect.
     Reference(i64),
 }
 
-/// Returns the value of a plain field that has this number in its bits.
+/// Returns the value of a plain field, given the number that is encoded in its bits.
 #[inline(always)]
 pub(crate) fn plain_number<'t>(spec: &Spec, raw: u64) -> Value<'t>
     requires plain { IsPlainNumber spec.now }
@@ -27,37 +28,38 @@ pub(crate) fn plain_number<'t>(spec: &Spec, raw: u64) -> Value<'t>
     ensures { seen_value result
         ≡ shown_number (pos raw +ℤ spec.now.reference) spec.now.scale }
 {
-    // The sum is computed in 64 bits, so that a visitor sees that it fits.
+    // The sum is computed in 64 bits, so that a visitor's check that the sum fits in 64 bits can be
+    // optimized away.
     let number = raw as i64 + spec.reference as i64;
     Value::Number(i128::from(number), spec.scale)
 }
 
-/// An item of the data, as it is shown to a visitor.
+/// An item of the data, as shown to a visitor.
 #[derive(Clone, Copy, Debug, PartialEq, Eq)]
 pub struct ItemView<'a> {
-    /// The descriptor: an element, a factor, or 2 05 Y.
+    /// The descriptor of an element or a replication factor, or the operator 2 05 Y.
     pub fxy: Fxy,
-    /// The entry of Table B by which the item was read, or `None` if there was no such entry.
+    /// The Table B entry that was used to read the item, or `None` if no entry was used.
     pub entry: Option<Entry<'a>>,
-    /// The value.
+    /// The value of the item.
     pub value: Value<'a>,
 }
 
-/// A visitor of a reading. It is called for each subset and for each item, in the order of the
-/// data.
+/// A visitor of the items read from a message. The visitor's methods are called for each subset and
+/// each item, in the order of the data.
 pub trait Visitor {
     /// The reason why a visitor stops.
     type Fault;
 
-    /// The relation between the visitor before a call, the call, its result, and the visitor after
-    /// it.
+    /// The relation between the visitor before a call, the call itself, its result, and the visitor
+    /// after the call.
     ghost sees: { Self → Call → Result (Unit {0}) Self.Fault → Self → Type 0 };
 
-    /// Called at the start of each subset. `number` counts from 1.
+    /// Called at the start of each subset. `number` is the subset number, counted from 1.
     ///
     /// # Errors
     ///
-    /// [`Visitor::Fault`] if the visitor stops. Nothing more is shown after it.
+    /// [`Visitor::Fault`] if the visitor stops. After the fault, nothing more is shown.
     fn subset(&mut self, number: u16) -> Result<(), Self::Fault>
         ensures { sees self.old (subset_call number) result self.new };
 
@@ -65,7 +67,7 @@ pub trait Visitor {
     ///
     /// # Errors
     ///
-    /// [`Visitor::Fault`] if the visitor stops. Nothing more is shown after it.
+    /// [`Visitor::Fault`] if the visitor stops. After the fault, nothing more is shown.
     fn item(&mut self, item: &ItemView<'_>) -> Result<(), Self::Fault>
         ensures { sees self.old (item_call (seen item.now)) result self.new };
 }

@@ -1,4 +1,5 @@
-//! The walk over the cells of a template: the fields that it takes, why it stops, and its steps.
+//! The walk over the cells of a template. This module also defines the `Fields` trait, the reasons
+//! why a walk stops, and the step count.
 ghost use Rattle.std.specs.Prelude.{◌≡◌, ℕ, ◌+◌, ◌-◌, ◌^◌, ◌<◌, Result, Ok, Err, IfOk, ◌≤◌, ◌*◌, ◌++◌, ◌∷◌, [], List, OnOk, OnErr, true, false};
 ghost use Rattle.bufr_walk.specs.Prelude.{ticked, Walked, TakesField, counted_item, FieldSpec, IsFor, Taken, after_field, descriptor_of, spec_of, stop_by, inserted_spec, is_reference, IsSpecKey};
 ghost use Rattle.arrayvec.specs.ArrayVec.{array_vec_len};
@@ -20,9 +21,9 @@ pub enum WalkStop<E> {
     Width(Fxy),
     /// See [`TurnRefusal::Defining`].
     Defining(Fxy),
-    /// A field could not be read or written, for this reason.
+    /// A field could not be read or written. The variant contains the reason.
     Field(E),
-    /// Memory ran out before a redefined reference was stored.
+    /// Memory ran out before a redefined reference value was stored.
     Memory,
 }
 
@@ -37,8 +38,8 @@ impl<E> From<TurnRefusal> for WalkStop<E> {
     }
 }
 
-/// The number of steps that walks have made, capped at `u64::MAX`. A step processes a descriptor,
-/// ends a pass over a group, or ends the template.
+/// The total number of steps in one or more walks, capped at `u64::MAX`. A step processes a
+/// descriptor, ends a pass over a group, or reaches the end of the template.
 #[derive(Drop)]
 pub struct Steps {
     count: u64,
@@ -51,21 +52,21 @@ impl Model for Steps {
 }
 
 impl Steps {
-    /// Creates a count of 0.
+    /// Creates a step count of 0.
     pub fn new() -> Self
         ensures { result ≡ 0 }
     {
         Steps { count: 0 }
     }
 
-    /// Returns the number of steps.
+    /// Returns the number of steps counted so far.
     pub fn count(&self) -> u64
         ensures { result ≡ self.now }
     {
         self.count
     }
 
-    /// Counts one more step, up to `u64::MAX`.
+    /// Adds one step to the count, up to `u64::MAX`.
     pub(crate) fn tick(&mut self)
         ensures { self.new ≡ ticked self.old 1 }
     {
@@ -73,45 +74,48 @@ impl Steps {
     }
 }
 
-/// Data that a walk reads or writes field by field.
+/// Data whose fields are read or written by a walk, one field at a time.
 pub trait Fields {
-    /// The reason why a field cannot be taken.
+    /// The reason why a field cannot be read or written.
     type Fault;
 
-    /// The number of bits that complete items use.
+    /// The number of bits used by the fields processed so far.
     ghost used: { Self → ℕ };
 
-    /// The relation that describes a call of `take`: the state before, the spec of the field, the
-    /// result, and the state after.
+    /// The relation between the state before a call to `take`, the spec of the field, the result of
+    /// the call, and the state after it.
     ghost takes: { Self → FieldSpec → Result Taken Self.Fault → Self → Type 0 };
 
-    /// Takes the next field, and returns the part of its value that affects the walk:
-    /// [`Taken::Count`] for a factor, [`Taken::Reference`] for a reference that is being defined,
-    /// and [`Taken::Plain`] for any other field. A field that is taken uses at least one bit.
+    /// Reads or writes the next field, and returns the part of the field's value that affects the
+    /// walk. The result is [`Taken::Count`] for a replication factor, [`Taken::Reference`] for a
+    /// redefined reference value, and [`Taken::Plain`] for any other field. Each field occupies at
+    /// least one bit.
     ///
     /// # Errors
     ///
-    /// [`Fields::Fault`] if the field cannot be taken; then no bit is used.
+    /// [`Fields::Fault`] if the field cannot be read or written. In that case, no bits are read or
+    /// written.
     fn take(&mut self, spec: &Spec) -> Result<Taken, Self::Fault>
         ensures step { takes self.old spec.now result self.new }
         ensures shape { IfOk result (λ t. IsFor spec.now t) };
 
-    /// Returns the number of bits that complete items use.
+    /// Returns the number of bits used by the fields processed so far.
     fn bits(&self) -> u64
         ensures { result ≡ used self.now };
 
-    /// A field that is taken uses at least one bit.
+    /// Each field that is read or written uses at least one bit.
     ghost advances: { (s : Self) (spec : FieldSpec) (t : Taken) (next : Self)
         → takes s spec (Ok t) next
         → used s < used next };
 
-    /// A field that is not taken uses no bit.
+    /// If a field cannot be read or written, the number of bits used does not change.
     ghost refuses: { (s : Self) (spec : FieldSpec) (e : Self.Fault) (next : Self)
         → takes s spec (Err e) next → used next ≡ used s };
 }
 
 impl OperatorState {
-    /// Takes a field that does not define a reference. The width of 2 06 Y ends with it.
+    /// Processes a field that does not redefine a reference value. After the field, operator 2 06 Y
+    /// is no longer in effect.
     #[inline(always)]
     #[tactic(auto, using(crate::proofs::WalkLemmas::no_reference))]
     // rule: 2-06-y-used-up
@@ -136,7 +140,7 @@ impl OperatorState {
         }
     }
 
-    /// Takes text that the template inserts (2 05 Y).
+    /// Processes the characters that operator 2 05 Y inserts.
     #[tactic(auto, using(crate::proofs::SpecLemmas::inserted_width))]
     #[inline(always)]
     // rule: 2-05-y, defining-no-inserted-text
@@ -158,8 +162,9 @@ impl OperatorState {
         self.take(fxy, &spec, fields)
     }
 
-    /// Takes a field. The width of 2 06 Y ends with it, and a redefined reference is stored. Room
-    /// for the reference is made first, so that nothing can fail after the field was taken.
+    /// Processes a field, and stores its value if the field redefines a reference value. After the
+    /// field, operator 2 06 Y is no longer in effect. Memory for the value is reserved first, so
+    /// that nothing can fail after the field has been processed.
     #[inline(never)]
     // rule: last-reference-counts
     pub(crate) fn take<S: Fields>(
@@ -191,8 +196,8 @@ impl OperatorState {
     }
 }
 
-/// An open group: the first cell of its body, the first cell after it, and the number of passes
-/// left after the current one.
+/// An open group, described by the first cell of its body, the first cell after the group, and the
+/// number of passes that remain after the current pass.
 #[derive(Clone, Copy, Default)]
 pub(crate) struct Frame {
     start: u32,
@@ -200,7 +205,8 @@ pub(crate) struct Frame {
     left: u64,
 }
 
-/// Opens a group, or skips it if its count is 0.
+/// Opens a group and returns its first cell. If the count is 0, the group is skipped, and the first
+/// cell after it is returned.
 #[inline(always)]
 // rule: passes-by-count
 fn open_group(count: u64, start: u32, after: u32, stack: &mut ArrayVec<Frame, 32>) -> u32
@@ -221,8 +227,8 @@ fn open_group(count: u64, start: u32, after: u32, stack: &mut ArrayVec<Frame, 32
     start
 }
 
-/// Returns the cell where the next pass over the innermost open group begins, or after the last
-/// pass, the first cell after the group.
+/// Ends a pass over the innermost open group and returns the next cell of the walk. The next cell
+/// is the first cell of the group's body or, after the last pass, the first cell after the group.
 #[inline(always)]
 fn end_pass(groups: &mut ArrayVec<Frame, 32>) -> u32
     requires { 0 < array_vec_len groups.old }
@@ -245,7 +251,7 @@ fn end_pass(groups: &mut ArrayVec<Frame, 32>) -> u32
     frame.start
 }
 
-/// Finds the spec of a cell's field, caches it under the given key, and takes the field.
+/// Computes the spec of a cell's field, caches it under the given key, and processes the field.
 #[inline(always)]
 fn find_and_take<S: Fields>(
     field: TableField,
@@ -268,8 +274,9 @@ fn find_and_take<S: Fields>(
     in_force.take(field.fxy(), &spec, fields)
 }
 
-/// Takes the field of a cell if a reference is being defined or has been redefined. If there is no
-/// room for the spec of the cell, looks up the redefined reference only once.
+/// Processes the field of a cell while a reference value is being redefined, or after one has been
+/// redefined. If the cache has no space for the cell's spec, no key is computed, so that the
+/// redefined reference value is looked up only once.
 #[tactic(auto, using(crate::proofs::CacheLemmas::spec_got_by))]
 #[inline(never)]
 fn take_redefined<S: Fields>(
@@ -296,8 +303,8 @@ fn take_redefined<S: Fields>(
     }
 }
 
-/// Takes the field of a cell. Usually no reference is being defined or has been redefined. Then the
-/// operators and the descriptor are the key of its spec.
+/// Processes the field of a cell. Usually, the data do not redefine reference values, and the key
+/// of the field's spec consists of the operators and the descriptor.
 #[tactic(auto, using(crate::proofs::CacheLemmas::spec_got, crate::proofs::CacheLemmas::spec_got_plain, crate::proofs::CacheLemmas::plain_key))]
 #[inline(always)]
 fn take_field<S: Fields>(
@@ -327,13 +334,14 @@ fn take_field<S: Fields>(
     take_redefined(field, place, cache, fields, in_force)
 }
 
-/// Walks over the cells of a template once, field by field: for one subset or, if the data are
-/// compressed, for all subsets.
+/// Walks over the cells of a template once and processes each field. A walk processes one subset of
+/// plain data, or all subsets of compressed data.
 ///
-/// `steps` grows by one for each descriptor (an element, an operator, a replication or its factor),
-/// for each end of a pass over a group, and for the end of the template. If the template has `p`
-/// places and the fields use `n` bits, there are at most `p * n` steps, or `p * (n + 1)` if the
-/// walk stops. (WMO-No. 306, Volume I.2, FM 94: section 3, Tables B and C)
+/// The walk adds one step to `steps` for each descriptor (an element, an operator, a replication,
+/// or a replication factor), for the end of each pass over a group, and for the end of the
+/// template. If the template has `p` places and the fields use `n` bits, there are at most `p * n`
+/// steps, or `p * (n + 1)` if the walk stops early. (WMO-No. 306, Volume I.2, FM 94: section 3,
+/// Tables B and C)
 ///
 /// ```
 /// let mut steps = Steps::new();
@@ -343,13 +351,14 @@ fn take_field<S: Fields>(
 ///
 /// # Errors
 ///
-/// The walk stops at the first of these:
+/// The walk stops at the first of the following faults:
 ///
-/// - [`WalkStop::Defining`] if a step is not allowed while references are being defined.
-/// - [`WalkStop::Width`] if a field that is not text is less than 1 or more than 63 bits wide, or
+/// - [`WalkStop::Defining`] if a descriptor is not allowed while reference values are being
+///   redefined.
+/// - [`WalkStop::Width`] if the width of a non-text field is outside the range of 1 to 63 bits, or
 ///   if the table does not contain the element.
-/// - [`WalkStop::Field`] with the fault of [`Fields::take`].
-/// - [`WalkStop::Memory`] if memory runs out before a reference is taken.
+/// - [`WalkStop::Field`] if [`Fields::take`] returns a fault. The variant contains that fault.
+/// - [`WalkStop::Memory`] if memory runs out before a redefined reference value is processed.
 pub fn walk<S: Fields>(
     alloc: Global,
     template: &Template,
@@ -368,13 +377,13 @@ pub fn walk<S: Fields>(
     walk_by(template, &mut cache, fields, steps)
 }
 
-/// Walks over the cells of a template once, as [`walk`] does, but with a cache of specs. A spec
-/// that is not in the cache is found and, if the cache has room for its cell, cached. The cache
-/// does not grow.
+/// Walks over the cells of a template once, as [`walk`] does, but uses a cache of specs. If a spec
+/// is not cached, it is computed and, if the cache has space for the cell, added to the cache. The
+/// cache does not grow.
 ///
 /// # Errors
 ///
-/// The same as those of [`walk`].
+/// Returns the same errors as [`walk`].
 // rule: defining-fixed-groups, fault-62-first
 pub fn walk_by<S: Fields>(
     template: &Template,
@@ -394,8 +403,9 @@ pub fn walk_by<S: Fields>(
     walk_with(template, cache, &mut open_groups, fields, steps)
 }
 
-/// Walks over the cells of a template once, as [`walk_by`] does, but with a stack that the caller
-/// created. The walk clears the stack first. This costs less than creating one for each subset.
+/// Walks over the cells of a template once, as [`walk_by`] does, but uses a stack that the caller
+/// provides. The walk clears the stack first. Reusing a stack costs less than creating one for each
+/// subset.
 pub(crate) fn walk_with<S: Fields>(
     template: &Template,
     cache: &mut SpecCache<'_>,

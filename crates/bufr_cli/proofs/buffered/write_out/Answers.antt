@@ -8,7 +8,7 @@ use Rattle.bufr_cli.proofs.buffered.write_out.Goals as goal
 use Rattle.std.proofs.lemmas.Grind.{common_steps}
 use Rattle.std.proofs.Math.Nat.{le_trans}
 
--- A write that left octets over was not a whole write.
+-- A write that did not take all octets was not a complete write.
 part-whole : (a b c : ℕ) (rest : List ℕ) (n : ℕ) → b ≤ a → c ≤ whole_writes_after {E = Failed} b rest (Ok n) → n < length rest → c ≤ a
 part-whole a b c rest n few is part = omega (arith, few, subst (λ x. c ≤ x) (whole_writes_after-part {E = Failed} b rest (Ok n) n refl part) is)
 

@@ -6,7 +6,7 @@ use Rattle.bufr_cli.specs.declared.outcome.Outcome.{Outcome}
 use Rattle.bufr_cli.proofs.RunLemmas.{opens-then}
 use Rattle.bufr_cli.proofs.program.run_job.Goals as goal
 
--- the outcome of the subcommand that a job has
+-- the outcome of the subcommand of a job
 job-runs : {Standard File : Type 0} (inputs : Known Standard File) (opens : List InputName → Type 0) (job : Job) (command : Subcommand) (before after : Writers) (outcome : Outcome)
     → job.command ≡ command → CommandOutcome inputs opens command job.file before after outcome
     → CommandOutcome inputs opens job.command job.file before after outcome

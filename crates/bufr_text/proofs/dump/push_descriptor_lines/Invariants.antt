@@ -4,7 +4,7 @@ use Rattle.bufr_text.specs.Prelude.{descriptors_line, text_of_lines, runs_of}
 use Rattle.bufr_text.proofs.PushLemmas.{PushedSoFar}
 use Rattle.bufr_text.proofs.dump.push_descriptor_lines.Given as goal
 
--- the lines of the descriptors before those that are left were pushed
+-- All lines were pushed, except those of the remaining descriptors.
 abbrev pub invariant-loop-words : goal.invariant-loop-words
 invariant-loop-words g l =
     PushedSoFar l.fn.lines l.lines (text_of_lines (map descriptors_line (runs_of 8 l.message.descriptors)))

@@ -2,7 +2,7 @@ use Rattle.std.proofs.Common.{◌≡◌, ◌≤◌, ◌-◌, ◌++◌, drop, len
 use Rattle.bufr_text.specs.Prelude.{quoted}
 use Rattle.bufr_text.proofs.line_writer.fill_run.Given as goal
 
--- the octets so far were copied, and need no escape
+-- The octets before index `len` were copied. None of them needs an escape.
 abbrev pub invariant-loop-len : goal.invariant-loop-len
 invariant-loop-len l = record {
   within : l.len ≤ length l.octets;

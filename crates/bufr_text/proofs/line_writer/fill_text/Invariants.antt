@@ -2,7 +2,7 @@ use Rattle.std.proofs.Common.{◌≡◌, ◌≤◌, ◌-◌, ◌++◌, drop, len
 use Rattle.bufr_text.specs.Prelude.{quoted}
 use Rattle.bufr_text.proofs.line_writer.fill_text.Given as goal
 
--- the octets so far were put
+-- The text of the octets before index `taken` was copied.
 abbrev pub invariant-loop-taken : goal.invariant-loop-taken
 invariant-loop-taken l = record {
   within : l.taken ≤ length l.octets;

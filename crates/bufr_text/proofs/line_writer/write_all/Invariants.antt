@@ -3,8 +3,8 @@ use Rattle.bufr_bits.specs.Prelude.{counted}
 use Rattle.bufr_text.specs.Prelude.{MovesPrefix}
 use Rattle.bufr_text.proofs.line_writer.write_all.Given as goal
 
--- a prefix was written, the rest is left, and no call failed; while octets are left, no write took
--- all of its octets
+-- A prefix of the octets was written, and no call failed. As long as octets remain, no write
+-- accepted all the octets that it was passed.
 abbrev pub invariant-loop-rest : goal.invariant-loop-rest
 invariant-loop-rest g l = record {
   so_far : MovesPrefix (g.W.Sink.taken l.fn.w) (g.W.Sink.taken l.w) l.octets l.rest;

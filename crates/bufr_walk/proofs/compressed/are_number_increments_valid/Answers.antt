@@ -12,7 +12,7 @@ never : (b m : Bool) → m ≡ false → (b && m) ≡ false
 never true m e = e
 never false m e = refl
 
--- the bits of an increment
+-- All bits of an increment are present.
 long_here : (octets : List ℕ) (at w n k j place : ℕ) → at + (w + 6) + n * k ≤ 8 * length octets → j < n → place ≡ at + (w + 6) + j * k → length (take k (drop place (bits_of octets))) ≡ k
 long_here octets at w n k j place within below is =
     let more : (j + 1) * k ≡ j * k + k = omega arith in

@@ -9,7 +9,7 @@ use Rattle.bufr_walk.proofs.PackedNumbers.{base_missing, base_number, kept_last,
 use Rattle.bufr_walk.proofs.compressed.number_of.Goals as goal
 use Rattle.bufr_walk.proofs.compressed.number_of.Goals.{then-increment-k-via-then-increment-k, then-increment-k-via-else-increment-k+then-sum-width, else-may_be_missing-via-then-may_be_missing+else-item-width, else-may_be_missing-via-else-may_be_missing}
 
--- the increment is within the bits, at the place that is reached in 64 bits
+-- The increment is inside the data, at the bit that the code computes with 64-bit numbers.
 reach : (octets : List ℕ) (n : ℕ) (e : IndexedItem) (at j wide subset step k : ℕ) → fits_at (bits_of octets) n e ≡ true → 1 ≤ e.step → j < n → is_character e.spec.kind ≡ false → at ≡ start_of e
     → wide ≡ e.spec.width
     → subset ≡ j → step ≡ k → k ≡ e.step

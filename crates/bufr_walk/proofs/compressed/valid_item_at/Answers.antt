@@ -17,7 +17,7 @@ use Rattle.bufr_walk.proofs.compressed.valid_item_at.Goals.{in-Character, in-Cod
 nonzero : (k : ℕ) → k ≢ 0 → (k == 0) ≡ false
 nonzero k h = ne_eqb k 0 h
 
--- without increments the first content has the base
+-- Without increments, the answer comes from the base.
 first_base : (a : FieldSpec) (n : ℕ) (base : List Bool) → 1 ≤ n → answer_of a (content_in a base) ≡ answer_first a (replicate n (content_in a base))
 first_base a zero base some = absurd (omega (arith, some))
 first_base a (suc n) base some = refl

@@ -15,7 +15,7 @@ returns-then-item-eq0 c =
     ∙ ap (shown c.args.item.now.spec) (sym (base_content (bits_of (octets_of c.args.pack.now.bits)) c.args.pack.now.subsets c.args.item.now c.args.subset c.requires.fits
     c.if-item-eq0.true c.requires.subset))
 
--- the text is within the bits, at the place that is reached in 64 bits
+-- The text is inside the data, at the bit that the code computes with 64-bit numbers.
 reach : (octets : List ℕ) (n : ℕ) (e : IndexedItem) (at j wide subset eight k : ℕ) → fits_at (bits_of octets) n e ≡ true → 1 ≤ e.step → j < n → is_character e.spec.kind ≡ true → at ≡ start_of e
     → wide ≡ e.spec.width
     → subset ≡ j → eight ≡ 8 * k → k ≡ e.step

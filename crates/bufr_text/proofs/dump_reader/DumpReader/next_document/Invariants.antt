@@ -3,8 +3,8 @@ use Rattle.bufr_frame.specs.Prelude.{max_reads, AddsReads, AsksAtMost}
 use Rattle.bufr_text.specs.Prelude.{ReadsLines, ReadsOnlyIfNoLine}
 use Rattle.bufr_text.proofs.dump_reader.DumpReader.next_document.Given as goal
 
--- what was done so far in this call: octets were read and report nothing yet, each time that no
--- line was held
+-- What this call has done so far. It read octets, but only when no whole line was buffered, and
+-- nothing was reported yet.
 abbrev pub invariant-loop-next : goal.invariant-loop-next
 invariant-loop-next g l = record {
   octets : List ℕ;

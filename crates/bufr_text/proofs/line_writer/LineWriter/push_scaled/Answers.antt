@@ -8,7 +8,7 @@ use Rattle.bufr_text.proofs.line_writer.LineWriter.push_scaled.Given.{Over}
 use Rattle.bufr_text.proofs.line_writer.LineWriter.push_scaled.Goals.{After-push, else-size-eq0, then-size-eq0, then-value-lt0, else-value-lt0}
 use Rattle.bufr_text.proofs.line_writer.LineWriter.push_scaled.Goals as goal
 
--- the sign was pushed, and then the other part
+-- The sign was pushed, and then the unsigned number.
 signed : (g : Over) (c : After-push g) {d : LineModel} → Pushes c.push.new.self (unsigned_text c.unsigned_abs-size.result c.args.scale) d
     → Pushes c.args.self.now (decimal_text_of c.args.value c.args.scale) d
 signed g c rest =

@@ -5,7 +5,7 @@ use Rattle.bufr_walk.specs.declared.lists.Slot.{Slot}
 use Rattle.bufr_walk.proofs.CacheLemmas.{none_kept, set_contains, set_stays, remove_stays, kept_beside, slot_contains, last_kept, lists_more, others_more, few_more}
 use Rattle.bufr_walk.proofs.lists.TemplateCache.select.Goals as goal
 
--- a list that a slot has is kept
+-- If a slot has this list, the list is cached.
 found : (now : Lists) (slots seen : List Slot) (i : ℕ) (list : List ℕ) → seen ≡ slots → lists_of slots ≡ now.others → i < length seen → ((s : Slot) → s ≡ get_or seen i s → list_of s ≡ list)
     → IsKept now list
 found now slots seen i list same others h is = inr (subst (λ xs. Contains xs list) (ap lists_of same ∙ others) (slot_contains seen i list h is))
@@ -44,7 +44,7 @@ returns-else-may_stay-clause-others c fresh goes =
     absurd (fresh (found c.args.self.now c.self.inside.others.items c.deref.result.now c.in-Some.index c.args.descriptors.now c.deref.ensures.value (ap (λ (v : Lists). v.others) c.self.view_is)
     c.in-Some.ensures.inside c.in-Some.ensures.there))
 
--- a list that is neither the last one nor that of a slot is not kept
+-- If neither the last slot nor any other slot has this list, the list is not cached.
 lost : (now : Lists) (slots seen : List Slot) (last : Slot) (list : List ℕ) → seen ≡ slots → lists_of slots ≡ now.others → list_of last ≡ now.list → list_of last ≢ list
     → All (λ (s : Slot). list_of s ≢ list) seen → IsKept now list → ⊥
 lost now slots seen last list same others is differ none kept =

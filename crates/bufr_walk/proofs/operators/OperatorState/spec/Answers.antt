@@ -26,7 +26,7 @@ listed table s fxy row r found local defining is =
     ∙ ap (λ o. listed_by o s fxy) (sym found)
     ∙ ap (λ b. if b then new_reference_spec row.kind s fxy else spec_by_kind row.kind s row) (none s.new_reference_width defining))
 
--- a given width is that of Table B
+-- the spec of an element if 2 06 Y gives the width of its row
 given : (table : List Row) (s : OperatorModel) (fxy : ℕ) (row : Row) (r : Result FieldSpec TurnRefusal) → Some row ≡ entry_of table fxy → 0 < s.local_width → row.width ≡ s.local_width
     → r ≡ spec_by_kind row.kind begin row → r ≡ element_spec table s fxy
 given table s fxy row r found local width is =
@@ -35,7 +35,7 @@ given table s fxy row r found local width is =
     ∙ ap (λ o. local_width_spec o s fxy) (sym found)
     ∙ ap (λ b. if b then spec_by_kind row.kind begin row else if_valid_width (unsigned_field fxy s.local_width)) (same row.width s.local_width width))
 
--- a factor by its row
+-- the spec of a factor, from its row
 counted : (table : List Row) (s : OperatorModel) (fxy : ℕ) (row : Row) (r : Result FieldSpec TurnRefusal) → Some row ≡ entry_of table fxy → s.new_reference_width ≤ 0
     → r ≡ factor_by (Some row) fxy → r ≡ factor_spec table s fxy
 counted table s fxy row r found defining is =
@@ -43,7 +43,7 @@ counted table s fxy row r found defining is =
     ∙ sym (ap (λ b. if b then (let e : Result FieldSpec TurnRefusal = Err (refusal.Defining fxy) in e) else factor_by (entry_of table fxy) fxy) (none s.new_reference_width defining)
     ∙ ap (λ o. factor_by o fxy) (sym found))
 
--- its number, part by part
+-- the same spec, from its parts
 counted_number : (row : Row) (fxy w : ℕ) (scale reference : ℤ) → w ≡ row.width → scale ≡ row.scale → reference ≡ row.reference
     → if_valid_width (number_field fxy role.Factor (record { kind = kind.Numeric; width = w; scale = scale; reference = reference; may_be_missing = false; listed = true })) ≡ factor_by (Some row) fxy
 counted_number row fxy w scale reference width scaled is = rw (width, scaled, is) refl
