@@ -1,7 +1,7 @@
 #!/usr/bin/env bash
 # Tests the C library after install.sh has installed it from a clone: pkg-config finds it in PREFIX and in DESTDIR, a C
 # program runs with it, and --uninstall removes it. Building the real library takes minutes, so this test uses one with a
-# single function. release.sh and proved_installation.sh test that a release contains the library.
+# single function. release.sh and install_proved_program.sh test that a release contains the library.
 . "$(dirname "$0")/lib.sh"
 for needed in rt pkg-config "${CC:-cc}"; do
     command -v "$needed" > "$work/told" || { echo "$0: skipped, because $needed is not on PATH" && exit; }

@@ -16,7 +16,7 @@ const NONE: Texts = Texts {
 };
 
 #[test]
-fn reports_two_strays(rt: HostRuntime) {
+fn reports_two_stray_bufr_words(rt: HostRuntime) {
     let (mut lines, mut faults) = ([0; 8], [0; 33]);
     let mut texts = NONE;
     let octets = b"BUFR BUFR";
@@ -43,7 +43,7 @@ fn stops_if_a_line_does_not_fit(rt: HostRuntime) {
     assert_eq!(rt; &faults[..16], b"offset 5: 1 cut\n".as_slice());
 }
 
-/// A message whose only item is the WMO block number 10.
+/// A message whose only item is WMO block number 10.
 const BLOCK: [u8; 48] = [
     0x42, 0x55, 0x46, 0x52, 0x00, 0x00, 0x30, 0x04, 0x00, 0x00, 0x16, 0x00, 0x00, 0x62, 0x00, 0x00,
     0x00, 0x00, 0x00, 0x00, 0x00, 0x0E, 0x00, 0x07, 0xE8, 0x01, 0x02, 0x03, 0x04, 0x05, 0x00, 0x00,
@@ -96,7 +96,7 @@ fn dumps_a_message_and_encodes_the_dump(rt: HostRuntime) {
 }
 
 #[test]
-fn reports_how_much_space_is_needed(rt: HostRuntime) {
+fn reports_required_space(rt: HostRuntime) {
     let input = CallInput {
         octets: b"subset 1\n",
         ..BLOCK_INPUT
@@ -179,7 +179,7 @@ fn reads_an_item(rt: HostRuntime) {
 }
 
 #[test]
-fn reports_stray_and_stops_if_item_does_not_fit(rt: HostRuntime) {
+fn reports_stray_bufr_word_and_stops_if_item_does_not_fit(rt: HostRuntime) {
     let mut octets = [0; 52];
     octets[..4].copy_from_slice(b"BUFR");
     octets[4..].copy_from_slice(&BLOCK);
@@ -243,7 +243,7 @@ fn lists_a_message_after_other_octets(rt: HostRuntime) {
 }
 
 #[test]
-fn returns_the_fault_of_a_table(rt: HostRuntime) {
+fn returns_fault_number_for_invalid_table(rt: HostRuntime) {
     let (mut text, mut faults) = ([0; 8], [0; 8]);
     let mut texts = NONE;
     let input = CallInput {

@@ -1,4 +1,4 @@
-//! Tests of bits, devices and decimal text.
+//! Tests of reading and writing bits, of devices, and of decimal numbers in text.
 ghost use Rattle.std.specs.Prelude.{◌≤◌, length};
 
 use crate::support::{Runtime, assert_same, joined, ok, repeated};
@@ -63,7 +63,8 @@ const NUMBERS_AT_THE_ENDS: &[(u64, u32, Option<u64>)] = &[
 
 const OCTETS_AT_THE_ENDS: &[(u64, Option<u8>)] = &[(3, Some(0x09)), (64, Some(0x01)), (65, None)];
 
-/// Each row contains a bit offset, a number of octets, and the octets that can be borrowed there.
+/// Each row contains a bit offset, an octet count, and the octets that `octets` should return for
+/// that offset and count.
 #[rattlefmt::skip]
 const BORROWED_OCTETS: &[(u64, usize, Option<&[u8]>)] = &[
     (56, 2, Some(b"\xEF\x01")), (72, 0, Some(b"")), (57, 1, None), (64, 2, None), (80, 0, None),
@@ -84,17 +85,18 @@ fn returns_none_past_the_last_bit(rt: HostRuntime) {
     }
 }
 
-/// Fields in fifteen ones and a zero. Each row contains the bit offset, the width, and whether all
-/// bits are ones.
+/// Fields in a sequence of 15 one bits followed by a zero bit. Each row contains the bit offset of
+/// a field, its width, and whether all its bits are ones, or `None` if the field extends past the
+/// last bit.
 #[rattlefmt::skip]
 const ONES_AND_A_ZERO: &[(u64, u32, Option<bool>)] = &[
     (0, 15, Some(true)), (0, 16, Some(false)), (1, 16, None), (16, 0, Some(true)),
     (u64::MAX, u32::MAX, None),
 ];
 
-/// A zero among ones is found in a field of any width.
+/// `all_ones` detects a single zero bit in a field of any width.
 #[test]
-fn finds_a_single_zero_among_ones(rt: HostRuntime) {
+fn detects_single_zero_bit_among_ones(rt: HostRuntime) {
     for (at, width, want) in ONES_AND_A_ZERO {
         assert_ones(&rt, &[0xFF, 0xFE], *at, *width, *want);
     }
@@ -123,9 +125,9 @@ fn push_octets(rt: &impl Runtime, writer: &mut BitWriter, octets: &[u8])
     ok(rt, writer.push_octets(octets));
 }
 
-/// `put` and `put_octets` write bits into room that was reserved.
+/// `put` and `put_octets` write bits into space that `reserve` has reserved.
 #[test]
-fn puts_bits_into_reserved_space(rt: HostRuntime) {
+fn writes_bits_into_reserved_space(rt: HostRuntime) {
     let mut writer = BitWriter::new(rt.alloc());
     if writer.reserve(91).is_ok() {
         writer.put(0x5_2FFD, 20);
@@ -138,11 +140,11 @@ fn puts_bits_into_reserved_space(rt: HostRuntime) {
     assert_number(&rt, &octets, 91, 5, Some(0));
 }
 
-/// Values whose lowest bits are pushed at each width.
+/// Values to push at each width. Bits that do not fit in the width are dropped.
 const PUSHED: &[u64] = &[0, 1, u64::MAX, 0x5A5A_5A5A_5A5A_5A5A];
 
-/// Returns a writer to which these values were pushed at each width, followed each time by the nine
-/// octets.
+/// Returns a writer to which the values in `PUSHED` have been pushed at each width from 0 to 63.
+/// The octets in `NINE` follow the values of each width.
 fn pushed_at_each_width(rt: &impl Runtime) -> BitWriter {
     let mut writer = BitWriter::new(rt.alloc());
     for width in 0..64u32 {
@@ -171,7 +173,7 @@ fn assert_width(rt: &impl Runtime, octets: &[u8], at: u64, width: u32) -> u64
 }
 
 #[test]
-fn pushes_bits_of_every_width(rt: HostRuntime) {
+fn pushes_values_of_every_bit_width(rt: HostRuntime) {
     let writer = pushed_at_each_width(&rt);
     let length = writer.len_bits();
     let octets = writer.into_octets();
@@ -184,7 +186,7 @@ fn pushes_bits_of_every_width(rt: HostRuntime) {
     assert_same(&rt, &at, &length, &"length");
 }
 
-/// A reader and writer whose calls are all interrupted.
+/// A reader and writer whose every call is interrupted.
 #[derive(Drop)]
 struct Broken;
 
@@ -238,14 +240,15 @@ fn scripted_reader_fails_at_the_given_offset(rt: HostRuntime) {
     assert_same(&rt, &buf, b"dec\0", &"octets");
 }
 
-/// Writes before the end of a scripted writer, and their results.
+/// The octets of successive writes to a scripted writer, each with the expected result.
 const WRITES: &[(&[u8], Result<usize, Failed>)] = &[
     (b"", Ok(0)),
     (b"abcd", Ok(3)),
     (b"def", Ok(2)),
 ];
 
-/// Each row contains the end of a scripted writer, and the results of a write and a flush there.
+/// Each row specifies how a scripted writer behaves when it is full, and contains the expected
+/// results of a write and a flush.
 #[rattlefmt::skip]
 const ENDS: &[(End, Result<usize, Failed>, Result<(), Failed>)] = &[
     (End::Zero, Ok(0), Ok(())),
@@ -253,7 +256,7 @@ const ENDS: &[(End, Result<usize, Failed>, Result<(), Failed>)] = &[
     (End::Flush, Err(Failed), Err(Failed)),
 ];
 
-/// A writer with room for five octets takes at most three in each write.
+/// A writer with space for five octets accepts at most three octets in each write.
 #[test]
 fn scripted_writer_stops_when_full(rt: HostRuntime) {
     for (end, last, flushed) in ENDS {
@@ -265,7 +268,7 @@ fn scripted_writer_stops_when_full(rt: HostRuntime) {
     }
 }
 
-/// A device fails if its reader or writer fails.
+/// A device reports a failure if its reader or writer fails.
 #[test]
 fn device_fails_if_its_reader_or_writer_fails(rt: HostRuntime) {
     let mut source = Device::new(b"abc".as_slice());
@@ -305,7 +308,7 @@ const TEXTS: &[(i128, i16, &[u8])] = &[
     (i128::MAX, 38, b"1.70141183460469231731687303715884105727"),
 ];
 
-/// The least and the greatest `i128`, each with its sign and its 39 digits.
+/// The least and the greatest `i128`. Each row contains a number, its sign, and its 39 digits.
 #[rattlefmt::skip]
 const ENDS_OF_NUMBERS: &[(i128, &[u8], &[u8])] = &[
     (i128::MIN, b"-", b"170141183460469231731687303715884105728"),
@@ -330,7 +333,7 @@ fn writes_decimals_and_reads_them_back(rt: HostRuntime) {
     }
 }
 
-/// Texts and scales, grouped by the fault for which they are rejected.
+/// Pairs of strings and scales that are rejected, grouped by fault.
 #[rattlefmt::skip]
 const REFUSED: &[(NumberFault, &[(&[u8], i16)])] = &[
     (NumberFault::Syntax, &[
@@ -350,7 +353,8 @@ const REFUSED: &[(NumberFault, &[(&[u8], i16)])] = &[
     ]),
 ];
 
-/// Texts, scales, and the numbers that are read. Many are near the limits of 64 bits.
+/// Pairs of strings and scales, each with the number that should be read. Many of the numbers are
+/// near the limits of 64 bits.
 #[rattlefmt::skip]
 const READ: &[(&[u8], i16, i128)] = &[
     (b"28800", -2, 288), (b"-0", 0, 0), (b"-0.00", 2, 0), (b"007.50", 1, 75), (b"-000.10", 1, -1),
@@ -388,8 +392,8 @@ fn accepts_valid_decimals_and_rejects_invalid_ones(rt: HostRuntime) {
     }
 }
 
-/// Texts, and the length in octets of the short decimal at the start of each, or 0 if there is
-/// none.
+/// Strings, each with the length, in octets, of the short decimal at its start. The length is 0 if
+/// the string does not start with a short decimal.
 #[rattlefmt::skip]
 const PREFIXES: &[(&[u8], usize)] = &[
     (b"0", 1), (b"10  # K", 2), (b"-0.50 ", 5), (b"0.05x", 4), (b"1-2", 1), (b"1.5.", 3),
@@ -399,8 +403,8 @@ const PREFIXES: &[(&[u8], usize)] = &[
     (b".5", 0), (b"1.", 0), (b"1. ", 0),
 ];
 
-/// Asserts the length of the short decimal at the start of a text, and that its value is the same
-/// as that of its text.
+/// Asserts that the short decimal at the start of `text` is `want` octets long, and that
+/// `decimal_read` reads the same number from those octets.
 fn assert_prefix(rt: &impl Runtime, text: &[u8], want: usize) {
     let Some((number, len)) = ShortDecimal::prefix(text) else {
         return assert_same(rt, &want, &0, &text);

@@ -1,4 +1,4 @@
-//! Tests of what is cached between messages: the last templates, and the specs of their cells.
+//! Tests of what is cached between messages: templates, and the field specs of their cells.
 
 use crate::encode_tests::{document_of, encoded};
 use crate::messages::{PLAIN, message_of, text_of};
@@ -8,11 +8,11 @@ use crate::support::{Runtime, assert_same, ok, repeated};
 use bufr_text::{Form, encode_by};
 use bufr_walk::{SpecCache, Steps, TemplateCache};
 
-/// The number of descriptor lists, which is greater than the number that can be cached.
+/// The number of descriptor lists that are encoded, which is more than the cache can store.
 const LISTS: u16 = 140;
 
-/// Returns the descriptor list at an index. The fourth list has a fault, and the template of the
-/// ninth list has too many cells to be cached.
+/// Returns the descriptor list with the given index. List 3 is invalid, and the template of list 8
+/// has too many cells to be cached.
 fn list_of(rt: &impl Runtime, index: u16) -> String {
     let width = (index % 40).saturating_add(128);
     let blocks = (index / 40).saturating_add(2);
@@ -24,13 +24,13 @@ fn list_of(rt: &impl Runtime, index: u16) -> String {
     ok(rt, list)
 }
 
-/// Returns a message with this descriptor list.
+/// Returns a message with the given descriptor list.
 fn message_with(rt: &impl Runtime, list: &str) -> Vec<u8> {
     message_of(rt, 1, PLAIN, list, &repeated(rt, b"\x15", 12))
 }
 
-/// Returns the dump of a message with this descriptor list. For the list that has a fault, returns
-/// another text with this list.
+/// Returns the dump of a message with the given descriptor list. If the list is invalid, returns a
+/// document that contains the list instead.
 fn text_for(rt: &impl Runtime, list: &str) -> Vec<u8> {
     let text = run_whole(rt, Dump, &message_with(rt, list));
     if text.output().is_empty() {
@@ -56,7 +56,7 @@ fn assert_same_with_cache(rt: &impl Runtime, templates: &mut TemplateCache<'_>, 
 }
 
 #[test]
-fn encodes_more_descriptor_lists_than_are_cached(rt: HostRuntime) {
+fn encodes_more_descriptor_lists_than_fit_in_cache(rt: HostRuntime) {
     let task = Task::new(&rt, Encode);
     let mut templates = TemplateCache::new(rt.alloc(), &task.b, &task.d);
     for index in 0..LISTS.saturating_mul(2) {

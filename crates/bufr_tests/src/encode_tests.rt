@@ -1,4 +1,5 @@
-//! Tests of encoding documents: the messages, the faults, and the steps of the walk.
+//! Tests of encoding documents. The tests check the messages, the faults, and the number of steps
+//! in the walk.
 
 use crate::messages::{HEAD, PACKED, PLAIN, dump_of, message_of_hex, text_of};
 use crate::runs::Command::{Dump, Encode, EncodeIn};
@@ -11,20 +12,20 @@ use bufr_tables::{Fxy, TemplateFault};
 use bufr_text::{Document, DocumentFault, DumpReader, Form, encode_document, encode_form, laws};
 use bufr_walk::Steps;
 
-/// The result of encoding a document.
+/// The expected result of encoding a document.
 #[derive(Clone, Copy)]
 pub(crate) enum Want {
-    /// A message with these data, in hexadecimal digits.
+    /// A message whose data are given as hexadecimal digits.
     Data(&'static str),
-    /// No message, but this fault line.
+    /// The fault line with which the document is rejected.
     Fault(&'static str),
 }
 
 use Want::{Data, Fault};
 
-/// A document: its name, the number of subsets, flags, descriptors, items, the expected result, and
-/// the steps of the walk. `|` separates subsets, and `;` separates their items. The first item is
-/// on line 24.
+/// A document to encode: its name, its number of subsets, its flags, descriptors and items, the
+/// expected result, and the expected number of steps in the walk. A `|` separates subsets, and a
+/// `;` separates the items of a subset. The first item is on line 24.
 pub(crate) struct Row(
     &'static str,
     u16,
@@ -35,7 +36,7 @@ pub(crate) struct Row(
     u64,
 );
 
-/// A delayed replication of one element.
+/// The descriptors of a delayed replication of one element.
 const DELAYED: &str = "101000 031001 001001";
 
 /// Descriptors that redefine the reference value of an element.
@@ -65,11 +66,11 @@ static ROWS: &[Row] = &[
         Fault("25: 62 walk 31 descriptor 001001"), 3),
 ];
 
-/// Two subsets, the first with one value and the second with two.
+/// The items of two subsets. The first subset contains one block number, and the second subset
+/// contains two block numbers.
 const UNEQUAL: &str = "031001 1;001001 10|031001 2;001001 10;001001 11";
 
-/// Each row contains a form, the flags of the message in this form, and a document that has other
-/// flags.
+/// Each row contains a form, the expected flags of a message in that form, and a document.
 #[rattlefmt::skip]
 static FORMS: &[(Form, u8, Row)] = &[
     (Form::Compressed, PACKED, Row("delayed_twice", 1, PLAIN, DELAYED,
@@ -87,12 +88,13 @@ impl Row {
         self.0
     }
 
-    /// Returns the text of the document.
+    /// Returns the document as text.
     pub(crate) fn text(&self, rt: &impl Runtime) -> String {
         text_of(rt, self.1, self.2, self.3, self.4)
     }
 
-    /// Returns the message with these flags, which is empty if the document is rejected.
+    /// Returns the expected message with the given flags, or no octets if the document should be
+    /// rejected.
     fn message(&self, rt: &impl Runtime, flags: u8) -> Vec<u8> {
         match self.5 {
             Data(digits) => message_of_hex(rt, self.1, flags, self.3, digits),
@@ -100,7 +102,7 @@ impl Row {
         }
     }
 
-    /// Returns the fault line, which is empty if the document is accepted.
+    /// Returns the expected fault line, or an empty string if the document should be accepted.
     pub(crate) fn fault(&self, rt: &impl Runtime) -> String {
         match self.5 {
             Data(_) => String::new(rt.alloc()),
@@ -109,14 +111,14 @@ impl Row {
     }
 }
 
-/// Returns the first document of a text.
+/// Reads the first document from `text`.
 pub(crate) fn document_of(rt: &impl Runtime, text: &[u8]) -> Document {
     let mut reader = DumpReader::new(rt.alloc());
     let mut input = ScriptIn::new(text, 4096, None);
     some(rt, ok(rt, reader.next_document(&mut input)))
 }
 
-/// Encodes a document with the command of a task.
+/// Encodes a document with the command and the tables of a task.
 fn encode_by(
     task: &Task,
     document: &Document,
@@ -128,8 +130,8 @@ fn encode_by(
     }
 }
 
-/// Encodes a document, and returns the result and the number of steps. The steps of an earlier call
-/// do not count.
+/// Encodes a document twice, and returns the result and the number of steps of the second call. The
+/// steps of the first call must not be counted again.
 pub(crate) fn encoded(
     rt: &impl Runtime,
     command: Command,
@@ -142,7 +144,7 @@ pub(crate) fn encoded(
     (outcome, steps.count())
 }
 
-/// Encodes a document once.
+/// Encodes a document, using the tables for the test messages.
 fn encode_once(
     rt: &impl Runtime,
     command: Command,
@@ -151,12 +153,13 @@ fn encode_once(
     encode_by(&Task::new(rt, command), document, &mut Steps::new())
 }
 
-/// Returns the octets of the message for a document.
+/// Encodes a document that must be valid, and returns the octets of the message.
 fn octets_of(rt: &impl Runtime, command: Command, document: &Document) -> Vec<u8> {
     ok(rt, encode_once(rt, command, document))
 }
 
-/// Returns the octets of the message for the first document of a text.
+/// Encodes the first document in `text`, which must be valid, and returns the octets of the
+/// message.
 pub(crate) fn octets_for(rt: &impl Runtime, text: &[u8]) -> Vec<u8> {
     octets_of(rt, Encode, &document_of(rt, text))
 }
@@ -192,8 +195,8 @@ fn assert_encoded(rt: &impl Runtime, command: Command, flags: u8, row: &Row) {
     assert_run(rt, run)
 }
 
-/// Checks the message or fault and the number of steps for each document. `tests/vectors` contains
-/// more documents.
+/// Checks the result and the number of steps for each document in `ROWS`. More documents are in
+/// `tests/vectors`.
 #[test]
 // rule: fault-lines-of-encoding
 fn encodes_documents_or_reports_faults(rt: HostRuntime) {
@@ -215,7 +218,7 @@ fn encodes_in_the_requested_form(rt: HostRuntime) {
 }
 
 #[test]
-fn laws_can_be_called() {
+fn law_functions_accept_valid_arguments() {
     laws::dumped_messages_are_encoded_again();
     laws::encoded_messages_are_accepted();
     laws::dumped_messages_are_encoded_in_each_form();
@@ -223,12 +226,12 @@ fn laws_can_be_called() {
     laws::encoded_documents_are_read();
 }
 
-/// The lines of a document from `observed` to its descriptors. It has the greatest possible number
-/// of subsets, with two strings each.
+/// The lines of a document from `observed` to its descriptor list. The document has 65,535 subsets,
+/// which is the maximum, and each subset contains two strings.
 const MANY_SUBSETS: &str =
     "observed 1\ncompressed 1\noptional 0\nsubsets 65535\ndescriptors 205255 205002\n";
 
-/// Returns the text of this document.
+/// Returns the document whose lines are in `MANY_SUBSETS`.
 fn text_of_many_subsets(rt: &impl Runtime) -> String {
     let mut text = with_head(rt, MANY_SUBSETS);
     for subset in 1..=65_535 {
@@ -239,9 +242,9 @@ fn text_of_many_subsets(rt: &impl Runtime) -> String {
     text
 }
 
-/// The compressed message is short, but the plain one is too long.
+/// The compressed message is short, but the same message in plain form would be too long.
 #[test]
-fn rejects_plain_form_that_is_too_long(rt: HostRuntime) {
+fn rejects_message_that_is_too_long_when_uncompressed(rt: HostRuntime) {
     let text = text_of_many_subsets(&rt);
     let document = document_of(&rt, text.as_bytes());
     let octets = octets_of(&rt, Encode, &document);
@@ -255,12 +258,14 @@ fn assert_too_long(rt: &impl Runtime, command: Command, document: &Document, lin
     assert_same(rt, &fault.line(), &Some(line), &fault)
 }
 
-/// The lines of a document from `observed` to its descriptors, without the last descriptor. It has
-/// 65,792 strings of 255 octets, and a last one with a width of its own.
+/// The lines of a document from `observed` to its descriptor list, without the last descriptor. The
+/// document contains 65,792 strings of 255 octets, followed by a string whose width the last
+/// descriptor specifies.
 const MANY_TEXTS: &str = "observed 1\ncompressed 0\noptional 0\nsubsets 1\n\
     descriptors 102255 101255 205255 102003 101255 205255 205255 205255\ndescriptors ";
 
-/// Returns a comment and then the text of this document, with this descriptor for its last string.
+/// Returns the document whose lines are in `MANY_TEXTS`. The document begins with a comment, and
+/// `last` is the descriptor of its last string.
 fn text_of_many_strings(rt: &impl Runtime, last: &str) -> String {
     let head = format!(in rt.alloc(); "# a comment\n{HEAD}{MANY_TEXTS}");
     let mut text = ok(rt, head);
@@ -274,7 +279,7 @@ fn text_of_many_strings(rt: &impl Runtime, last: &str) -> String {
     text
 }
 
-/// The longest message has 16,777,215 octets.
+/// The maximum length of a message is 16,777,215 octets.
 #[test]
 // rule: fault-60
 fn encodes_the_longest_message(rt: HostRuntime) {
@@ -285,7 +290,7 @@ fn encodes_the_longest_message(rt: HostRuntime) {
     assert_that(&rt, first && octets.ends_with(b" 7777"), &"ends");
 }
 
-/// If a message would be one octet longer than the longest one, nothing is written.
+/// If a message would be one octet longer than the maximum, nothing is written.
 #[test]
 fn rejects_message_one_octet_too_long(rt: HostRuntime) {
     let text = text_of_many_strings(&rt, "205193");
@@ -296,19 +301,19 @@ fn rejects_message_one_octet_too_long(rt: HostRuntime) {
     run_whole(&rt, Encode, text.as_bytes()).assert(&rt, run, 0)
 }
 
-/// A document from `observed` on, as someone might write it by hand.
+/// The lines of a document after the header, as someone might write them by hand.
 const BY_HAND: &str = "observed 1\ncompressed 0\n\n# local use and section 2\noptional 1\n\
     subsets 001\nlocal1 ab\nlocal1 CD\nsection2 0102\ndescriptors 012101\ndescriptors 001015\n\
     subset 01\n012101 0288.1\n001015 \"ABC\"  # a name\nend\n";
 
-/// The same document, as `dump` writes it.
+/// The lines that `dump` writes for the same document.
 const AS_DUMPED: &str = "observed 1\ncompressed 0\noptional 1\nsubsets 1\nlocal1 ABCD\n\
     section2 0102\ndescriptors 012101 001015\nsubset 1\n012101 288.10  # AIR TEMPERATURE [K]\n\
     001015 \"ABC                 \"  # STATION OR SITE NAME [CCITT IA5]\nend\n";
 
-/// A text that was written by hand and its dump are encoded to the same octets.
+/// A handwritten document and its dump are encoded to the same octets.
 #[test]
-fn dumps_handwritten_document_in_normal_spelling(rt: HostRuntime) {
+fn dumps_handwritten_document_in_normal_form(rt: HostRuntime) {
     let octets = octets_for(&rt, with_head(&rt, BY_HAND).as_bytes());
     let text = dumped(&rt, &octets);
     let want = with_head(&rt, AS_DUMPED);
@@ -316,8 +321,8 @@ fn dumps_handwritten_document_in_normal_spelling(rt: HostRuntime) {
     assert_same(&rt, &octets_for(&rt, text.taken()), &octets, &"octets");
 }
 
-/// Compressed messages: the number of subsets, descriptors and items. `|` separates subsets, and
-/// `;` separates their items.
+/// Compressed messages. Each row contains the number of subsets, the descriptors and the items. A
+/// `|` separates subsets, and a `;` separates the items of a subset.
 #[rattlefmt::skip]
 const ALIKE: &[(u16, &str, &str)] = &[
     (3, "001001 012101", "001001 10;012101 MISSING|001001 10;012101 MISSING|001001 10;012101 MISSING"),
@@ -327,8 +332,8 @@ const ALIKE: &[(u16, &str, &str)] = &[
     (1, "001001 012101", "001001 13;012101 288.15"),
 ];
 
-/// Lines that are the same in all subsets are dumped in each subset, in their places. The shared
-/// lines of one message do not appear in the next.
+/// Lines that all subsets share are dumped in each subset, in the correct positions. The shared
+/// lines of one message do not appear in the next message.
 #[test]
 fn dumps_shared_lines_in_every_subset(rt: HostRuntime) {
     let (mut text, mut dump) = (String::new(rt.alloc()), String::new(rt.alloc()));
@@ -348,7 +353,7 @@ fn assert_fault(rt: &impl Runtime, fault: DocumentFault, number: u8, line: Optio
 }
 
 #[test]
-fn document_faults_have_numbers_and_lines(rt: HostRuntime) {
+fn reports_number_and_line_for_document_fault(rt: HostRuntime) {
     let fxy = Fxy::from_word(0x0101);
     let template = TemplateFault::EmptyGroup(fxy);
     let item = ItemFault::WrongDescriptor(Expected::Item(fxy));

@@ -1,4 +1,4 @@
-//! Tests of writing items as data, plain and compressed, and of the faults of items.
+//! Tests of writing items as plain or compressed data, and of faults in items.
 
 use crate::support::{Runtime, assert_same, assert_that, from_hex, ok, table_b, template_of};
 use bufr_bits::ShortDecimal;
@@ -9,8 +9,8 @@ use bufr_fill::{
 use bufr_tables::{Fxy, TableB, Template};
 use bufr_walk::{Fields, Steps, WalkStop, walk};
 
-/// Returns items of an element of seven bits in two subsets: one as a short decimal, and one as
-/// octets.
+/// Returns the items of two subsets with one 7-bit element each. The first number is given as a
+/// short decimal, and the second as octets.
 fn two_items(rt: &impl Runtime, digits: u64) -> Entries {
     let mut entries = Entries::new(rt.alloc());
     let fxy = Fxy::from_word(257);
@@ -34,7 +34,7 @@ fn two_items(rt: &impl Runtime, digits: u64) -> Entries {
     entries
 }
 
-/// Returns the number and the line of a fault.
+/// Returns the number of a fault and the line of its item, or line 0 if memory ran out.
 fn fault_of(fault: DraftFault) -> (u8, u64) {
     let line = match fault {
         DraftFault::Item(line, _) => line,
@@ -43,8 +43,8 @@ fn fault_of(fault: DraftFault) -> (u8, u64) {
     (fault.number(), line)
 }
 
-/// Returns the number and the line of the fault that stopped a walk. For a fault of the walk
-/// itself, the line is that of the next entry.
+/// Returns the number and the line of the fault that stopped a walk. If the walk itself found the
+/// fault, the line is `next`, the line of the next entry.
 fn stop_of(stop: WalkStop<DraftFault>, next: u64) -> (u8, u64) {
     match stop {
         WalkStop::Width(_) => (31, next),
@@ -54,8 +54,8 @@ fn stop_of(stop: WalkStop<DraftFault>, next: u64) -> (u8, u64) {
     }
 }
 
-/// Writes the items of two subsets, one subset after the other, and returns the data and the number
-/// of bits in complete subsets.
+/// Writes the items of two subsets as plain data. Returns the data or the fault, and the number of
+/// bits in the complete subsets.
 fn write_plain(
     rt: &impl Runtime,
     entries: &Entries,
@@ -78,7 +78,8 @@ fn write_plain(
     (Ok(out.into_octets()), bits)
 }
 
-/// Writes the items of all subsets together, and returns the data and the number of bits.
+/// Writes the items of all subsets as compressed data. Returns the data or the fault, and the
+/// number of bits.
 fn write_compressed(
     rt: &impl Runtime,
     entries: &Entries,
@@ -102,7 +103,7 @@ fn write_compressed(
 }
 
 #[test]
-fn laws_can_be_called() {
+fn law_functions_accept_valid_arguments() {
     laws::data_round_trip();
     laws::items_are_packed_with_the_least_k();
     laws::written_data_are_read();
@@ -113,7 +114,7 @@ fn laws_can_be_called() {
     laws::faults_are_as_defined();
 }
 
-/// Asserts the data that were written, and the number of bits.
+/// Asserts that the given data and the given number of bits were written.
 fn assert_written(
     rt: &impl Runtime,
     written: &(Result<Vec<u8>, (u8, u64)>, u64),
@@ -128,7 +129,7 @@ fn assert_written(
 }
 
 #[test]
-fn writes_items_plain_and_compressed(rt: HostRuntime) {
+fn writes_plain_and_compressed_items(rt: HostRuntime) {
     let (template, table) = (template_of(&rt, "001001"), table_b(&rt));
     let entries = two_items(&rt, 10);
     assert_same(&rt, &entries.len(), &4, &"entries");
@@ -139,7 +140,7 @@ fn writes_items_plain_and_compressed(rt: HostRuntime) {
 }
 
 #[test]
-fn rejects_value_that_reads_as_missing(rt: HostRuntime) {
+fn rejects_number_reserved_for_missing_values(rt: HostRuntime) {
     let (template, table) = (template_of(&rt, "001001"), table_b(&rt));
     let entries = two_items(&rt, 127);
     let plain = write_plain(&rt, &entries, &template, &table);
@@ -149,7 +150,7 @@ fn rejects_value_that_reads_as_missing(rt: HostRuntime) {
 }
 
 #[test]
-fn draft_faults_have_numbers(rt: HostRuntime) {
+fn reports_number_for_draft_fault(rt: HostRuntime) {
     let fxy = Fxy::from_word(257);
     let many = WalkRefusal::TooManyValues(fxy);
     let rows = [

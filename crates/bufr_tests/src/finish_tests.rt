@@ -1,4 +1,4 @@
-//! Tests of the last line of a run and of the exit status.
+//! Tests of the last line that a run writes to its error output, and of its exit status.
 
 use crate::runs::{tally, writer};
 use crate::support::{Runtime, assert_same, joined, ok, read_d, some};
@@ -7,8 +7,8 @@ use bufr_cli::{Outcome, finish};
 use bufr_frame::RunFault;
 use bufr_tables::{Fxy, TableFault};
 
-/// Returns the status of a run, and the line that is written to an error output with this room and
-/// end.
+/// Finishes a run. Returns the exit status and the line that was written to the error output, which
+/// is full after `room.0` octets and then behaves as `room.1` specifies.
 fn finished(rt: &impl Runtime, run: &Outcome<'_>, room: (usize, End)) -> (u8, Vec<u8>) {
     let mut e = writer(rt, 3, room);
     let status = finish(run, &mut e);
@@ -23,7 +23,8 @@ fn assert_finished(rt: &impl Runtime, run: &Outcome<'_>, line: &str, status: u8)
     assert_same(rt, &found, &status, &line);
 }
 
-/// Asserts that the line of a fault consists of its number and its text.
+/// Asserts that the line for a fault consists of `bufr`, the number of the fault, and the
+/// description of the fault.
 fn assert_run_fault(rt: &impl Runtime, fault: RunFault, text: &str) {
     let shown = ok(rt, format!(in rt.alloc(); "{} {fault}", fault.number()));
     assert_same(rt, &shown.as_str(), &text, &fault);
@@ -46,7 +47,8 @@ fn reports_outcome_and_exit_status(rt: HostRuntime) {
     assert_run_fault(&rt, RunFault::Memory, "73 out of memory");
 }
 
-/// Asserts that the line of a fault in Table B or Table D consists of its number and its text.
+/// Asserts that the line for a fault in Table B or Table D consists of the name of the table, and
+/// the number and description of the fault. If memory ran out, the line begins with `bufr` instead.
 fn assert_table_fault(rt: &impl Runtime, fault: TableFault, text: &str) {
     let shown = ok(rt, format!(in rt.alloc(); "{} {fault}", fault.number()));
     assert_same(rt, &shown.as_str(), &text, &fault);

@@ -1,4 +1,4 @@
-//! Tests of finding messages in streams, dividing them into their parts, and writing them.
+//! Tests of finding messages in streams, splitting messages into sections, and writing messages.
 
 use crate::messages::{
     COMPRESSED, EDITION_3, EDITION_3_ODD, LOCAL_USE, ONE_BLOCK_NUMBER, PACKED, PLAIN, STRAY,
@@ -14,9 +14,10 @@ use bufr_frame::{
 };
 use std::alloc::Global;
 
-/// The messages that the tests build have the octets that are listed for them.
+/// Messages that the tests build from parts are equal to the messages that are listed octet by
+/// octet.
 #[test]
-fn test_messages_have_expected_octets(rt: HostRuntime) {
+fn builds_messages_with_expected_octets(rt: HostRuntime) {
     let one = message_of_hex(&rt, 1, PLAIN, "001001", "14");
     assert_same(&rt, &one.as_slice(), &ONE_BLOCK_NUMBER, &"plain");
     let two = message_of_hex(&rt, 2, PACKED, "012101", "708F05");
@@ -24,9 +25,9 @@ fn test_messages_have_expected_octets(rt: HostRuntime) {
     assert_same(&rt, &bulletins(&rt).len(), &305, &"bulletins");
 }
 
-/// An expected event: a frame's offset and length, a stray's offset and cause, the end, or a failed
-/// read. `Holds` is not an event, but the number of octets that the finder buffers and the greatest
-/// length declared so far.
+/// An expected event: a frame with its offset and length, a stray with its offset and cause, the
+/// end of the stream, or a failed read. `Holds` is not an event, but states the number of octets
+/// that the finder should buffer, and the greatest length declared so far.
 #[derive(Clone, Copy, Debug, PartialEq, Eq)]
 enum Want {
     Frame(u64, usize),
@@ -45,8 +46,8 @@ fn has_at(stream: &[u8], offset: u64, octets: &[u8]) -> bool {
     }
 }
 
-/// Returns the next event. Returns `None` for a frame that does not have the octets of the stream
-/// at its offset, and for any fault except a failed read.
+/// Returns the next event. Returns `None` if a frame differs from the octets at its offset in the
+/// stream, or if the finder reports a fault that is not a failed read.
 fn next_event(stream: &[u8], finder: &mut Finder, r: &mut ScriptIn<'_>) -> Option<Want> {
     match finder.next(r) {
         Ok(Event::Frame(offset, octets)) => {
@@ -79,8 +80,9 @@ fn assert_event(
     }
 }
 
-/// Asserts the events of a stream that is read `step` octets at a time, with failing reads from
-/// `fails_at` on. The end or the failure is returned again by each later call.
+/// Asserts that the finder returns the events in `wanted`. Each read returns at most `step` octets
+/// of the stream, and reads fail from offset `fails_at` on. After the last event, each call returns
+/// the end of the stream or the failed read again.
 fn assert_events_by(
     rt: &impl Runtime,
     stream: &[u8],
@@ -106,7 +108,7 @@ fn assert_events_by(
     assert_same(rt, &measures_of(&finder).1, &longest, &step);
 }
 
-/// Values of the maximum number of octets in a read.
+/// For each trial, the maximum number of octets that a read returns.
 const STEPS: &[usize] = &[1, 3, 65536];
 
 fn assert_events(
@@ -121,8 +123,8 @@ fn assert_events(
     }
 }
 
-/// Each row contains the parts of a stream, the offset at which its reader fails, the events, and
-/// the greatest declared length.
+/// Each row contains the parts of a stream, the offset at which its reader fails, the expected
+/// events, and the greatest declared length.
 #[rattlefmt::skip]
 const STREAMS: &[(&[&[u8]], Option<usize>, &[Want], usize)] = &[
     (&[], None, &[], 0),
@@ -132,7 +134,7 @@ const STREAMS: &[(&[&[u8]], Option<usize>, &[Want], usize)] = &[
     (&[STRAY, ONE_BLOCK_NUMBER, b"xyBUF", ONE_BLOCK_NUMBER, b"BUFR\x00\x00\x0B\x04abcBUFR"], None,
         &[Stray(0, Cause::NoEnd), Frame(8, 48), Frame(61, 48), Stray(109, Cause::ShortLength),
             Stray(120, Cause::Cut)], 64),
-    // the certain events are returned before the failed read
+    // The finder returns all events that are certain before it reports the failed read.
     (&[ONE_BLOCK_NUMBER], Some(20), &[], 48),
     (&[ONE_BLOCK_NUMBER, ONE_BLOCK_NUMBER], Some(48), &[Frame(0, 48)], 48),
     (&[ONE_BLOCK_NUMBER, ONE_BLOCK_NUMBER], Some(58), &[Frame(0, 48)], 48),
@@ -145,15 +147,16 @@ const STREAMS: &[(&[&[u8]], Option<usize>, &[Want], usize)] = &[
 
 #[test]
 // rule: first-bufr, stray-cut, stray-short-length, stray-no-end
-fn finds_messages_and_strays_in_streams(rt: HostRuntime) {
+fn finds_messages_and_stray_bufr_words_in_streams(rt: HostRuntime) {
     for (parts, fails_at, wanted, longest) in STREAMS {
         let stream = joined(&rt, parts);
         assert_events(&rt, &stream, *fails_at, wanted, *longest);
     }
 }
 
-/// Returns the events of 1,024 strays that are `apart` octets apart. The first `without_end` have
-/// no end, and the others are cut.
+/// Returns the expected events for 1,024 strays that begin every `apart` octets. The first
+/// `without_end` strays do not end with `7777`, and the others are cut off by the end of the
+/// stream.
 fn strays(rt: &impl Runtime, apart: u64, without_end: u64) -> Vec<Want> {
     let mut wanted = Vec::new(rt.alloc());
     for i in 0..1024u64 {
@@ -167,18 +170,18 @@ fn strays(rt: &impl Runtime, apart: u64, without_end: u64) -> Vec<Want> {
     wanted
 }
 
-/// Each occurrence of `BUFR` declares a length. Whether the message is cut may not be certain until
-/// the end of the input.
+/// Each occurrence of `BUFR` declares a length. Sometimes the finder must read to the end of the
+/// input to determine whether a message is cut off.
 #[test]
 // rule: after-a-stray, output-waits
-fn reports_each_bare_bufr_as_a_stray(rt: HostRuntime) {
+fn reports_each_bare_bufr_word(rt: HostRuntime) {
     let words = repeated(&rt, b"BUFR", 1024);
     assert_events(&rt, &words, None, &strays(&rt, 4, 0), 0x42_55_46);
     let words = repeated(&rt, b"BUFR\x00\x10\x00\x04", 1024);
     assert_events(&rt, &words, None, &strays(&rt, 8, 513), 4096);
 }
 
-/// Returns a message of 5,048 octets, with 5,000 local octets in section 1.
+/// Returns a message that is 5,048 octets long. Section 1 contains 5,000 octets for local use.
 fn long_message(rt: &impl Runtime) -> Vec<u8> {
     let section_1 = ONE_BLOCK_NUMBER.get(11..30).unwrap_or(b"");
     let rest = ONE_BLOCK_NUMBER.get(30..).unwrap_or(b"");
@@ -198,7 +201,7 @@ fn finds_message_longer_than_all_earlier_ones(rt: HostRuntime) {
     assert_events(&rt, &growing, None, &wanted, 5048);
 }
 
-/// A message that is longer than all earlier ones is buffered completely until the next call.
+/// A message that is longer than all earlier messages is buffered completely until the next call.
 /// Nothing else is buffered.
 #[test]
 fn buffers_long_message_until_next_call(rt: HostRuntime) {
@@ -208,7 +211,7 @@ fn buffers_long_message_until_next_call(rt: HostRuntime) {
 }
 
 #[test]
-fn laws_can_be_called() {
+fn law_functions_accept_valid_arguments() {
     laws::open_scan_is_prefix();
     laws::events_to_the_end_are_the_scan();
     laws::events_before_the_end_are_certain();
@@ -241,8 +244,9 @@ const HEAD_3: Head = Head {
     year: 24, month: 1, day: 2, hour: 3, minute: 4, second: 0,
 };
 
-/// The contents of a message: section 1 and its local octets, section 2, the number of subsets,
-/// whether the data are observed and compressed, the first descriptor, and the data.
+/// The contents of a message: section 1, the octets for local use in section 1, section 2, the
+/// number of subsets, whether the data are observed, whether the data are compressed, the first
+/// descriptor, and the data.
 type Parts = (
     Head,
     &'static [u8],
@@ -252,14 +256,15 @@ type Parts = (
     &'static [u8],
 );
 
-/// Each row contains a message, its contents, and the message that is written from these contents.
+/// Each row contains a message, its contents, and the message that should be written from those
+/// contents.
 #[rattlefmt::skip]
 const MESSAGES: &[(&[u8], Parts, &[u8])] = &[
     (ONE_BLOCK_NUMBER, (HEAD_4, b"", None, (1, true, false), 0x0101, b"\x14"), ONE_BLOCK_NUMBER),
     (LOCAL_USE, (HEAD_4, b"\xAB\xCD", Some(b"\x01\x02"), (1, true, false), 0x0101, b"\x14"), LOCAL_USE),
     (COMPRESSED, (HEAD_4, b"", None, (2, true, true), 0x0c65, b"\x70\x8F\x05"), COMPRESSED),
     (EDITION_3, (HEAD_3, b"\0", None, (1, true, false), 0x0101, b"\x14\0"), EDITION_3),
-    // odd sections become even
+    // Sections with an odd length are padded to an even length.
     (EDITION_3_ODD, (HEAD_3, b"\0", None, (1, true, false), 0x0101, b"\x14"), EDITION_3),
 ];
 
@@ -286,7 +291,8 @@ fn assert_descriptors(rt: &impl Runtime, message: &Message<'_>, word: u16) {
     assert_same(rt, &found, &(Some(word), None), &"descriptors");
 }
 
-/// Writes a message from the parts of another one, if its head can be written.
+/// Writes a message from the contents of another message. Returns `None` if the header cannot be
+/// written in the message's edition.
 fn written(alloc: Global, message: &Message<'_>, word: u16, payload: &[u8]) -> Option<Vec<u8>> {
     let head = message.head();
     let fits = head.centre <= 255 && head.subcentre <= 255 && head.year <= 255;
@@ -323,7 +329,7 @@ fn parses_messages_and_writes_them_back(rt: HostRuntime) {
     }
 }
 
-/// Returns the length of a message, or the fault for which it is rejected.
+/// Returns the length of a message, or the fault if the message is rejected.
 fn length_of(rt: &impl Runtime, octets: &[u8]) -> Result<u64, SectionFault> {
     assert!(rt; octets.len() >= 12);
     match Message::parse(octets) {
@@ -332,8 +338,8 @@ fn length_of(rt: &impl Runtime, octets: &[u8]) -> Result<u64, SectionFault> {
     }
 }
 
-/// Each row contains changes to octets of the message with one block number, the fault, and its
-/// text.
+/// Each row contains changes to the octets of `ONE_BLOCK_NUMBER`, the expected fault, and the
+/// number and description of that fault.
 #[rattlefmt::skip]
 const FAULTS: &[(&[(usize, u8)], SectionFault, &str)] = &[
     (&[(7, 2)], SectionFault::Edition(2), "10 edition 2"),
@@ -347,7 +353,7 @@ const FAULTS: &[(&[(usize, u8)], SectionFault, &str)] = &[
     (&[(32, 12)], SectionFault::SectionPast(4), "12 section 4 past the end"),
 ];
 
-/// Returns the message with one block number, after these changes to its octets.
+/// Returns `ONE_BLOCK_NUMBER` with the given changes to its octets.
 fn changed(rt: &impl Runtime, changes: &[(usize, u8)]) -> Vec<u8> {
     let mut octets = joined(rt, &[ONE_BLOCK_NUMBER]);
     for (index, octet) in changes {
@@ -356,7 +362,8 @@ fn changed(rt: &impl Runtime, changes: &[(usize, u8)]) -> Vec<u8> {
     octets
 }
 
-/// Asserts that the octets have this fault, and that its line contains this text.
+/// Asserts that parsing `octets` returns `fault`, and that `text` is the number and the description
+/// in the fault line.
 fn assert_fault(rt: &impl Runtime, octets: &[u8], fault: SectionFault, text: &str) {
     assert_same(rt, &length_of(rt, octets), &Err(fault), &text);
     let shown = ok(rt, format!(in rt.alloc(); "{} {fault}", fault.number()));
@@ -373,8 +380,9 @@ fn reports_section_faults(rt: HostRuntime) {
     }
 }
 
-/// Returns the length of an edition 3 message of 16,777,214 octets, or its fault. The message
-/// begins with `sections` (sections 0 to 3), and `fourth` is the length of section 4.
+/// Returns the length of an edition 3 message that is 16,777,214 octets long, or the fault if the
+/// message is rejected. `sections` contains sections 0 to 3, and `fourth` is the length field of
+/// section 4.
 fn length_of_long(
     rt: &impl Runtime,
     sections: Option<&[u8]>,
@@ -385,7 +393,8 @@ fn length_of_long(
     length_of(rt, &octets)
 }
 
-/// A message with odd sections is rejected if it would be too long with even sections.
+/// A message with odd sections is rejected if it would be too long after its sections are padded to
+/// even lengths.
 #[test]
 // rule: edition-3-length
 fn rejects_long_edition_3_message_with_odd_sections(rt: HostRuntime) {
@@ -396,8 +405,8 @@ fn rejects_long_edition_3_message_with_odd_sections(rt: HostRuntime) {
     assert_same(&rt, &SectionFault::Edition3Long.number(), &14, &"number");
 }
 
-/// Returns the length of a message with this number of local octets, or the fault for which it
-/// cannot be written.
+/// Returns the length of a message with the given number of octets for local use, or the fault if
+/// the message cannot be written.
 fn length_with(rt: &impl Runtime, local: usize) -> Result<usize, WriteFault> {
     let local = ok(rt, vec![in rt.alloc(); 0u8; local]);
     write_message(rt.alloc(), &HEAD_4, &local, None, &[], 1, true, false, b"").map(
@@ -405,7 +414,8 @@ fn length_with(rt: &impl Runtime, local: usize) -> Result<usize, WriteFault> {
     )
 }
 
-/// Each row contains the number of local octets of a message, and its length or fault.
+/// Each row contains the number of octets for local use in a message, and the message's length or
+/// its fault.
 #[rattlefmt::skip]
 const LOCAL_LENGTHS: &[(usize, Result<usize, WriteFault>)] = &[
     (16_777_215, Err(WriteFault::TooLong)), (16_777_171, Err(WriteFault::TooLong)),
@@ -421,7 +431,7 @@ fn refuses_to_write_messages_that_are_too_long(rt: HostRuntime) {
 }
 
 #[test]
-fn reads_to_the_end_and_counts_reads(rt: HostRuntime) {
+fn reads_to_end_of_input_and_counts_reads(rt: HostRuntime) {
     let mut r = ScriptIn::new(LOCAL_USE, 9, None);
     let mut octets = Vec::new(rt.alloc());
     let mut reads = 0;
@@ -430,7 +440,7 @@ fn reads_to_the_end_and_counts_reads(rt: HostRuntime) {
     assert_same(&rt, &octets.as_slice(), &LOCAL_USE, &"octets");
 }
 
-/// Reads twice, and skips some octets between the reads.
+/// Fills the buffer twice, and skips two octets after the first read.
 #[test]
 fn refills_buffer_after_a_skip(rt: HostRuntime) {
     let mut r = ScriptIn::new(b"abcd", 3, None);
@@ -443,9 +453,9 @@ fn refills_buffer_after_a_skip(rt: HostRuntime) {
     assert_same(&rt, &input.held(), &b"cd".as_slice(), &"octets");
 }
 
-/// Pushes an octet at the end of an input.
+/// Appends an octet after the end of the input, and checks that a failed read is reported.
 #[test]
-fn pushes_an_octet_after_the_end_of_input(rt: HostRuntime) {
+fn appends_octet_at_end_of_input(rt: HostRuntime) {
     let mut r = ScriptIn::new(b"", 3, None);
     let mut input = InputBuffer::new(rt.alloc());
     assert_same(&rt, &input.fill(&mut r, 4, 8), &Ok(()), &"read");

@@ -1,5 +1,5 @@
-//! Tests of calls that allocate memory. Each call returns its whole result, or reports that memory
-//! ran out.
+//! Tests of functions that allocate memory. Each function returns its complete result, or reports
+//! that memory ran out.
 //!
 //! `tests/failed_allocations.py` makes each allocation of each test fail in turn. Therefore, a test
 //! also passes if it cannot allocate memory for its own values.
@@ -15,8 +15,8 @@ use std::alloc::AllocError;
 use std::fmt::Debug;
 use std::process::Abort;
 
-/// Returns the whole result of a call, or `None` if memory ran out. Asserts that there is no other
-/// fault.
+/// Returns the result of a call, or `None` if memory ran out. Asserts that the call reported no
+/// fault other than running out of memory.
 fn whole<T, E: Debug + PartialEq + Drop>(
     rt: &impl Abort,
     answer: Result<T, E>,
@@ -31,8 +31,8 @@ fn whole<T, E: Debug + PartialEq + Drop>(
     }
 }
 
-/// Appends a number to the earlier ones. If memory runs out, asserts that nothing was written, and
-/// tries again.
+/// Appends a number to `out`. If memory runs out, asserts that nothing was appended, and tries
+/// again.
 fn write_number(rt: &impl Abort, out: &mut Vec<u8>) {
     let before = out.len();
     if decimal_text(-28_815, 2, out).is_err() {
@@ -42,7 +42,7 @@ fn write_number(rt: &impl Abort, out: &mut Vec<u8>) {
 }
 
 #[test]
-fn decimal_text_changes_nothing_if_allocation_fails(rt: HostRuntime) {
+fn appending_decimal_text_changes_nothing_if_allocation_fails(rt: HostRuntime) {
     let mut out = Vec::new(rt.alloc());
     for _ in 0..4 {
         write_number(&rt, &mut out);
@@ -51,7 +51,8 @@ fn decimal_text_changes_nothing_if_allocation_fails(rt: HostRuntime) {
     assert_same(&rt, &out.as_slice(), &want, &"numbers");
 }
 
-/// Pushes 40 bits. If memory runs out, asserts that nothing was pushed, and tries again.
+/// Pushes the low 40 bits of `value`. If memory runs out, asserts that nothing was pushed, and
+/// tries again.
 fn push_number(rt: &impl Abort, writer: &mut BitWriter, value: u64) {
     let before = writer.len_bits();
     assert!(rt; before < 100_000);
@@ -61,7 +62,7 @@ fn push_number(rt: &impl Abort, writer: &mut BitWriter, value: u64) {
     }
 }
 
-/// Returns a number of 40 bits that is different for each index.
+/// Returns a 40-bit number that is different for each index.
 fn number_at(index: u64) -> u64 {
     index.wrapping_mul(0x0001_2345_6789) % (1 << 40)
 }
@@ -80,7 +81,8 @@ fn push_changes_nothing_if_allocation_fails(rt: HostRuntime) {
     }
 }
 
-/// Pushes octets. If memory runs out, asserts that nothing was pushed, and tries again.
+/// Pushes the octets of a message. If memory runs out, asserts that nothing was pushed, and tries
+/// again.
 fn push_message(rt: &impl Abort, writer: &mut BitWriter) {
     let before = writer.len_bits();
     assert!(rt; before < 100_000);
@@ -91,7 +93,7 @@ fn push_message(rt: &impl Abort, writer: &mut BitWriter) {
 }
 
 #[test]
-fn push_octets_changes_nothing_if_allocation_fails(rt: HostRuntime) {
+fn pushing_octets_changes_nothing_if_allocation_fails(rt: HostRuntime) {
     let mut writer = BitWriter::new(rt.alloc());
     for _ in 0..5 {
         push_message(&rt, &mut writer);
@@ -104,7 +106,7 @@ fn push_octets_changes_nothing_if_allocation_fails(rt: HostRuntime) {
 }
 
 #[test]
-fn script_out_reports_failed_allocation(rt: HostRuntime) {
+fn scripted_writer_reports_failed_allocation(rt: HostRuntime) {
     let writer = ScriptOut::new(rt.alloc(), 1000, 600, End::Fail);
     if let Some(mut writer) = whole(&rt, writer, AllocError) {
         let taken = (writer.write(&[1; 700]), writer.write(&[1; 700]));
@@ -130,8 +132,8 @@ fn write_message_reports_failed_allocation(rt: HostRuntime) {
     }
 }
 
-/// Returns the descriptors of 32 nested replications of one descriptor each, with an element
-/// inside.
+/// Returns 32 nested replications of one descriptor each. The innermost replication contains an
+/// element.
 fn thirty_two_groups() -> [Fxy; 33] {
     let mut descriptors = [Fxy::from_word(0x0101); 33];
     for place in 0..32u16 {
@@ -141,7 +143,7 @@ fn thirty_two_groups() -> [Fxy; 33] {
 }
 
 #[test]
-fn template_build_reports_failed_allocation(rt: HostRuntime) {
+fn template_expansion_reports_failed_allocation(rt: HostRuntime) {
     let table_b = read_b(rt.alloc(), messages::table_b());
     let table_d = read_d(rt.alloc(), messages::table_d());
     let table_b = whole(&rt, table_b, TableFault::Memory);
@@ -166,7 +168,8 @@ fn read_all_reports_failed_allocation(rt: HostRuntime) {
     }
 }
 
-/// Command lines, and how their results end: the name of a file, the help, or a usage error.
+/// Command lines, each with the end of the expected result: the name of a file, the help, or a
+/// usage error.
 #[rattlefmt::skip]
 static LINES: &[(&[&str], &str)] = &[
     (&["bufr", "encode", "-B", "b.csv", "-D", "d.csv", "--form", "plain", "x.txt"], "x.txt"),

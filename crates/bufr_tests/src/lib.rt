@@ -1,6 +1,7 @@
 //! Tests of the public functions of all libraries.
 //!
-//! They are in a crate of their own because the tests of a crate are proved together with it.
+//! The tests are in a separate crate because the tests in a crate are proved together with that
+//! crate.
 #![tactic(auto)]
 
 #[cfg(test)]

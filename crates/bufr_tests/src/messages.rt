@@ -1,14 +1,15 @@
-//! The tables and messages for the tests. They are test data, not the tables of WMO.
+//! Tables and messages for the tests. The tables are test data, not WMO's tables.
 
 use crate::support::{Runtime, from_hex, joined, ok, words_of};
 
-/// The header of Table B.
+/// The header line of Table B.
 pub(crate) const HEADER_B: &[u8] = b"fxy,name,unit,scale,reference,width\n";
 
-/// The header of Table D.
+/// The header line of Table D.
 pub(crate) const HEADER_D: &[u8] = b"fxy,member\n";
 
-/// Table B: elements, including the factors of delayed replications.
+/// Table B for the test messages. The table contains some elements, including delayed replication
+/// factors.
 const TABLE_B: &[u8] = b"fxy,name,unit,scale,reference,width
 001001,WMO BLOCK NUMBER,Numeric,0,0,7
 001015,STATION OR SITE NAME,CCITT IA5,0,0,160
@@ -21,14 +22,14 @@ const TABLE_B: &[u8] = b"fxy,name,unit,scale,reference,width
 031021,ASSOCIATED FIELD SIGNIFICANCE,Code table,0,0,6
 ";
 
-/// Table D: nested sequences.
+/// Table D for the test messages. The sequences in the table are nested.
 ///
 /// | sequences | members |
 /// |---|---|
 /// | 3 00 001 to 3 00 017 | the next sequence twice |
-/// | 3 10 001 to 3 10 016 | two passes over a group that contains the next sequence twice |
+/// | 3 10 001 to 3 10 016 | a group with two passes that contains the next sequence twice |
 /// | 3 20 001 to 3 20 033 | the next sequence |
-/// | 3 30 001 to 3 30 003 | an operator or a replication without what must follow it |
+/// | 3 30 001 to 3 30 003 | an operator or a replication without the required next descriptor |
 /// | 3 60 192 | two elements |
 const TABLE_D: &[u8] = b"\
     fxy,member\n300001,300002\n300001,300002\n300002,300003\n300002,300003\n300003,300004\n\
@@ -53,7 +54,7 @@ const TABLE_D: &[u8] = b"\
     320032,320033\n320033,001001\n330001,206012\n330002,101002\n330003,201132\n360192,001001\n\
     360192,012101\n";
 
-/// Returns Table B. Because this is a function, the proofs of its callers do not contain the text.
+/// Returns Table B. Returning the table from a function keeps its text out of the callers' proofs.
 pub(crate) fn table_b() -> &'static [u8] {
     TABLE_B
 }
@@ -62,7 +63,8 @@ pub(crate) fn table_d() -> &'static [u8] {
     TABLE_D
 }
 
-/// An edition 4 message of 48 octets with one block number. Each section is on its own line.
+/// An edition 4 message that is 48 octets long and contains one block number. Each section is on
+/// its own line.
 pub(crate) const ONE_BLOCK_NUMBER: &[u8] = b"\
     BUFR\x00\x00\x30\x04\
     \x00\x00\x16\x00\x00\x62\x00\x00\x00\x00\x00\x00\x00\x0E\x00\x07\xE8\x01\x02\x03\x04\x05\
@@ -70,8 +72,8 @@ pub(crate) const ONE_BLOCK_NUMBER: &[u8] = b"\
     \x00\x00\x05\x00\x14\
     7777";
 
-/// The same message, but with local octets in section 1 and with a section 2. It has 56 octets in
-/// total.
+/// An edition 4 message that is 56 octets long. The message is `ONE_BLOCK_NUMBER` with octets for
+/// local use in section 1, and with a section 2.
 pub(crate) const LOCAL_USE: &[u8] = b"\
     BUFR\x00\x00\x38\x04\
     \x00\x00\x18\x00\x00\x62\x00\x00\x00\x80\x00\x00\x00\x0E\x00\x07\xE8\x01\x02\x03\x04\x05\
@@ -81,7 +83,7 @@ pub(crate) const LOCAL_USE: &[u8] = b"\
     \x00\x00\x05\x00\x14\
     7777";
 
-/// A message of 50 octets with two compressed temperatures.
+/// A message that is 50 octets long and contains two compressed temperatures.
 pub(crate) const COMPRESSED: &[u8] = b"\
     BUFR\x00\x00\x32\x04\
     \x00\x00\x16\x00\x00\x62\x00\x00\x00\x00\x00\x00\x00\x0E\x00\x07\xE8\x01\x02\x03\x04\x05\
@@ -89,7 +91,7 @@ pub(crate) const COMPRESSED: &[u8] = b"\
     \x00\x00\x07\x00\x70\x8F\x05\
     7777";
 
-/// An edition 3 message of 46 octets with one block number.
+/// An edition 3 message that is 46 octets long and contains one block number.
 pub(crate) const EDITION_3: &[u8] = b"\
     BUFR\x00\x00\x2E\x03\
     \x00\x00\x12\x00\x00\x62\x00\x00\x00\x00\x0E\x00\x18\x01\x02\x03\x04\x00\
@@ -97,7 +99,8 @@ pub(crate) const EDITION_3: &[u8] = b"\
     \x00\x00\x06\x00\x14\x00\
     7777";
 
-/// The same message with odd sections 3 and 4, which has 44 octets.
+/// An edition 3 message that is 44 octets long. The message is `EDITION_3` without the padding, so
+/// sections 3 and 4 have odd lengths.
 pub(crate) const EDITION_3_ODD: &[u8] = b"\
     BUFR\x00\x00\x2C\x03\
     \x00\x00\x12\x00\x00\x62\x00\x00\x00\x00\x0E\x00\x18\x01\x02\x03\x04\x00\
@@ -108,13 +111,14 @@ pub(crate) const EDITION_3_ODD: &[u8] = b"\
 /// A stray that declares a length of 64 octets.
 pub(crate) const STRAY: &[u8] = b"BUFR\x00\x00\x40\x04";
 
-/// Octet 7 of section 3: observed data, not compressed.
+/// Octet 7 of section 3 if the data are observed and not compressed.
 pub(crate) const PLAIN: u8 = 0x80;
 
-/// Octet 7 of section 3: observed and compressed data.
+/// Octet 7 of section 3 if the data are observed and compressed.
 pub(crate) const PACKED: u8 = 0xC0;
 
-/// The octets of a message from the edition to the first octet of section 3.
+/// The octets of a message from the edition number up to and including the first octet of section
+/// 3.
 const SECTION_1: &[u8] = &[
     4, 0, 0, 22, 0, 0, 98, 0, 0, 0, 0, 0, 0, 0, 14, 0, 7, 232, 1, 2, 3, 4, 5, 0,
 ];
@@ -123,7 +127,7 @@ fn length_of(rt: &impl Runtime, length: usize) -> u16 {
     ok(rt, u16::try_from(length))
 }
 
-/// Returns the octets of the words of descriptors.
+/// Returns the given descriptors as the octets that represent them in section 3.
 fn octets_of_words(rt: &impl Runtime, descriptors: &str) -> Vec<u8> {
     let mut octets = Vec::new(rt.alloc());
     for word in &words_of(rt, descriptors) {
@@ -132,7 +136,7 @@ fn octets_of_words(rt: &impl Runtime, descriptors: &str) -> Vec<u8> {
     octets
 }
 
-/// Returns an edition 4 message with these subsets, flags, descriptors and data.
+/// Returns an edition 4 message with the given number of subsets, flags, descriptors and data.
 pub(crate) fn message_of(
     rt: &impl Runtime,
     subsets: u16,
@@ -153,7 +157,7 @@ pub(crate) fn message_of(
     joined(rt, &[&head, &section_3, &fourth, b"\0", payload, b"7777"])
 }
 
-/// Returns such a message with data in hexadecimal digits.
+/// Returns an edition 4 message whose data are given in hexadecimal digits.
 pub(crate) fn message_of_hex(
     rt: &impl Runtime,
     subsets: u16,
@@ -165,7 +169,7 @@ pub(crate) fn message_of_hex(
     message_of(rt, subsets, flags, descriptors, &octets)
 }
 
-/// The lines of every dump before `observed`.
+/// The lines before `observed`, which are the same in every dump.
 pub(crate) const HEAD: &str = "\
     message\nedition 4\nmaster 0\ncentre 98\nsubcentre 0\nupdate 0\ncategory 0\nsubcategory 0\n\
     localsubcategory 0\nmasterversion 14\nlocalversion 0\nyear 2024\nmonth 1\nday 2\nhour 3\n\
@@ -180,7 +184,7 @@ fn counts_of(rt: &impl Runtime, subsets: u16, flags: u8) -> String {
     ok(rt, counts)
 }
 
-/// Appends the lines of descriptors, with eight in a line.
+/// Appends the lines of a descriptor list, with up to eight descriptors per line.
 fn push_descriptors(rt: &impl Runtime, text: &mut String, descriptors: &str) {
     let mut index = 0usize;
     for digits in descriptors.split_whitespace() {
@@ -199,7 +203,7 @@ fn push_descriptors(rt: &impl Runtime, text: &mut String, descriptors: &str) {
     }
 }
 
-/// The comments of the elements in a dump.
+/// Descriptors of elements, each with the comment that a dump adds to the element's items.
 #[rattlefmt::skip]
 const COMMENTS: &[(&str, &str)] = &[
     ("001001", "  # WMO BLOCK NUMBER [Numeric]"), ("001015", "  # STATION OR SITE NAME [CCITT IA5]"),
@@ -218,7 +222,7 @@ fn comment_of(item: &str) -> &'static str {
     ""
 }
 
-/// Appends the lines of a subset. `;` separates its items.
+/// Appends the lines of a subset. A `;` separates the items of a subset.
 fn push_subset(rt: &impl Runtime, text: &mut String, subset: u16, items: &str, dumped: bool) {
     let line = ok(rt, format!(in rt.alloc(); "subset {subset}\n"));
     ok(rt, text.push_str(line.as_str()));
@@ -234,8 +238,8 @@ fn push_subset(rt: &impl Runtime, text: &mut String, subset: u16, items: &str, d
     }
 }
 
-/// Returns the text of a message from `message_of`. `|` separates the items of its subsets. If
-/// `dumped` is set, the items have the comments of a dump.
+/// Returns the document for a message from `message_of`. A `|` separates subsets, and a `;`
+/// separates the items of a subset. If `dumped` is set, the items have comments, as in a dump.
 fn text_with(
     rt: &impl Runtime,
     subsets: u16,
@@ -258,7 +262,7 @@ fn text_with(
     text
 }
 
-/// Returns the text of a message with these items, without comments.
+/// Returns the document for a message with the given items, without comments.
 pub(crate) fn text_of(
     rt: &impl Runtime,
     subsets: u16,
@@ -269,7 +273,7 @@ pub(crate) fn text_of(
     text_with(rt, subsets, flags, (descriptors, items), false)
 }
 
-/// Returns the dump of a message with these items.
+/// Returns the dump of a message with the given items.
 pub(crate) fn dump_of(
     rt: &impl Runtime,
     subsets: u16,
@@ -280,41 +284,42 @@ pub(crate) fn dump_of(
     text_with(rt, subsets, flags, (descriptors, items), true)
 }
 
-/// The line of `ls` for the message with one block number, without its offset.
+/// The line that `ls` prints for `ONE_BLOCK_NUMBER`, without the offset.
 const LINE_OF_ONE: &str = "\
     length=48 edition=4 centre=98/0 update=0 category=0/0/0 tables=0/14/0 \
     time=2024-01-02T03:04:05 subsets=1 observed=1 compressed=0 optional=0 descriptors=1\n";
 
-/// Returns that line with this offset.
+/// Returns the line that `ls` prints for `ONE_BLOCK_NUMBER` at the given offset.
 pub(crate) fn line_of_one(rt: &impl Runtime, offset: &str) -> String {
     ok(rt, format!(in rt.alloc(); "offset={offset} {LINE_OF_ONE}"))
 }
 
-/// Returns the dump of the message with one block number.
+/// Returns the dump of `ONE_BLOCK_NUMBER`.
 pub(crate) fn text_of_one(rt: &impl Runtime) -> String {
     dump_of(rt, 1, PLAIN, "001001", "001001 10")
 }
 
-/// Returns a message of 54 octets with a delayed replication of two block numbers.
+/// Returns a message that is 54 octets long. The data contain a delayed replication of two block
+/// numbers.
 pub(crate) fn delayed_twice(rt: &impl Runtime) -> Vec<u8> {
     message_of_hex(rt, 1, PLAIN, "101000 031001 001001", "02142C")
 }
 
-/// Returns the message with one block number as edition 2, which is rejected.
+/// Returns `ONE_BLOCK_NUMBER` with edition number 2, so that it is rejected.
 pub(crate) fn of_edition_2(rt: &impl Runtime) -> Vec<u8> {
     let rest = ONE_BLOCK_NUMBER.get(8..).unwrap_or(b"");
     joined(rt, &[b"BUFR\x00\x00\x30\x02", rest])
 }
 
-/// Returns the messages of the bulletins below that are accepted.
+/// Returns the accepted messages in the stream from `bulletins`.
 pub(crate) fn messages_of_bulletins(rt: &impl Runtime) -> Vec<u8> {
     let delayed = delayed_twice(rt);
     joined(rt, &[ONE_BLOCK_NUMBER, &delayed, COMPRESSED, LOCAL_USE])
 }
 
-/// Returns the stream in `examples/bulletins.bufr`, 305 octets: a heading and four accepted
-/// messages. After the second message comes a stray, after the third a message of edition 2, and
-/// after the last a stray with a short length.
+/// Returns the octets of `examples/bulletins.bufr`. The stream is 305 octets long, begins with a
+/// heading, and contains four accepted messages. A stray follows the second message, an edition 2
+/// message follows the third, and a stray that declares a short length follows the fourth.
 pub(crate) fn bulletins(rt: &impl Runtime) -> Vec<u8> {
     let delayed = delayed_twice(rt);
     let refused = of_edition_2(rt);
@@ -327,7 +332,7 @@ pub(crate) fn bulletins(rt: &impl Runtime) -> Vec<u8> {
     joined(rt, &[&first, &second, LOCAL_USE, short])
 }
 
-/// The descriptors of 32 nested groups.
+/// The descriptors of 32 nested groups. The innermost group contains one element.
 pub(crate) const THIRTY_TWO_GROUPS: &str = "\
     132001 131001 130001 129001 128001 127001 126001 125001 124001 123001 122001 121001 120001 \
     119001 118001 117001 116001 115001 114001 113001 112001 111001 110001 109001 108001 107001 \

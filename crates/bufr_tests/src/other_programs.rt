@@ -1,5 +1,5 @@
-//! Other programs that use the crates: one that lists messages, one that reads an element, and one
-//! that builds a message.
+//! Other programs that use the crates. One program lists messages, one reads the values of an
+//! element, and one builds a message.
 
 use crate::messages::{LOCAL_USE, ONE_BLOCK_NUMBER, STRAY, line_of_one, text_of_one};
 use crate::runs::writer;
@@ -13,7 +13,8 @@ use bufr_text::{DumpReader, encode_document, write_ls};
 use bufr_walk::{ItemView, Steps, Value, Visitor, read_message};
 use std::alloc::AllocError;
 
-/// Writes the line of a message. A finder returns frames of at least 12 octets.
+/// Writes the line that `ls` prints for a message. The finder never returns a frame that is shorter
+/// than 12 octets.
 fn list_message(rt: &impl Runtime, offset: u64, octets: &[u8], output: &mut ScriptOut) {
     assert!(rt; octets.len() >= 12);
     if let Ok(message) = Message::parse(octets) {
@@ -21,8 +22,8 @@ fn list_message(rt: &impl Runtime, offset: u64, octets: &[u8], output: &mut Scri
     }
 }
 
-/// Lists a stream. Every event except the end passes at least one octet, so the number of events is
-/// limited.
+/// Lists the messages in a stream. Each event before the end of the stream consumes at least one
+/// octet, so the stream contains at most as many events as octets.
 fn list(rt: &impl Runtime, stream: &[u8], output: &mut ScriptOut) {
     let mut input = ScriptIn::new(stream, 4096, None);
     let mut finder = Finder::new(rt.alloc());
@@ -45,7 +46,7 @@ fn lists_the_messages_in_a_stream(rt: HostRuntime) {
     assert_same(&rt, &output.taken(), &want.as_slice(), &"lines");
 }
 
-/// A visitor that collects the numbers of one element.
+/// A visitor that collects the numeric values of one element.
 #[derive(Drop)]
 struct Numbers {
     fxy: Fxy,
@@ -70,7 +71,7 @@ impl Visitor for Numbers {
     }
 }
 
-/// Shows the data of a message to a visitor.
+/// Passes the items of a message to a visitor.
 fn show(rt: &impl Runtime, octets: &[u8], numbers: &mut Numbers) {
     let message = parsed(rt, octets);
     let (template, b) = (template_for(rt, &message), table_b(rt));
@@ -81,7 +82,7 @@ fn show(rt: &impl Runtime, octets: &[u8], numbers: &mut Numbers) {
 }
 
 #[test]
-fn reads_one_element_of_every_message(rt: HostRuntime) {
+fn reads_one_element_from_every_message(rt: HostRuntime) {
     let fxy = some(&rt, Fxy::read(b"001001"));
     let found = Vec::new(rt.alloc());
     let mut numbers = Numbers { fxy, found };
@@ -92,7 +93,7 @@ fn reads_one_element_of_every_message(rt: HostRuntime) {
     assert_same(&rt, &found, &[10, 10].as_slice(), &"001001");
 }
 
-/// Returns the octets of the message for the document in a text.
+/// Reads the first document from `text`, and returns the octets of its message.
 fn message_of(rt: &impl Runtime, text: &[u8]) -> Vec<u8> {
     let mut input = ScriptIn::new(text, 4096, None);
     let mut reader = DumpReader::new(rt.alloc());

@@ -1,4 +1,4 @@
-//! Tests of parsing command lines, and of what the program does with inputs in memory.
+//! Tests of parsing command lines, and of running the program with inputs in memory.
 
 use crate::messages::{ONE_BLOCK_NUMBER, line_of_one, table_b, table_d, text_of_one};
 use crate::runs::writer;
@@ -37,7 +37,8 @@ const TABLES: TableNames<'static> = TableNames {
     table_d: "d.csv",
 };
 
-// Arguments of a command that takes tables, and its FILE. The tables are always the same.
+// Arguments of a command that needs tables, each with the expected FILE. The expected tables are
+// the same in every row.
 #[rattlefmt::skip]
 static ARGUMENTS: &[(&[&str], Option<&str>)] = &[
     (&["-B", "b.csv", "-D", "d.csv"], None),
@@ -47,7 +48,7 @@ static ARGUMENTS: &[(&[&str], Option<&str>)] = &[
     (&["-B", "b.csv", "-D", "d.csv", "--", "-B"], Some("-B")),
 ];
 
-// Arguments of `encode`, and the form that they specify.
+// Lists of arguments for `encode`, each with the form that it specifies.
 #[rattlefmt::skip]
 static FORMS: &[(&[&str], Form)] = &[
     (&["-B", "b.csv", "-D", "d.csv", "--form", "plain"], Form::Plain),
@@ -74,7 +75,7 @@ fn parses_command_lines(rt: HostRuntime) {
     }
 }
 
-/// Returns the usage text for an invalid command line.
+/// Returns the usage error for an invalid command line.
 fn usage_of(rt: &impl Runtime, words: &[&str]) -> String {
     match parse_line(rt.alloc(), words) {
         Err(LineFault::Usage(text)) => text,
@@ -87,7 +88,7 @@ fn assert_usage(rt: &impl Runtime, words: &[&str], part: &str) {
     assert_that(rt, text.as_str().contains(part), &text);
 }
 
-// Invalid command lines, and a part of the usage text.
+// Invalid command lines, each with a part of the expected usage error.
 #[rattlefmt::skip]
 static MISTAKEN: &[(&[&str], &str)] = &[
     (&["bufr"], "Usage: bufr <COMMAND>"),
@@ -98,7 +99,7 @@ static MISTAKEN: &[(&[&str], &str)] = &[
     (&["bufr", "encode", "-B", "b", "-D", "d", "--form", "plain", "--form", "plain"], "cannot be used multiple times"),
 ];
 
-// Words that are not valid after `--form`.
+// Invalid values of the option `--form`.
 static NO_FORMS: &[&str] = &["other", "", "Plain", "plain ", "compress"];
 
 #[test]
@@ -114,7 +115,8 @@ fn rejects_invalid_command_lines(rt: HostRuntime) {
     }
 }
 
-// Arguments that are invalid for every command with tables, and a part of the usage text.
+// Arguments that are invalid for every command that needs tables, each with a part of the expected
+// usage error.
 #[rattlefmt::skip]
 static MISTAKEN_ARGUMENTS: &[(&[&str], &str)] = &[
     (&["-B", "b", "-D", "d", "--long"], "unexpected argument '--long' found"),
@@ -126,14 +128,14 @@ static MISTAKEN_ARGUMENTS: &[(&[&str], &str)] = &[
 
 #[test]
 // rule: usage
-fn rejects_invalid_arguments_of_dump_and_encode(rt: HostRuntime) {
+fn rejects_invalid_arguments_for_dump_and_encode(rt: HostRuntime) {
     for (arguments, part) in MISTAKEN_ARGUMENTS {
         assert_usage(&rt, line_of(&rt, "dump", *arguments).as_slice(), *part);
         assert_usage(&rt, line_of(&rt, "encode", *arguments).as_slice(), *part);
     }
 }
 
-/// Calls the program. This function has no contract, so the proof of a test does not involve the
+/// Runs the program. This function has no contract, so the proof of a test does not involve the
 /// contract of `run`.
 fn call<'a, I: Inputs, W: Sink, E: Sink>(
     alloc: Global,
@@ -145,12 +147,12 @@ fn call<'a, I: Inputs, W: Sink, E: Sink>(
     run(alloc, words, inputs, w, e)
 }
 
-/// Returns the text that was written.
+/// Returns the text that was written to `writer`.
 fn text_on<'a>(rt: &impl Runtime, writer: &'a ScriptOut) -> &'a str {
     ok(rt, str::from_utf8(writer.taken()))
 }
 
-/// The status of a call, and its writers.
+/// The exit status of the program, and what it wrote to its output and error output.
 #[derive(Drop)]
 struct Reply {
     status: u8,
@@ -158,7 +160,8 @@ struct Reply {
     errors: ScriptOut,
 }
 
-/// Calls the program with an output that has this end.
+/// Runs the program with an output of 4,096 octets. `end` specifies what happens if the output is
+/// full or flushed.
 fn reply_to<'a, I: Inputs>(
     rt: &impl Runtime,
     words: &'a [&'static str],
@@ -193,7 +196,7 @@ fn assert_called<'a, I: Inputs>(
     assert_contains(rt, text_on(rt, &reply.errors), errors);
 }
 
-/// A file. If it is torn, reading fails at the end of its octets.
+/// A file. If `torn` is set, reads fail after the last octet.
 #[derive(Drop)]
 struct Page<'a> {
     octets: &'a [u8],
@@ -209,7 +212,8 @@ impl<'a> Read for Page<'a> {
     }
 }
 
-/// Inputs in memory: tables, the file `one`, torn files and standard input.
+/// Inputs in memory: two valid tables and an invalid one, the file `one`, files that cannot be read
+/// to their end, and standard input.
 #[derive(Drop)]
 struct Library<'a> {
     one: &'a [u8],
@@ -249,13 +253,13 @@ impl<'a> Inputs for Library<'a> {
     }
 }
 
-/// Inputs whose standard input and file `one` contain the message with one block number.
+/// Inputs in which both standard input and the file `one` contain the message `ONE_BLOCK_NUMBER`.
 const ONE: Library<'static> = Library {
     one: ONE_BLOCK_NUMBER,
     standard: ONE_BLOCK_NUMBER,
 };
 
-/// The line that reports a failed write.
+/// The line that the program prints if a write fails.
 const WRITE_FAILED: &str = "bufr: 71 write failed\n";
 
 fn assert_shown(rt: &impl Runtime, words: &'static [&'static str]) {
@@ -276,7 +280,7 @@ fn shows_help(rt: HostRuntime) {
     assert_shown(&rt, &["bufr", "encode", "--help"]);
 }
 
-// Command lines, the status, the output, and a part of the error output.
+// Each row contains a command line, the exit status, the output, and a part of the error output.
 #[rattlefmt::skip]
 static CALLED: &[(&[&str], u8, &str, &str)] = &[
     (&["bufr", "ls", "two"], 2, "", "bufr: cannot open two\n"),
@@ -286,7 +290,8 @@ static CALLED: &[(&[&str], u8, &str, &str)] = &[
     (&["bufr", "ls", "one", "two"], 2, "", "unexpected argument 'two' found"),
 ];
 
-/// The file `one` contains a stray before the message.
+/// Tests command lines that need no tables. The test file `one` contains a stray `BUFR` followed by
+/// a message.
 #[test]
 // rule: dash-is-a-name, status-of-help, status-of-usage, version
 fn runs_command_lines_without_tables(rt: HostRuntime) {
@@ -315,9 +320,10 @@ fn runs_command_lines_without_tables(rt: HostRuntime) {
     }
 }
 
-// Each row contains the arguments of a command that takes tables, the status, whether its output is
-// written, and a part of the error output (`None` for that of the file `one`). Table B is read
-// first, then Table D, and then FILE.
+// Each row contains the arguments of a command that needs tables, the exit status, whether the
+// command writes its output, and a part of the error output. For the file `one`, the error output
+// depends on the command, and the row contains `None`. The program reads Table B first, then Table
+// D, and then FILE.
 #[rattlefmt::skip]
 static RUNS: &[(&[&str], u8, bool, Option<&str>)] = &[
     (&["-B", "b.csv", "-D", "d.csv"], 0, true, Some("")),
@@ -334,8 +340,9 @@ static RUNS: &[(&[&str], u8, bool, Option<&str>)] = &[
     (&["-D", "d.csv"], 2, false, Some("required arguments were not provided")),
 ];
 
-/// Asserts what a command does with each of these arguments. `output` is what it writes if it
-/// completes, and `errors` is a part of the error output for the file `one`.
+/// Asserts the exit status and the output of a command for the arguments in each row. `output` is
+/// the output of the command if it completes, and `errors` is part of the error output for the file
+/// `one`.
 fn assert_runs(
     rt: &impl Runtime,
     runs: &[(&'static [&'static str], u8, bool, Option<&'static str>)],
@@ -351,7 +358,8 @@ fn assert_runs(
     }
 }
 
-/// The file `one` contains a stray before the message.
+/// Tests command lines of `dump`. The test file `one` contains a stray `BUFR` followed by a
+/// message.
 #[test]
 // rule: tables-before-input, table-not-read
 fn runs_dump_command_lines(rt: HostRuntime) {
@@ -362,7 +370,7 @@ fn runs_dump_command_lines(rt: HostRuntime) {
     assert_runs(&rt, RUNS, "dump", &mut library, want)
 }
 
-/// The file `one` contains a misplaced line after the document.
+/// The test file `one` contains a document followed by a misplaced line.
 #[test]
 // rule: tables-before-input
 fn runs_encode_command_lines(rt: HostRuntime) {
@@ -376,7 +384,7 @@ fn runs_encode_command_lines(rt: HostRuntime) {
     assert_runs(&rt, RUNS, "encode", &mut library, want)
 }
 
-/// Returns the status of a call whose output is the program's own writer, on octets in memory.
+/// Runs the program with a buffered writer that flushes to `octets`. Returns the exit status.
 fn status_on(
     rt: &impl Runtime,
     words: &[&'static str],
@@ -406,8 +414,7 @@ fn assert_flushed(
     assert_same(rt, &octets.as_slice(), &output, &command);
 }
 
-/// If a read fails, the octets in a buffered writer are flushed to its device before the writer is
-/// dropped.
+/// If a read fails, the program flushes its buffered output before it drops the writer.
 #[test]
 fn flushes_output_if_a_read_fails(rt: HostRuntime) {
     let (line, text) = (line_of_one(&rt, "0"), text_of_one(&rt));
@@ -418,7 +425,7 @@ fn flushes_output_if_a_read_fails(rt: HostRuntime) {
     assert_flushed(&rt, "encode", arguments, text, ONE_BLOCK_NUMBER);
 }
 
-/// A full writer, which counts its calls from the first write on.
+/// A full writer that counts the calls to `write`, and the calls to `flush` after the first write.
 #[derive(Drop)]
 struct Full<'a> {
     calls: &'a Cell<usize>,
@@ -438,8 +445,8 @@ impl<'a> Write for Full<'a> {
     }
 }
 
-/// Returns the status of a call whose output is the program's own writer with this capacity, on a
-/// full writer. Flushes and drops the program's writer.
+/// Runs the program with a buffered writer of the given capacity, which flushes to a full writer.
+/// Afterwards, flushes and drops the buffered writer. Returns the exit status.
 fn status_if_full(
     rt: &impl Runtime,
     words: &[&'static str],
@@ -479,8 +486,7 @@ fn assert_tried_once(
     assert_one_call(rt, words.as_slice(), &mut inputs, 1000);
 }
 
-/// A failed write is not tried again, neither by the run nor by a flush, nor when the writer is
-/// dropped.
+/// A failed write is not retried by the program, by a flush, or when the writer is dropped.
 #[test]
 fn does_not_retry_a_failed_write(rt: HostRuntime) {
     let text = text_of_one(&rt);
@@ -490,7 +496,8 @@ fn does_not_retry_a_failed_write(rt: HostRuntime) {
     assert_tried_once(&rt, "encode", arguments, text.as_bytes());
 }
 
-/// Reads all octets of a message that arrives in parts, from a reader that may fail.
+/// Reads all octets of a message from a reader that returns up to seven octets at a time. If
+/// `fails_at` is set, reads fail from offset `fails_at` on.
 fn read_all_in_parts(rt: &impl Runtime, fails_at: Option<usize>) -> Result<Vec<u8>, RunFault> {
     let mut r = ScriptIn::new(ONE_BLOCK_NUMBER, 7, fails_at);
     read_all(rt.alloc(), &mut r)

@@ -1,4 +1,4 @@
-//! Tests of reading dumps, with readers that return 1, 3 or 4,096 octets at a time.
+//! Tests of reading documents from readers that return up to 1, 3 or 4,096 octets at a time.
 
 use crate::encode_tests::document_of;
 use crate::messages::{HEAD, ONE_BLOCK_NUMBER, text_of_one};
@@ -9,11 +9,11 @@ use bufr_bits::{Device, ScriptIn, Source};
 use bufr_frame::{Message, RunFault};
 use bufr_text::{Document, DumpReader, ReadFault, TextLineFault, laws};
 
-/// Values of the maximum number of octets in a read.
+/// For each trial, the maximum number of octets that a read returns.
 const STEPS: [usize; 3] = [1, 3, 4096];
 
-/// What a call returns: the number of entries of a document and the line where it begins, a fault,
-/// or the end.
+/// The result of a call to `next_document`: the number of entries in a document and the number of
+/// its first line, a fault, or the end of the input.
 #[derive(Clone, Copy, Debug, PartialEq, Eq)]
 enum Next {
     Read(usize, u64),
@@ -25,8 +25,8 @@ enum Next {
 use Next::{Done, Failed, Read, Refused};
 use TextLineFault::{HeaderRange, NotAllowed, SubsetCount};
 
-/// Returns the document with one block number, with this text in place of a line. Lines are
-/// numbered from 1.
+/// Returns the document for `ONE_BLOCK_NUMBER` with one line replaced by `text`. `number` is the
+/// number of the replaced line, counted from 1.
 fn with_line(rt: &impl Runtime, number: usize, text: &[u8]) -> Vec<u8> {
     let document = text_of_one(rt);
     let mut octets = Vec::new(rt.alloc());
@@ -44,12 +44,12 @@ fn with_line(rt: &impl Runtime, number: usize, text: &[u8]) -> Vec<u8> {
     octets
 }
 
-/// Returns the number of entries of a document and the line where it begins.
+/// Returns the result of a call that reads the given document.
 fn read_as(document: &Document) -> Next {
     Read(document.entries(), document.line())
 }
 
-/// Returns what the reader returns next.
+/// Returns the result of the next call to the reader.
 fn next_of<R: Source>(reader: &mut DumpReader, r: &mut R) -> Next {
     match reader.next_document(r) {
         Ok(None) => Done,
@@ -90,7 +90,7 @@ fn assert_read(rt: &impl Runtime, text: &[u8], fails_at: Option<usize>, wanted: 
     }
 }
 
-/// Returns the line that `encode` writes for a fault.
+/// Returns the fault line that `encode` prints.
 fn line_of(rt: &impl Runtime, line: u64, fault: TextLineFault) -> String {
     let text = match fault {
         NotAllowed => "50 line",
@@ -111,8 +111,8 @@ fn assert_document(rt: &impl Runtime, text: &[u8], want: Next) {
     }
 }
 
-// Each row contains a line number, the expected result, and texts to replace the line. Valid texts
-// are listed next to the invalid texts that are most similar to them.
+// Each row contains a line number, the expected result, and strings to replace the line. Valid
+// strings are listed next to the invalid strings that are most similar to them.
 #[rattlefmt::skip]
 static RULES: &[(usize, Next, &[&[u8]])] = &[
     (25, Refused(25, SubsetCount), &[b"subset 2\n001001 10\nend\n"]),
@@ -172,20 +172,21 @@ fn accepts_valid_lines_and_rejects_invalid_ones(rt: HostRuntime) {
     }
 }
 
-/// Returns a document without subsets, with these lines of octets.
+/// Returns a document without subsets. `lines` contains the document's lines with octets for local
+/// use.
 fn with_octets(rt: &impl Runtime, lines: &[u8]) -> Vec<u8> {
     let counts: &[u8] = b"observed 1\ncompressed 0\noptional 1\nsubsets 0\n";
     let end: &[u8] = b"descriptors 001001\nend\n";
     joined(rt, &[HEAD.as_bytes(), counts, lines, end])
 }
 
-/// Returns a line that consists of a word and `count` digits.
+/// Returns a line that consists of a word and the given number of digits.
 fn line_of_digits(rt: &impl Runtime, word: &[u8], count: usize) -> Vec<u8> {
     let digits = repeated(rt, b"9", count);
     joined(rt, &[word, &digits, b"\n"])
 }
 
-/// Asserts that lines of octets have at most 64 digits, and an even number of them.
+/// Asserts that the number of hexadecimal digits in a line must be even and at most 64.
 fn assert_octet_lines(rt: &impl Runtime, word: &[u8]) {
     for (count, want) in [
         (64, Read(0, 1)),
@@ -204,8 +205,8 @@ fn checks_length_of_hexadecimal_lines(rt: HostRuntime) {
     assert_octet_lines(&rt, b"section2 ")
 }
 
-// Each row contains a line number, a word and the number of digits after it, which together replace
-// the line, and the expected result.
+// Each row contains the number of a line to replace, a word and a number of digits that form the
+// new line, and the expected result.
 #[rattlefmt::skip]
 static LONG_LINES: &[(usize, &[u8], usize, Next)] = &[
     (4, b"centre ", 4089, Refused(4, HeaderRange)),
@@ -215,11 +216,11 @@ static LONG_LINES: &[(usize, &[u8], usize, Next)] = &[
     (24, b"001001 10\n#", 4096, Refused(25, NotAllowed)),
 ];
 
-/// Lines of up to 4,096 octets are read. A longer line is rejected without looking for its line
-/// feed.
+/// The maximum length of a line is 4,096 octets. A longer line is rejected before its line feed is
+/// read.
 #[test]
 // rule: reading-longest-line, reading-header-number
-fn reads_lines_of_up_to_4096_octets(rt: HostRuntime) {
+fn reads_lines_with_up_to_4096_octets(rt: HostRuntime) {
     for (number, word, count, want) in LONG_LINES {
         let line = line_of_digits(&rt, word, *count);
         assert_document(&rt, &with_line(&rt, *number, &line), *want);
@@ -228,10 +229,10 @@ fn reads_lines_of_up_to_4096_octets(rt: HostRuntime) {
     assert_read(&rt, &note, Some(4097), &[Refused(1, NotAllowed)]);
 }
 
-/// The length of the document in octets.
+/// The length of the document for `ONE_BLOCK_NUMBER` in octets.
 const WHOLE: usize = 300;
 
-/// Line numbers continue from document to document. Blank lines and comments may come between
+/// Line numbers continue from document to document. Blank lines and comments are allowed between
 /// documents.
 #[test]
 // rule: reading-between-documents, reading-line-numbers
@@ -247,7 +248,8 @@ fn reads_several_documents(rt: HostRuntime) {
     assert_read(&rt, &refused, None, &[Read(2, 1), Refused(26, NotAllowed)]);
 }
 
-/// A document is returned before the read after it fails.
+/// If a read fails after the end of a document, the reader first returns the document, and then
+/// reports the fault.
 #[test]
 fn returns_complete_documents_before_a_failed_read(rt: HostRuntime) {
     let two = repeated(&rt, text_of_one(&rt).as_bytes(), 2);
@@ -283,14 +285,14 @@ fn reads_header_counts_and_descriptors(rt: HostRuntime) {
 }
 
 #[test]
-fn reads_local_use(rt: HostRuntime) {
+fn reads_octets_for_local_use(rt: HostRuntime) {
     let text = with_octets(&rt, b"local1 01\nlocal1 0203\nsection2 ab\n");
     let document = document_of(&rt, &text);
     assert_octets(&rt, &document, b"\x01\x02\x03", Some(b"\xAB"));
     assert_counts(&rt, &document, (true, false, 0, 0));
 }
 
-/// Each item and each end of a subset is an entry.
+/// Each item is an entry, and the end of each subset is also an entry.
 #[test]
 fn counts_items_and_subset_ends_as_entries(rt: HostRuntime) {
     let lines = b"001001 10  # note\n205001 \"\\x0A\"\n012101 MISSING\nR 012101 -400\n";
@@ -302,7 +304,7 @@ fn counts_items_and_subset_ends_as_entries(rt: HostRuntime) {
     assert_counts(&rt, &document, (false, true, 2, 4));
 }
 
-// Faults of reading, with their numbers and texts.
+// Faults in reading documents, each with its number and description.
 #[rattlefmt::skip]
 static FAULTS: &[(ReadFault, u8, &str)] = &[
     (ReadFault::Line(3, NotAllowed), 50, "line"),
@@ -312,7 +314,7 @@ static FAULTS: &[(ReadFault, u8, &str)] = &[
 ];
 
 #[test]
-fn read_faults_have_numbers_and_texts(rt: HostRuntime) {
+fn reports_number_and_text_for_read_fault(rt: HostRuntime) {
     for (fault, number, text) in FAULTS {
         let shown = ok(&rt, format!(in rt.alloc(); "{fault}"));
         assert_same(
@@ -325,7 +327,7 @@ fn read_faults_have_numbers_and_texts(rt: HostRuntime) {
 }
 
 #[test]
-fn laws_can_be_called() {
+fn law_functions_accept_valid_arguments() {
     laws::dump_text_spells_its_document();
     laws::texts_are_their_documents();
     laws::calls_compose();
@@ -333,12 +335,13 @@ fn laws_can_be_called() {
     laws::none_comes_again();
 }
 
-/// Returns what a reader of octets in memory returns next.
+/// Returns the result of the next call to the reader, whose input is in memory.
 fn next_in(reader: &mut DumpReader, unread: &mut &[u8]) -> Next {
     next_of(reader, &mut Device::new(unread))
 }
 
-/// Octets that were read after the last line of a document are buffered, and no others.
+/// After a call, the reader buffers only the octets that were read after the last line of the
+/// document.
 #[test]
 fn buffers_only_octets_after_a_document(rt: HostRuntime) {
     let text = repeated(&rt, text_of_one(&rt).as_bytes(), 1000);
@@ -355,7 +358,8 @@ fn buffers_only_octets_after_a_document(rt: HostRuntime) {
     assert_that(&rt, unread.is_empty() && reader.held() == 0, &taken);
 }
 
-/// If the last line has no line feed, its own octets are buffered, and no others.
+/// If the last line of the input has no line feed, the reader buffers only the octets of the last
+/// line.
 #[test]
 fn buffers_last_line_without_line_feed(rt: HostRuntime) {
     let text = joined(&rt, &[text_of_one(&rt).as_bytes(), b"# note"]);
@@ -373,7 +377,8 @@ fn assert_reused<R: Source>(rt: &impl Runtime, reader: &mut DumpReader, r: &mut 
     reader.reuse(document);
 }
 
-/// A document can reuse the memory of the previous one, whether it is longer or shorter.
+/// A document can reuse the memory of the previous document, whether that document was longer or
+/// shorter.
 #[test]
 fn reuses_memory_of_previous_document(rt: HostRuntime) {
     let one = text_of_one(&rt);

@@ -1,4 +1,4 @@
-//! Tests of whole runs of `ls`, `dump` and `encode`.
+//! Tests of complete runs of `ls`, `dump` and `encode`.
 
 use crate::messages::{
     COMPRESSED, EDITION_3, LOCAL_USE, ONE_BLOCK_NUMBER, PLAIN, bulletins, delayed_twice,
@@ -27,8 +27,8 @@ fn rejects_message_cut_at_any_offset(rt: HostRuntime) {
     assert_cut_anywhere(&rt, Dump, "edition 3", EDITION_3)
 }
 
-/// A reader that returns a message in each of two reads, and records at each read how many octets
-/// have been written.
+/// A reader that returns one message in each of its first two reads. At each read, the reader
+/// records how many octets have been written.
 #[derive(Drop)]
 struct Watching<'a> {
     octets: &'a Cell<usize>,
@@ -50,7 +50,7 @@ impl<'a> Read for Watching<'a> {
     }
 }
 
-/// Each line is written whole, in a single write, before the next message is read.
+/// Each line is written in a single write, before the next message is read.
 #[test]
 fn writes_each_line_before_the_next_read(rt: HostRuntime) {
     let (first, second) = (line_of_one(&rt, "0").len(), line_of_one(&rt, "48").len());
@@ -74,7 +74,8 @@ fn writes_each_line_before_the_next_read(rt: HostRuntime) {
     assert_same(&rt, &(writes.get(), torn.get()), &(2, false), &"writes");
 }
 
-/// An empty input is accepted, both in memory and with a reader and writers from std.
+/// An empty input is accepted, whether the readers and writers are from the tests or from the
+/// standard library.
 #[test]
 // rule: input-without-bufr
 fn accepts_an_empty_input(rt: HostRuntime) {
@@ -88,8 +89,8 @@ fn accepts_an_empty_input(rt: HostRuntime) {
     }
 }
 
-/// Asserts what runs write if a read or the output fails. `one` is a message or a document, and
-/// `first` and `second` are the outputs for two of them in a row.
+/// Asserts what a run writes before a read or a write fails. `one` is a message or a document, and
+/// `first` and `second` are the expected outputs if the input contains `one` twice.
 fn assert_pair_stops(
     rt: &impl Runtime,
     command: Command,
@@ -101,8 +102,8 @@ fn assert_pair_stops(
     assert_stops_at_output(rt, accepted(command, "one", one, first))
 }
 
-/// If a read fails or is interrupted, or the output ends, everything that was certain before is
-/// written.
+/// If a read fails or is interrupted, the run still writes everything that was already certain. A
+/// full output contains the octets that fit into it.
 #[test]
 // rule: fault-70, fault-71
 fn lists_complete_messages_before_a_failure(rt: HostRuntime) {
@@ -126,18 +127,18 @@ fn encodes_complete_documents_before_a_failure(rt: HostRuntime) {
 }
 
 #[test]
-fn reports_stray_before_the_message_after_it(rt: HostRuntime) {
+fn reports_stray_bufr_word_before_following_message(rt: HostRuntime) {
     let (line, text) = (line_of_one(&rt, "8"), text_of_one(&rt));
     assert_stops_after_a_stray(&rt, Ls, ONE_BLOCK_NUMBER, line.as_bytes());
     assert_stops_after_a_stray(&rt, Dump, ONE_BLOCK_NUMBER, text.as_bytes())
 }
 
-/// Returns a document that is rejected at its line 24.
+/// Returns a document whose line 24 is invalid.
 fn rejected_text(rt: &impl Runtime) -> String {
     text_of(rt, 1, PLAIN, "012101", "012101 288.155")
 }
 
-/// If the error output ends, the messages before a rejected document are written.
+/// If the error output is full, the run still writes the messages before a rejected document.
 #[test]
 fn stops_if_error_output_fails(rt: HostRuntime) {
     let line = b"offset 0: 1 cut\n";
@@ -156,7 +157,7 @@ fn stops_if_error_output_fails(rt: HostRuntime) {
     assert_stops_at_errors(&rt, run, b"")
 }
 
-/// The run stops at the first document that is rejected, and does not read what follows it.
+/// The run stops at the first rejected document, and does not read the remaining input.
 #[test]
 // rule: first-refusal-ends
 fn stops_at_the_first_rejected_document(rt: HostRuntime) {
@@ -172,7 +173,8 @@ fn stops_at_the_first_rejected_document(rt: HostRuntime) {
     assert_ran(&rt, &Task::new(&rt, Encode), run, devices)
 }
 
-/// If the output cannot be flushed, both writers keep everything that they took.
+/// If the output cannot be flushed, the output and the error output still contain everything that
+/// was written to them.
 #[test]
 fn keeps_written_octets_after_a_failed_flush(rt: HostRuntime) {
     let text = joined(&rt, &[text_of_one(&rt).as_bytes(), b"end\n"]);
@@ -184,7 +186,7 @@ fn keeps_written_octets_after_a_failed_flush(rt: HostRuntime) {
     assert_ran(&rt, &Task::new(&rt, Encode), run, devices)
 }
 
-/// At the end of an input, both writers are flushed, whether or not anything was written to them.
+/// At the end of the input, the run flushes both writers, even if nothing was written to them.
 #[test]
 fn fails_if_either_writer_cannot_be_flushed(rt: HostRuntime) {
     for command in [Ls, Dump, Encode] {
@@ -199,11 +201,13 @@ fn fails_if_either_writer_cannot_be_flushed(rt: HostRuntime) {
     assert_fails_to_flush(&rt, stray)
 }
 
-/// The octets, up to its data, of an edition 3 message of 16,777,214 octets with an odd section 3.
+/// The beginning of an edition 3 message, up to and including the length of section 4. The message
+/// is 16,777,214 octets long, and its section 3 has an odd length.
 const LONG: &str =
     "42554652FFFFFE03 000012000062000000000E00180102030400 000009000001800101 FFFFD7";
 
-/// `ls` also rejects a message that would be too long with even sections.
+/// Like `Message::parse`, `ls` rejects a message that would be too long after its sections are
+/// padded to even lengths.
 #[test]
 // rule: fault-14
 fn ls_rejects_long_message_with_odd_section(rt: HostRuntime) {
@@ -215,19 +219,20 @@ fn ls_rejects_long_message_with_odd_section(rt: HostRuntime) {
 }
 
 #[test]
-fn laws_can_be_called() {
+fn law_functions_accept_valid_arguments() {
     laws::dumped_streams_are_built_again();
     laws::runs_close_the_round();
     laws::encoded_texts_are_dumped_in_one_spelling();
 }
 
-/// Dumps a stream, encodes the dump, and dumps the result.
+/// Dumps a stream, encodes the dump, and dumps the resulting messages.
 fn round_trip_of(rt: &impl Runtime, stream: &[u8]) -> Round {
     let task = Task::new(rt, Dump);
     dump_encode_dump(rt.alloc(), stream, 4096, &task.b, &task.d).expect(rt, "a round")
 }
 
-/// The dump of the bulletins is encoded to the four messages, and these have the same dump.
+/// Encoding the dump of the bulletins reproduces the four messages that were accepted. Their dump
+/// is the same.
 #[test]
 fn round_trips_a_stream(rt: HostRuntime) {
     let (messages, round) = (

@@ -1,7 +1,7 @@
-//! Runs of the three commands on devices in memory.
+//! Runs of the three commands with input and outputs in memory.
 //!
 //! The functions here have no contracts, so the proof of a test does not involve the contracts of
-//! runs.
+//! `run_ls`, `run_dump` and `run_encode`.
 
 use crate::messages::STRAY;
 use crate::support::{Runtime, assert_same, joined, ok, some, table_b, table_d};
@@ -14,7 +14,7 @@ use std::alloc::Global;
 use std::cell::Cell;
 use std::io::{self, ErrorKind, Read, Write};
 
-/// The three commands, and `encode` in a form.
+/// The three commands. `EncodeIn` is `encode` with a requested form.
 #[derive(Clone, Copy)]
 pub(crate) enum Command {
     Ls,
@@ -23,12 +23,12 @@ pub(crate) enum Command {
     EncodeIn(Form),
 }
 
-/// Returns the expected counts of a run.
+/// Returns the numbers of accepted and rejected messages or documents that a run should report.
 pub(crate) fn tally(accepted: u64, refused: u64) -> Tally {
     Tally { accepted, refused }
 }
 
-/// A run over an input in memory, and what it should return and write.
+/// The input of a run, and the expected result and output.
 #[derive(Clone, Copy)]
 pub(crate) struct Run<'a> {
     pub(crate) command: Command,
@@ -39,7 +39,7 @@ pub(crate) struct Run<'a> {
     pub(crate) outcome: Result<Tally, RunFault>,
 }
 
-/// Returns a run that accepts one message or document, and writes this output.
+/// Returns a run that should accept one message or document and write the given output.
 pub(crate) fn accepted<'a>(
     command: Command,
     name: &'a str,
@@ -56,7 +56,7 @@ pub(crate) fn accepted<'a>(
     }
 }
 
-/// Returns a run that rejects one message or document, with this fault line.
+/// Returns a run that should reject one message or document and report the given fault line.
 pub(crate) fn refused<'a>(
     command: Command,
     name: &'a str,
@@ -68,7 +68,8 @@ pub(crate) fn refused<'a>(
 }
 
 impl<'a> Run<'a> {
-    /// Returns the run with these expected counts.
+    /// Returns the same run with different expected numbers of accepted and rejected messages or
+    /// documents.
     pub(crate) fn counting(self, accepted: u64, refused: u64) -> Run<'a> {
         Run {
             outcome: Ok(tally(accepted, refused)),
@@ -76,13 +77,13 @@ impl<'a> Run<'a> {
         }
     }
 
-    /// Returns the run with these expected fault lines.
+    /// Returns the same run with different expected fault lines.
     pub(crate) fn with_errors(self, errors: &'a [u8]) -> Run<'a> {
         Run { errors, ..self }
     }
 }
 
-/// A command and the test tables.
+/// A command, with its allocator and the tables for the test messages.
 #[derive(Drop)]
 pub(crate) struct Task {
     pub(crate) alloc: Global,
@@ -102,7 +103,7 @@ impl Task {
     }
 }
 
-/// Lists a stream.
+/// Runs `ls`.
 pub(crate) fn list<R: Source, W: Sink, E: Sink>(
     alloc: Global,
     r: &mut R,
@@ -112,7 +113,7 @@ pub(crate) fn list<R: Source, W: Sink, E: Sink>(
     run_ls(alloc, r, w, e)
 }
 
-/// The result of a run, and its writers.
+/// The result of a run, with the writers that contain its output and error output.
 #[derive(Drop)]
 pub(crate) struct Ran {
     outcome: Result<Tally, RunFault>,
@@ -121,13 +122,13 @@ pub(crate) struct Ran {
 }
 
 impl Ran {
-    /// Returns the octets that the output took.
+    /// Returns the octets that were written to the output.
     pub(crate) fn output(&self) -> &[u8] {
         self.output.taken()
     }
 
-    /// Asserts what the run returned and wrote. `index` only identifies the run if an assertion
-    /// fails.
+    /// Asserts that the result, the output and the error output are as expected. `index` identifies
+    /// the run if an assertion fails.
     pub(crate) fn assert(&self, rt: &impl Runtime, run: Run<'_>, index: usize) {
         let case = (run.name, index);
         assert_same(rt, &self.outcome, &run.outcome, &case);
@@ -136,7 +137,7 @@ impl Ran {
     }
 }
 
-/// Runs a command with a reader and two writers.
+/// Runs a command with the given reader and writers.
 fn run_over<R: Source>(
     task: &Task,
     input: &mut R,
@@ -159,26 +160,28 @@ fn run_over<R: Source>(
     }
 }
 
-/// Returns a writer with this room and end, which takes at most `step` octets at once.
+/// Returns a writer with space for `room` octets that accepts at most `step` octets per write.
+/// `end` specifies how the writer behaves when it is full or flushed.
 pub(crate) fn writer(rt: &impl Runtime, step: usize, (room, end): (usize, End)) -> ScriptOut {
     assert!(rt; step > 0);
     ok(rt, ScriptOut::new(rt.alloc(), room, step, end))
 }
 
-/// How the devices of a run behave.
+/// The behaviour of the reader and the writers in a run.
 #[derive(Clone, Copy)]
 pub(crate) struct Devices {
-    /// The maximum number of octets in a read or a write.
+    /// The maximum number of octets that a read returns or a write accepts.
     pub(crate) step: usize,
-    /// The offset at which a read fails, if any.
+    /// The offset from which reads fail, if any.
     pub(crate) fails_at: Option<usize>,
-    /// The room of the output in octets, and its end.
+    /// The space in the output, in octets, and how the output behaves when it is full or flushed.
     pub(crate) output: (usize, End),
-    /// The same for the error output.
+    /// The space in the error output, in octets, and how the error output behaves when it is full
+    /// or flushed.
     pub(crate) errors: (usize, End),
 }
 
-/// Returns devices with room for 65,536 octets.
+/// Returns devices whose outputs have space for 65,536 octets each.
 pub(crate) fn roomy(step: usize) -> Devices {
     Devices {
         step,
@@ -188,7 +191,7 @@ pub(crate) fn roomy(step: usize) -> Devices {
     }
 }
 
-/// Runs the command of a task on an input, with these devices.
+/// Runs the command of a task with the given input and devices.
 fn run_on(rt: &impl Runtime, task: &Task, input: &[u8], devices: Devices) -> Ran {
     assert!(rt; devices.step > 0);
     let mut r = ScriptIn::new(input, devices.step, devices.fails_at);
@@ -197,7 +200,7 @@ fn run_on(rt: &impl Runtime, task: &Task, input: &[u8], devices: Devices) -> Ran
     run_over(task, &mut r, w, e)
 }
 
-/// Runs a command on an input.
+/// Runs a command with the given input, and with outputs that have space for 65,536 octets each.
 pub(crate) fn run_whole(rt: &impl Runtime, command: Command, input: &[u8]) -> Ran {
     run_on(rt, &Task::new(rt, command), input, roomy(4096))
 }
@@ -214,8 +217,8 @@ pub(crate) fn assert_run(rt: &impl Runtime, run: Run<'_>) {
     }
 }
 
-/// Asserts what a run leaves in two writers with these rooms and ends. If the error output is full,
-/// the output takes `before`.
+/// Asserts the result of a run whose output and error output have limited space. If the error
+/// output is full before all fault lines are written, the output must contain `before`.
 fn assert_room<'a>(
     rt: &impl Runtime,
     task: &Task,
@@ -244,8 +247,9 @@ fn assert_room<'a>(
     run_on(rt, task, run.input, devices).assert(rt, wanted, output.0.saturating_add(errors.0))
 }
 
-/// Asserts that an output that fails, takes nothing or cannot be flushed takes a prefix of the
-/// whole output.
+/// Asserts the results of runs whose output has limited space. If the output is full, writes fail
+/// or accept no octets, and in some runs flushes fail too. The output must contain the octets that
+/// fit into it.
 pub(crate) fn assert_stops_at_output(rt: &impl Runtime, run: Run<'_>) {
     let (task, errors) = (Task::new(rt, run.command), (run.errors.len(), End::Fail));
     for room in 0..run.output.len().saturating_add(1) {
@@ -255,8 +259,10 @@ pub(crate) fn assert_stops_at_output(rt: &impl Runtime, run: Run<'_>) {
     }
 }
 
-/// Asserts that an error output that fails, takes nothing or cannot be flushed takes a prefix of
-/// the fault lines. The output takes `before`, or the whole output if all fault lines were taken.
+/// Asserts the results of runs whose error output has limited space. If the error output is full,
+/// writes fail or accept no octets, and in some runs flushes fail too. The error output must
+/// contain the octets that fit into it. The output must contain `before`, or everything if all
+/// fault lines fit.
 pub(crate) fn assert_stops_at_errors(rt: &impl Runtime, run: Run<'_>, before: &[u8]) {
     let (task, output) = (Task::new(rt, run.command), (run.output.len(), End::Fail));
     for room in 0..run.errors.len().saturating_add(1) {
@@ -266,8 +272,8 @@ pub(crate) fn assert_stops_at_errors(rt: &impl Runtime, run: Run<'_>, before: &[
     }
 }
 
-/// Asserts that the run fails with fault 71 if the output or the error output cannot be flushed,
-/// after everything was taken.
+/// Asserts that the run fails with fault 71 if everything is written, but the output or the error
+/// output cannot be flushed.
 pub(crate) fn assert_fails_to_flush(rt: &impl Runtime, run: Run<'_>) {
     let task = Task::new(rt, run.command);
     let (flushed, unflushed) = ((65_536, End::Fail), (65_536, End::Flush));
@@ -275,7 +281,7 @@ pub(crate) fn assert_fails_to_flush(rt: &impl Runtime, run: Run<'_>) {
     assert_room(rt, &task, run, b"", (flushed, unflushed));
 }
 
-/// Asserts that a read that fails at this offset stops the run.
+/// Asserts that a failed read at the given offset stops the run.
 fn assert_read_fails(rt: &impl Runtime, task: &Task, run: Run<'_>, place: usize) {
     let outcome = Err(RunFault::Read);
     for step in [1, 7] {
@@ -287,9 +293,9 @@ fn assert_read_fails(rt: &impl Runtime, task: &Task, run: Run<'_>, place: usize)
     }
 }
 
-/// Asserts that if a read fails or is interrupted, the output contains everything that was certain
-/// before. The run is over two messages or documents of the same length, and `first` is the output
-/// for the first one.
+/// Asserts that if a read fails or is interrupted, the output contains everything that was already
+/// certain. The input consists of two messages or documents of the same length, and `first` is the
+/// output for the first message or document.
 pub(crate) fn assert_stops_at_reads(rt: &impl Runtime, run: Run<'_>, first: &[u8]) {
     let task = Task::new(rt, run.command);
     let (half, whole) = (run.input.len() / 2, run.input.len());
@@ -308,7 +314,8 @@ pub(crate) fn assert_stops_at_reads(rt: &impl Runtime, run: Run<'_>, first: &[u8
     }
 }
 
-/// A reader that is interrupted once, after a prefix, and records whether it is read again.
+/// A reader that returns `prefix` and is then interrupted once. The reader records whether it is
+/// read again.
 #[derive(Drop)]
 struct Interrupted<'a> {
     prefix: &'a [u8],
@@ -331,7 +338,7 @@ impl<'a> Read for Interrupted<'a> {
     }
 }
 
-/// Asserts that an interrupted read is treated as a failed one, and is not tried again.
+/// Asserts that an interrupted read stops the run like a failed read, and is not retried.
 fn assert_read_interrupted(rt: &impl Runtime, task: &Task, run: Run<'_>, place: usize) {
     let (interrupted, tried_again) = (Cell::new(false), Cell::new(false));
     let mut r = Device::new(Interrupted {
@@ -348,8 +355,8 @@ fn assert_read_interrupted(rt: &impl Runtime, task: &Task, run: Run<'_>, place: 
     assert_same(rt, &notes, &(true, false), &place)
 }
 
-/// Asserts that a message is rejected wherever it is cut, and that fewer than four octets of it are
-/// not reported.
+/// Asserts that a message is rejected if any number of octets at its end are missing. If fewer than
+/// four octets remain, nothing is reported.
 pub(crate) fn assert_cut_anywhere(rt: &impl Runtime, command: Command, name: &str, whole: &[u8]) {
     for length in 0..whole.len() {
         let prefix = whole.get(..length).unwrap_or(b"");
@@ -359,10 +366,11 @@ pub(crate) fn assert_cut_anywhere(rt: &impl Runtime, command: Command, name: &st
     }
 }
 
-/// Asserts how a run stops if its input is a stray that declares 64 octets, a message, and zeros up
-/// to 64 octets in total.
+/// Asserts the result of runs whose input consists of a stray that declares 64 octets, a message,
+/// and zeros. The input is 64 octets long.
 ///
-/// Nothing is certain before the last octet. The stray's line is written before the output.
+/// The run must read the last octet before it can determine that the stray is not a message. The
+/// run then writes the fault line for the stray before it writes the output.
 pub(crate) fn assert_stops_after_a_stray(
     rt: &impl Runtime,
     command: Command,

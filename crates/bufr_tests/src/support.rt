@@ -1,7 +1,8 @@
-//! What the tests share: assertions, octets from text, tables and templates.
+//! Functions that the tests share. The functions make assertions, and build octets, tables and
+//! templates from strings.
 //!
-//! The functions here have no contracts, so the proof of a test does not involve the calls that
-//! they make.
+//! The functions here have no contracts, so the proof of a test does not involve the calls that the
+//! functions make.
 
 use crate::messages;
 use bufr_frame::Message;
@@ -10,13 +11,14 @@ use std::alloc::Global;
 use std::fmt::Debug;
 use std::process::Abort;
 
-/// The runtime of a test. It allocates memory, and aborts a test that fails.
+/// The runtime of a test. The runtime can allocate memory, and abort the test if an assertion
+/// fails.
 pub(crate) trait Runtime: Abort + AllocGlobal {}
 
 impl<R: Abort + AllocGlobal> Runtime for R {}
 
-/// Returns the value of a call that must succeed. A `?` in a test would add another exit to its
-/// proof.
+/// Returns the value of a result that must be `Ok`. Using `?` in a test would add another exit to
+/// the test's proof.
 pub(crate) fn ok<T, E: Drop>(rt: &impl Abort, answer: Result<T, E>) -> T {
     match answer {
         Ok(value) => value,
@@ -24,7 +26,7 @@ pub(crate) fn ok<T, E: Drop>(rt: &impl Abort, answer: Result<T, E>) -> T {
     }
 }
 
-/// Returns the value of an option that must have one.
+/// Returns the value of an option that must be `Some`.
 pub(crate) fn some<T>(rt: &impl Abort, option: Option<T>) -> T {
     match option {
         Some(value) => value,
@@ -51,7 +53,7 @@ fn octet_of(rt: &impl Abort, high: char, low: char) -> u8 {
     ok(rt, u8::try_from(high.wrapping_mul(16).wrapping_add(low)))
 }
 
-/// Returns the octets of hexadecimal digits, which come in pairs. Blanks may separate the digits.
+/// Converts pairs of hexadecimal digits to octets. Spaces between the digits are ignored.
 pub(crate) fn from_hex(rt: &impl Runtime, digits: &str) -> Vec<u8> {
     let mut octets = Vec::new(rt.alloc());
     let mut first = None;
@@ -71,7 +73,7 @@ pub(crate) fn from_hex(rt: &impl Runtime, digits: &str) -> Vec<u8> {
     octets
 }
 
-/// Returns the octets of the parts, one after another.
+/// Returns the octets of all parts, concatenated.
 pub(crate) fn joined(rt: &impl Runtime, parts: &[&[u8]]) -> Vec<u8> {
     let mut octets = Vec::new(rt.alloc());
     for part in parts {
@@ -80,7 +82,7 @@ pub(crate) fn joined(rt: &impl Runtime, parts: &[&[u8]]) -> Vec<u8> {
     octets
 }
 
-/// Returns the octets of a part, repeated.
+/// Returns the octets of `part`, repeated `count` times.
 pub(crate) fn repeated(rt: &impl Runtime, part: &[u8], times: usize) -> Vec<u8> {
     let mut octets = Vec::new(rt.alloc());
     for _ in 0..times {
@@ -93,7 +95,8 @@ fn descriptor_of(rt: &impl Abort, digits: &str) -> Fxy {
     some(rt, Fxy::read(digits.as_bytes()))
 }
 
-/// Returns the descriptors in a text: six digits each, separated by blanks.
+/// Returns the descriptors in a string. Each descriptor consists of six digits, and spaces separate
+/// descriptors.
 pub(crate) fn descriptors_of(rt: &impl Runtime, text: &str) -> Vec<Fxy> {
     let mut descriptors = Vec::new(rt.alloc());
     for digits in text.split_whitespace() {
@@ -102,7 +105,8 @@ pub(crate) fn descriptors_of(rt: &impl Runtime, text: &str) -> Vec<Fxy> {
     descriptors
 }
 
-/// Returns the words of such descriptors.
+/// Returns the 16-bit words of the descriptors in a string. Each descriptor consists of six digits,
+/// and spaces separate descriptors.
 pub(crate) fn words_of(rt: &impl Runtime, text: &str) -> Vec<u16> {
     let mut words = Vec::new(rt.alloc());
     for digits in text.split_whitespace() {
@@ -138,14 +142,14 @@ pub(crate) fn build(
     Template::build(alloc, descriptors, table_b, table_d)
 }
 
-/// Returns the template of the descriptors in a text, using the tables for the test messages.
+/// Returns the template for the descriptors in a string, using the tables for the test messages.
 pub(crate) fn template_of(rt: &impl Runtime, text: &str) -> Template {
     let descriptors = descriptors_of(rt, text);
     let (table_b, table_d) = (table_b(rt), table_d(rt));
     ok(rt, build(rt.alloc(), &descriptors, &table_b, &table_d))
 }
 
-/// Returns the template of a message, using the same tables.
+/// Returns the template for a message, using the tables for the test messages.
 pub(crate) fn template_for(rt: &impl Runtime, message: &Message<'_>) -> Template {
     let mut descriptors = Vec::new(rt.alloc());
     for word in message.descriptors() {
@@ -157,7 +161,7 @@ pub(crate) fn template_for(rt: &impl Runtime, message: &Message<'_>) -> Template
     )
 }
 
-/// Returns the message in these octets.
+/// Parses a message that must be valid.
 pub(crate) fn parsed<'a>(rt: &impl Abort, octets: &'a [u8]) -> Message<'a> {
     assert!(rt; octets.len() >= 12);
     ok(rt, Message::parse(octets))

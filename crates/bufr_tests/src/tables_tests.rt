@@ -1,4 +1,4 @@
-//! Tests of descriptors and of reading tables.
+//! Tests of descriptors, and of reading tables.
 
 use crate::messages::{HEADER_B, HEADER_D};
 use crate::support::{
@@ -6,7 +6,8 @@ use crate::support::{
 };
 use bufr_tables::{Entry, Fxy, Kind, TableB, TableD, TableFault};
 
-/// Digits of descriptors, and the words of the descriptors, or `None` if the digits are invalid.
+/// Descriptors written as digits, each with its 16-bit word, or with `None` if the digits are
+/// invalid.
 #[rattlefmt::skip]
 const DESCRIPTORS: &[(&[u8], Option<u16>)] = &[
     (b"000000", Some(0)), (b"001001", Some(0x0101)), (b"012101", Some(0x0c65)),
@@ -16,7 +17,8 @@ const DESCRIPTORS: &[(&[u8], Option<u16>)] = &[
     (b"01210", None), (b"0121010", None), (b"01210a", None),
 ];
 
-/// Words, and whether their descriptors are replication factors.
+/// The 16-bit words of some descriptors. Each row states whether the descriptor is a delayed
+/// replication factor.
 #[rattlefmt::skip]
 const FACTORS: &[(u16, bool)] = &[
     (0x1eff, false), (0x1f00, true), (0x1f01, true), (0x1f02, true), (0x1f03, false),
@@ -55,7 +57,8 @@ fn members_of(table: &TableD, word: u16) -> Option<&[Fxy]> {
     table.members(Fxy::from_word(word))
 }
 
-/// Elements of Table B: word, name, unit, kind, scale, reference value and data width.
+/// Elements of Table B. Each row contains the word of the descriptor, the name, the unit, the kind,
+/// the scale, the reference value, and the data width.
 #[rattlefmt::skip]
 const ELEMENTS: &[(u16, &[u8], &[u8], Kind, (i16, i64, u32))] = &[
     (0x0101, b"WMO BLOCK NUMBER", b"Numeric", Kind::Numeric, (0, 0, 7)),
@@ -68,7 +71,8 @@ const ELEMENTS: &[(u16, &[u8], &[u8], Kind, (i16, i64, u32))] = &[
     (0x1f02, b"EXTENDED DELAYED DESCRIPTOR REPLICATION FACTOR", b"Numeric", Kind::Numeric, (0, 0, 16)),
 ];
 
-/// An element that is not in the table, and descriptors that are not elements.
+/// Descriptors that are not in Table B. The first is an element that the table does not define, and
+/// the others are not elements.
 const NO_ELEMENTS: &[u16] = &[0x3fff, 0x4c65, 0x8c65, 0xcc65];
 
 #[test]
@@ -92,7 +96,7 @@ fn looks_up_elements_in_table_b(rt: HostRuntime) {
 }
 
 #[test]
-fn entries_have_line_start_and_comment(rt: HostRuntime) {
+fn formats_prefix_and_comment_for_entry(rt: HostRuntime) {
     let (table, again) = (table_b(&rt), table_b(&rt));
     let found = entry_of(&table, 0x0c65);
     let entry = some(&rt, found);
@@ -107,7 +111,8 @@ fn entries_have_line_start_and_comment(rt: HostRuntime) {
     assert_that(&rt, entry_of(&table, 0x0101) != found, &"another element");
 }
 
-/// A sequence that is not in the table, and descriptors that are not sequences.
+/// Descriptors that are not in Table D. The first is a sequence that the table does not define, and
+/// the others are not sequences.
 const NO_SEQUENCES: &[u16] = &[0xffff, 0x3cc0, 0x0101];
 
 #[test]
@@ -121,7 +126,7 @@ fn looks_up_sequences_in_table_d(rt: HostRuntime) {
     }
 }
 
-/// Returns `read`, or the number and text of the fault.
+/// Returns `read` if a table could be read, or the number and the description of its fault.
 fn outcome<T: Drop>(rt: &impl Runtime, answer: &Result<T, TableFault>) -> String {
     match answer {
         Ok(_) => ok(rt, String::from_str(rt.alloc(), "read")),
@@ -131,7 +136,7 @@ fn outcome<T: Drop>(rt: &impl Runtime, answer: &Result<T, TableFault>) -> String
 
 const LAST_IN_A_CYCLE: &str = "43 cycle 363255";
 
-/// Rows after the header of Table B, grouped by the result of reading them.
+/// Rows after the header of Table B, grouped by the expected result.
 #[rattlefmt::skip]
 const ROWS_OF_B: &[(&str, &[&[u8]])] = &[
     ("read", &[
@@ -144,25 +149,25 @@ const ROWS_OF_B: &[(&str, &[&[u8]])] = &[
         b"031003,A,Numeric,1,1,9",
     ]),
     ("41 row 2", &[
-        // the data width
+        // The data width is invalid.
         b"001001,A,K,0,0,64", b"001001,A,K,0,0,0", b"001001,A,K,0,0,-7", b"001001,A,K,0,0,+7",
         b"001001,A,K,0,0, 7", b"001001,A,K,0,0,", b"001001,A,K,0,0,18446744073709551623",
         b"001001,A,ccitt ia5,0,0,12", b"001001,A,CCITT IA5,0,0,0", b"001001,A,CCITT IA5,0,0,2048",
-        // the scale and the reference value
+        // The scale or the reference value is invalid.
         b"001001,A,K,128,0,7", b"001001,A,K,-128,0,7", b"001001,A,K,-,0,7",
         b"001001,A,K,0,9223372036854775808,7", b"001001,A,K,0,-9223372036854775809,7",
         b"001001,A,K,0,-18446744073709551616,7", b"001001,A,K,0,1.5,7",
         b"001001,A,CCITT IA5,200,0,8",
-        // the name and the unit
+        // The name or the unit is invalid.
         b"001001,\"A\nB\",K,0,0,7", b"001001,A\tB,K,0,0,7", b"001001,A\x7fB,K,0,0,7",
         b"001001,A,K\x1f,0,0,7",
-        // the descriptor
+        // The descriptor is invalid.
         b"00100,A,K,0,0,7", b"0010010,A,K,0,0,7", b" 01001,A,K,0,0,7", b"064001,A,K,0,0,7",
         b"001256,A,K,0,0,7", b"101001,A,K,0,0,7", b"301001,A,K,0,0,7", b"401001,A,K,0,0,7",
-        // a replication factor
+        // The width, scale, reference value or unit of a replication factor is invalid.
         b"031000,A,Numeric,0,0,8", b"031001,A,Numeric,0,0,16", b"031002,A,Numeric,0,0,8",
         b"031001,A,Numeric,1,0,8", b"031001,A,Numeric,0,-1,8", b"031001,A,CCITT IA5,0,0,8",
-        // only the first fault is reported
+        // Only the first fault is reported.
         b"001001,A,K,0,0,x\n001001,A",
     ]),
     ("41 row 3", &[b"001001,A,K,0,0,7\n001001,A,K,0,0,x"]),
@@ -171,27 +176,27 @@ const ROWS_OF_B: &[(&str, &[&[u8]])] = &[
     ("45 csv", &[b"001001,A,K,0,0", b"001001,A,K,0,0,7,", b"001001,A,K,0,0,7\n001001,A"]),
 ];
 
-/// Texts whose first record is not the header of Table B.
+/// Files that do not begin with the header of Table B.
 #[rattlefmt::skip]
 const NO_HEADERS_OF_B: &[&[u8]] = &[
     b"", b"\n", b"fxy,name,unit,scale,reference\n", b"fxy,name,unit,scale,reference,Width\n",
     b"fxy,name,unit,scale,reference, width\n", b"fxy,member\n",
 ];
 
-/// Rows after the header of Table D, grouped by the result of reading them.
+/// Rows after the header of Table D, grouped by the expected result.
 #[rattlefmt::skip]
 const ROWS_OF_D: &[(&str, &[&[u8]])] = &[
     ("read", &[
         b"", b"300001,101000\n300001,031001\n300001,201132", b"363255,363254\n363255,001001",
-        // repeated members, and members that are not in the table, do not make a cycle
+        // Members that occur twice or are not in the table do not form a cycle.
         b"300001,300002\n300001,300002\n300002,300003\n300002,300003\n300003,001001",
         b"300001,300002\n300002,300003",
     ]),
     ("41 row 2", &[b"300001,x", b"200001,001001", b"300001,401001"]),
     ("41 row 3", &[b"300001,300001\n300002,x"]),
-    // a second run of rows for a sequence is reported before a cycle
+    // If the rows of a sequence are not contiguous, fault 42 is reported before a cycle.
     ("42 duplicate 300001", &[b"300001,300002\n300002,300001\n300001,001001"]),
-    // the fault names the first sequence in the file that contains itself
+    // The fault names the first sequence in the file that contains itself.
     ("43 cycle 300001", &[
         b"300001,300001", b"300001,001001\n300001,300001", b"300001,300002\n300002,300001",
         b"300001,300002\n300002,300003\n300003,300004\n300004,300002\n300004,300001",
@@ -206,7 +211,7 @@ const ROWS_OF_D: &[(&str, &[&[u8]])] = &[
     ("45 csv", &[b"300001", b"300001,001001,"]),
 ];
 
-/// Texts whose first record is not the header of Table D.
+/// Files that do not begin with the header of Table D.
 const NO_HEADERS_OF_D: &[&[u8]] = &[b"", b"fxy\n", b"fxy,members\n", HEADER_B];
 
 fn assert_b(rt: &impl Runtime, text: &[u8], want: &str) {
@@ -247,7 +252,7 @@ fn reads_table_rows_or_reports_faults(rt: HostRuntime) {
     assert_same(&rt, &memory.as_str(), &"73 out of memory", &"memory");
 }
 
-/// Lengths of names and units in octets, and the result of reading them.
+/// Lengths, in octets, of names and units, each with the expected result.
 const LONG_NAMES: &[(usize, &str)] = &[(512, "read"), (513, "41 row 2")];
 
 #[test]
@@ -262,7 +267,7 @@ fn limits_names_and_units_to_512_octets(rt: HostRuntime) {
     }
 }
 
-/// Units, and the kinds of their elements.
+/// Units of elements, each with the expected kind of the element's values.
 #[rattlefmt::skip]
 const KINDS: &[(&[u8], Kind)] = &[
     (b"CCITT IA5", Kind::Character), (b"Ccitt iA5", Kind::Character),
@@ -290,7 +295,7 @@ fn push_row(rt: &impl Runtime, text: &mut Vec<u8>, sequence: u16, member: u16) {
     ok(rt, text.push(b'\n'));
 }
 
-/// Returns the header of Table D and 65,536 rows of one sequence.
+/// Returns a Table D in which one sequence has 65,536 rows.
 fn most_rows(rt: &impl Runtime) -> Vec<u8> {
     let mut text = joined(rt, &[HEADER_D]);
     for _ in 0..65536u32 {
@@ -316,9 +321,10 @@ fn limits_table_d_to_65536_rows(rt: HostRuntime) {
     assert_d(&rt, &text, "44 table size");
 }
 
-/// Returns a Table D with all sequences, each of which has four rows with the next sequence as
-/// their member. The last sequence ends the chain or, if `cycle` is set, contains itself. If `back`
-/// is set, the file begins with the last sequence.
+/// Returns a Table D that contains all sequences from 3 00 000 to 3 63 255. Each sequence has four
+/// rows, and the member of each sequence is the next sequence. The last sequence contains itself if
+/// `cycle` is set, and an element otherwise. If `back` is set, the file lists the sequences in
+/// reverse order.
 fn long_chain(rt: &impl Runtime, back: bool, cycle: bool) -> Vec<u8> {
     let mut text = joined(rt, &[HEADER_D]);
     for key in 0..16384u16 {
@@ -344,7 +350,8 @@ fn detects_cycles_in_long_chains_of_sequences(rt: HostRuntime) {
     }
 }
 
-/// Returns a Table B with 2,000 elements, whose words are multiples of three.
+/// Returns a Table B with 2,000 elements. The 16-bit words of the descriptors are multiples of
+/// three.
 fn many_elements(rt: &impl Runtime) -> Vec<u8> {
     let mut text = joined(rt, &[HEADER_B]);
     for third in 0..2000u16 {
@@ -356,8 +363,8 @@ fn many_elements(rt: &impl Runtime) -> Vec<u8> {
     text
 }
 
-/// Returns a Table D with 1,500 sequences of ten members, each of which begins with the next
-/// sequence.
+/// Returns a Table D with 1,500 sequences of ten members. The first member of each sequence is the
+/// next sequence.
 fn many_sequences(rt: &impl Runtime) -> Vec<u8> {
     let mut text = joined(rt, &[HEADER_D]);
     for key in 0..1500u16 {

@@ -6,8 +6,8 @@ use crate::support::{
 };
 use bufr_tables::{Cell, Fxy, TableB, TableD, Template, TemplateFault};
 
-/// Each row contains a name, descriptors, and the result of expanding them: the number of places
-/// and the depth, or a fault.
+/// Each row contains a name, a descriptor list, and the expected result of expanding the list: the
+/// number of places and the depth of the template, or a fault.
 #[rattlefmt::skip]
 const LISTS: &[(&str, &str, &str)] = &[
     ("one_block_number", "001001", "places 2 depth 0"),
@@ -59,7 +59,7 @@ const LISTS: &[(&str, &str, &str)] = &[
     ("doubling_groups_that_fit", "310003", "places 49151 depth 14"),
 ];
 
-/// Returns a template or a fault as text.
+/// Returns a description of the template, or of the fault if no template could be built.
 fn outcome_of(rt: &impl Runtime, answer: &Result<Template, TemplateFault>) -> String {
     let text = match answer {
         Ok(template) => {
@@ -81,7 +81,7 @@ fn assert_list(
     assert_same(rt, &found.as_str(), &want, &name);
 }
 
-/// Table B without replication factors.
+/// A Table B without replication factors.
 const NO_FACTORS: &[u8] = b"\
     fxy,name,unit,scale,reference,width\n\
     001001,WMO BLOCK NUMBER,Numeric,0,0,7\n";
@@ -105,8 +105,9 @@ fn expands_descriptor_lists_or_reports_faults(rt: HostRuntime) {
     assert_same(&rt, &memory.as_str(), &"73 out of memory", &"memory");
 }
 
-/// Each row contains a name, descriptors, and the cells. For each cell, there is a letter for its
-/// kind, with its descriptor or count. After a colon comes the place after the group.
+/// Each row contains a name, a descriptor list, and the cells of its template. A cell is
+/// represented by a letter for its kind, followed by its descriptor or its number of passes. A
+/// colon precedes the index of the cell after the group.
 #[rattlefmt::skip]
 const CELLS: &[(&str, &str, &str)] = &[
     ("one_block_number", "001001", "E001001 F"),
@@ -126,7 +127,7 @@ fn with_letter(rt: &impl Runtime, letter: &str, fxy: Fxy) -> String {
     ok(rt, format!(in rt.alloc(); "{letter}{fxy} "))
 }
 
-/// Returns the text of a cell, followed by a blank unless it is the last cell.
+/// Returns a description of a cell, followed by a space unless it is the last cell.
 fn text_of(rt: &impl Runtime, cell: Cell) -> String {
     let text = match cell {
         Cell::Element(fxy) => return with_letter(rt, "E", fxy),

@@ -1,4 +1,4 @@
-//! Tests of the line of `ls` and the dump of a message.
+//! Tests of the line that `ls` prints for a message, and of the dump of a message.
 
 use crate::messages::{
     COMPRESSED, HEAD, ONE_BLOCK_NUMBER, PLAIN, delayed_twice, line_of_one, message_of,
@@ -12,7 +12,8 @@ use bufr_text::{LineWriter, write_all, write_dump, write_ls};
 use bufr_walk::{Steps, read_message};
 use std::cell::Cell;
 
-/// Returns the message in these octets. This function has no contract.
+/// Parses a message. This function has no contract, so the proof of a test does not involve the
+/// contract of `Message::parse`.
 fn message_in(octets: &[u8]) -> Option<Message<'_>> {
     if octets.len() < 12 {
         return None;
@@ -30,7 +31,8 @@ fn lists_a_message(rt: HostRuntime) {
     assert_same(&rt, &w.taken(), &line.as_bytes(), &"line");
 }
 
-/// Pushes text of each kind through a block of `room` octets, at most 64.
+/// Pushes strings and numbers through a `LineWriter` with a block of `room` octets. Does nothing if
+/// `room` is greater than 64.
 fn push_each(rt: &impl Runtime, room: usize, w: &mut ScriptOut) {
     let mut block = [0; 64];
     let Some(octets) = block.get_mut(..room) else {
@@ -46,7 +48,7 @@ fn push_each(rt: &impl Runtime, room: usize, w: &mut ScriptOut) {
     ok(rt, line.status());
 }
 
-/// A line is the same whatever the size of the block.
+/// The size of the block does not affect the line that is written.
 #[test]
 // rule: listing-time
 fn writes_same_line_for_every_block_size(rt: HostRuntime) {
@@ -59,7 +61,7 @@ fn writes_same_line_for_every_block_size(rt: HostRuntime) {
     }
 }
 
-/// Reads the data of a message and dumps it.
+/// Reads the data of a message, and writes its dump.
 fn dump_by<W: Sink>(
     rt: &impl Runtime,
     message: &Message<'_>,
@@ -71,7 +73,7 @@ fn dump_by<W: Sink>(
     write_dump(rt.alloc(), message, &reading, steps, w)
 }
 
-/// Dumps a message, and returns the result and the number of steps.
+/// Dumps a message. Returns the result and the number of steps.
 fn dump_to<W: Sink>(rt: &impl Runtime, octets: &[u8], w: &mut W) -> (Result<(), RunFault>, u64) {
     let message = some(rt, message_in(octets));
     let (template, table) = (template_for(rt, &message), table_b(rt));
@@ -80,27 +82,27 @@ fn dump_to<W: Sink>(rt: &impl Runtime, octets: &[u8], w: &mut W) -> (Result<(), 
     (outcome, steps.count())
 }
 
-/// Returns the dump of a message.
+/// Returns a writer that contains the dump of a message.
 pub(crate) fn dumped(rt: &impl Runtime, octets: &[u8]) -> ScriptOut {
     let mut w = writer(rt, 4096, (65_536, End::Fail));
     assert_same(rt, &dump_to(rt, octets, &mut w).0, &Ok(()), &"dumped");
     w
 }
 
-/// Returns the lines of the header, followed by others.
+/// Returns the lines of the header, followed by `lines`.
 pub(crate) fn with_head(rt: &impl Runtime, lines: &str) -> String {
     ok(rt, format!(in rt.alloc(); "{HEAD}{lines}"))
 }
 
-/// Returns a message of 2,000 block numbers, whose dump is longer than the 65,536 octets of a
-/// block.
+/// Returns a message that contains 2,000 block numbers. The message's dump does not fit in a block
+/// of 65,536 octets.
 fn long_message(rt: &impl Runtime) -> Vec<u8> {
     let payload = joined(rt, &[b"\x07\xD0", &repeated(rt, b"\0", 1750)]);
     message_of(rt, 1, PLAIN, "101000 031002 001001", &payload)
 }
 
-/// Each row contains a message, the room of the writer, and the number of steps until the dump ends
-/// or the writer stops it.
+/// Each row contains the name of a message, the space in the writer in octets, and the number of
+/// steps before the dump is complete or the writer is full.
 const STOPS: &[(&str, usize, u64)] = &[
     ("delayed_twice", 65_536, 7),
     ("delayed_twice", 200, 7),
@@ -109,7 +111,7 @@ const STOPS: &[(&str, usize, u64)] = &[
     ("compressed", 65_536, 0),
 ];
 
-/// Returns the number of steps to dump a message to a writer with this room.
+/// Returns the number of steps taken to dump a message to a writer with space for `room` octets.
 fn steps_to(rt: &impl Runtime, name: &str, room: usize) -> u64 {
     let message = match name.as_bytes() {
         b"delayed_twice" => delayed_twice(rt),
@@ -119,10 +121,11 @@ fn steps_to(rt: &impl Runtime, name: &str, room: usize) -> u64 {
     dump_to(rt, &message, &mut writer(rt, 131_072, (room, End::Fail))).1
 }
 
-/// Operators, factors, items and ends of passes count as steps. A dump is written in blocks, so a
-/// full writer stops it at the end of a block. Compressed data are shown without steps.
+/// Each operator, factor, item and end of a pass counts as one step. A dump is written in blocks,
+/// so dumping stops at the end of a block if the writer is full. Dumping compressed data takes no
+/// steps.
 #[test]
-fn counts_steps_of_a_dump(rt: HostRuntime) {
+fn counts_steps_while_dumping(rt: HostRuntime) {
     for (name, room, steps) in STOPS {
         assert_same(&rt, &steps_to(&rt, name, *room), steps, &(*name, *room));
     }
@@ -140,7 +143,7 @@ fn assert_writes(rt: &impl Runtime, message: &[u8], count: usize) {
     assert_same(rt, &(writes.get(), torn.get()), &(count, false), &"writes");
 }
 
-/// No line is split: a dump is written in one write, or in several writes of whole lines.
+/// A dump is written in one or more writes, each of which consists of complete lines.
 #[test]
 // rule: one-write-a-line
 fn does_not_split_dump_lines_between_writes(rt: HostRuntime) {

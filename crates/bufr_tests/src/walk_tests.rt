@@ -1,4 +1,4 @@
-//! Tests of reading data.
+//! Tests of reading the data of messages.
 
 ghost use Rattle.std.specs.Prelude.{◌≤◌, length};
 
@@ -14,7 +14,8 @@ use bufr_walk::{
 };
 use std::alloc::{AllocError, Global};
 
-/// A visitor that writes subsets and items as text. A `#` follows each item that Table B describes.
+/// A visitor that describes subsets and items as text. A `#` marks each item that is shown with its
+/// entry in Table B.
 #[derive(Drop)]
 struct Lines {
     alloc: Global,
@@ -41,8 +42,8 @@ impl Visitor for Lines {
     }
 }
 
-/// Returns the text of an item: its descriptor, and a number with its scale, a string in
-/// hexadecimal digits, a reference value, or `missing`.
+/// Describes an item as text: its descriptor, followed by a number and its scale, the hexadecimal
+/// digits of a string, a reference value, or `missing`.
 fn line_of(alloc: Global, item: &ItemView<'_>) -> Result<String, AllocError> {
     match item.value {
         Value::Number(number, scale) => { format!(in alloc; " {} {number}e{scale}", item.fxy) }
@@ -52,7 +53,8 @@ fn line_of(alloc: Global, item: &ItemView<'_>) -> Result<String, AllocError> {
     }
 }
 
-/// Returns the text of an item that is a string, in hexadecimal digits.
+/// Describes an item that is a string: its descriptor, followed by the hexadecimal digits of the
+/// string.
 fn line_of_text(alloc: Global, fxy: Fxy, octets: &[u8]) -> Result<String, AllocError> {
     let mut line = format!(in alloc; " {fxy} \"")?;
     for octet in octets {
@@ -66,7 +68,8 @@ fn push_octet(alloc: Global, line: &mut String, octet: u8) -> Result<(), AllocEr
     line.push_str(format!(in alloc; "{octet:02X}")?.as_str())
 }
 
-/// A visitor that counts subsets and items, and rejects any item after the first `most`.
+/// A visitor that counts subsets and items. The visitor accepts up to `most` items, and rejects the
+/// next item.
 #[derive(Drop)]
 struct Counts {
     subsets: u64,
@@ -105,13 +108,14 @@ fn spot_of(fault: WalkFault) -> Option<Spot> {
     }
 }
 
-/// The names of faults 30 to 35, with which their texts begin.
+/// The names of faults 30 to 35. The description of a fault begins with the name of the fault.
 #[rattlefmt::skip]
 const NAMES: [&str; 6] = [
     "data end", "width", "defining", "unequal factor", "increment", "too many values",
 ];
 
-/// Returns the number, subset, descriptor and bit of a fault, and the steps.
+/// Returns the number of a fault, the subset, descriptor and bit offset of the fault, and the
+/// number of steps.
 fn refused(rt: &impl Runtime, fault: &WalkFault, steps: &Steps) -> String {
     let (number, count) = (fault.number(), steps.count());
     let Some(spot) = spot_of(*fault) else {
@@ -126,7 +130,8 @@ fn refused(rt: &impl Runtime, fault: &WalkFault, steps: &Steps) -> String {
     ok(rt, text)
 }
 
-/// Returns the bits and steps of a reading, and the number of items that it stores, if any.
+/// Returns the number of bits and the number of steps for a `Reading`. If the `Reading` stores
+/// items, the number of stored items follows.
 fn measures(rt: &impl Runtime, reading: &Reading<'_>, steps: &Steps) -> String {
     let (bits, count, held) = (reading.bits(), steps.count(), reading.held());
     let mut text = ok(rt, format!(in rt.alloc(); "bits {bits} steps {count}"));
@@ -137,8 +142,9 @@ fn measures(rt: &impl Runtime, reading: &Reading<'_>, steps: &Steps) -> String {
     text
 }
 
-/// Returns the same for a reading, with its subsets and items. Showing them takes as many steps as
-/// reading did, or none if the items are stored.
+/// Returns the number of bits and steps for a `Reading`, followed by the subsets and items. Showing
+/// the items must take as many steps as reading the message, or no steps if the `Reading` stores
+/// the items.
 fn shown(rt: &impl Runtime, reading: &Reading<'_>, steps: &mut Steps) -> String {
     let mut lines = Lines {
         alloc: rt.alloc(),
@@ -174,7 +180,8 @@ impl Case {
         }
     }
 
-    /// Returns the result of reading the message, with its subsets and items if `show` is set.
+    /// Reads the message. Returns the number of bits and steps, or the fault. If `show` is set, the
+    /// subsets and items of the message follow.
     fn outcome(&self, rt: &impl Runtime, show: bool) -> String {
         let message = parsed(rt, &self.octets);
         let mut steps = Steps::new();
@@ -186,8 +193,8 @@ impl Case {
         }
     }
 
-    /// Returns the number of subsets and items that are shown, and the number of steps, if the
-    /// visitor rejects any item after the first `most`.
+    /// Shows the items to a visitor that accepts up to `most` items. Returns the numbers of subsets
+    /// and items that were shown, and the number of steps.
     fn count_to(&self, rt: &impl Runtime, most: u64) -> (u64, u64, u64) {
         let message = parsed(rt, &self.octets);
         let mut steps = Steps::new();
@@ -199,15 +206,16 @@ impl Case {
         let (template, table) = (&self.template, &self.table);
         let answer = read_message(rt.alloc(), &message, template, table, &mut steps);
         let reading = ok(rt, answer);
-        // The counts show where the visitor rejected an item.
+        // The result is ignored because the counts show where the visitor rejected an item.
         let _ = reading.show(rt.alloc(), &mut counts, &mut steps);
         (counts.subsets, counts.items, steps.count())
     }
 }
 
-/// Each row contains a name, the number of subsets, flags, descriptors, data in hexadecimal digits,
-/// and the result of reading. That is bits, steps and items, or the number, subset, descriptor and
-/// bit of a fault, and the steps.
+/// Each row contains a name, the number of subsets, the flags, the descriptor list, the data in
+/// hexadecimal digits, and the expected result. The result contains the number of bits, the number
+/// of steps, and the items, or a fault with its subset, descriptor and bit offset, followed by the
+/// number of steps.
 #[rattlefmt::skip]
 const READINGS: &[(&str, u16, u8, &str, &str, &str)] = &[
     ("one_block_number", 1, PLAIN, "001001", "14", "bits 7 steps 2; 1: 001001 10e0 #"),
@@ -322,9 +330,9 @@ fn reads_data_or_reports_faults(rt: HostRuntime) {
     }
 }
 
-/// Each row contains a name, the number of subsets, flags, descriptors, the first two octets of the
-/// data and their length, and the result of reading. If the subsets and items are shown, their
-/// numbers follow.
+/// Each row contains a name, the number of subsets, the flags, the descriptor list, the first two
+/// octets of the data, the length of the data in octets, and the expected result. If the items are
+/// to be shown, the expected numbers of subsets and items follow.
 #[rattlefmt::skip]
 const LIMITS: &[(&str, u16, u8, &str, ([u8; 2], usize), &str, Option<(u64, u64)>)] = &[
     ("one_item_too_many", 65535, PACKED, "101000 031002 001001", ([0x08, 0x00], 3330),
@@ -342,7 +350,7 @@ const LIMITS: &[(&str, u16, u8, &str, ([u8; 2], usize), &str, Option<(u64, u64)>
     ("many_fields", 2, PLAIN, "102205 101005 001001", ([0x14, 0x00], 1794), "bits 14350 steps 4924", Some((2, 2050))),
 ];
 
-/// Returns `len` octets that begin with `first` and continue with zeros.
+/// Returns `len` octets that begin with `first`. The remaining octets are zeros.
 fn octets_with(rt: &impl Runtime, first: &[u8], len: usize) -> Vec<u8> {
     let mut octets = joined(rt, &[first]);
     ok(rt, octets.resize(len, 0));
@@ -364,14 +372,14 @@ fn reads_data_up_to_the_limits(rt: HostRuntime) {
 }
 
 #[test]
-fn reads_a_string_of_255_octets(rt: HostRuntime) {
+fn reads_a_255_octet_string(rt: HostRuntime) {
     let payload = octets_with(&rt, &[], 258);
     let case = Case::new(&rt, 1, PLAIN, "201129 012101 205255", &payload);
     assert_same(&rt, &case.outcome(&rt, true).len(), &554, &"characters");
 }
 
-/// Each row contains the number of items that a visitor of two subsets accepts, and the numbers of
-/// subsets and items that are shown and of steps.
+/// Each row contains the number of items that a visitor accepts, and the numbers of subsets, items
+/// and steps when the visitor stops. The message has two subsets.
 #[rattlefmt::skip]
 const REFUSED_ITEMS: &[(u64, (u64, u64, u64))] = &[
     (0, (1, 0, 1)), (2, (1, 2, 5)), (3, (2, 3, 8)), (4, (2, 4, 10)), (6, (2, 6, 14)),
@@ -386,9 +394,9 @@ fn stops_when_a_visitor_rejects_an_item(rt: HostRuntime) {
     }
 }
 
-/// Items of compressed subsets. Each row contains a name, the number of subsets, descriptors, data
-/// in hexadecimal digits, the number of the fault or 0, and the number of bits of the items that
-/// were read.
+/// Items of compressed subsets. Each row contains a name, the number of subsets, the descriptor
+/// list, the data in hexadecimal digits, the number of the expected fault or 0, and the number of
+/// bits in the items that can be read.
 #[rattlefmt::skip]
 const PACKED_ITEMS: &[(&str, u16, &str, &str, (u8, u64))] = &[
     ("a_number_and_missing", 2, "001001", "FC1080", (0, 17)),
@@ -408,11 +416,11 @@ const PACKED_ITEMS: &[(&str, u16, &str, &str, (u8, u64))] = &[
     ("a_reference_with_increments", 2, "203010 012101 203255 012101", "E43F", (34, 0)),
     ("a_text_and_missing", 2, "205002", "00000507FC", (0, 38)),
     ("octets_over_the_width", 2, "205002", "00000C000000000000", (34, 0)),
-    // the octets of a string belong to its item, even if they exceed its width
+    // The increments exceed the width of the string, but the end of the data is checked first.
     ("octets_past_the_data", 2, "205002", "00000C", (30, 0)),
 ];
 
-/// Returns the number of the fault with which a walk ends, or 0 if it completes.
+/// Returns the number of the fault that stopped a walk, or 0 if the walk completed.
 fn number_of(answer: Result<(), WalkStop<DataFault>>) -> u8 {
     match answer {
         Ok(()) => 0,
@@ -423,8 +431,8 @@ fn number_of(answer: Result<(), WalkStop<DataFault>>) -> u8 {
     }
 }
 
-/// Returns how a walk over compressed data ends, and the number of bits of the items that were
-/// read.
+/// Walks over compressed data. Returns the number of the fault or 0, and the number of bits in the
+/// items that were read.
 fn walked(
     alloc: Global,
     template: &Template,
@@ -445,7 +453,7 @@ fn walked(
 // rule: compressed-item, compressed-equal, compressed-all-missing, compressed-past-width
 // rule: compressed-class-31, compressed-text-past-width, compressed-factors
 // rule: compressed-references, fault-30-before-34, fault-34-before-33
-fn reads_items_of_compressed_subsets(rt: HostRuntime) {
+fn reads_items_from_compressed_subsets(rt: HostRuntime) {
     let table = table_b(&rt);
     for (name, subsets, descriptors, payload, want) in PACKED_ITEMS {
         let octets = from_hex(&rt, payload);
@@ -456,9 +464,9 @@ fn reads_items_of_compressed_subsets(rt: HostRuntime) {
     }
 }
 
-/// Checks the faults that are in none of the rows above.
+/// Checks the numbers of the faults that do not occur in the rows above.
 #[test]
-fn walk_faults_have_numbers(rt: HostRuntime) {
+fn reports_number_for_walk_fault(rt: HostRuntime) {
     assert_same(&rt, &WalkFault::Memory.number(), &73, &"memory");
     assert_same(&rt, &DataFault::Memory.number(), &73, &"memory");
     let many = DataFault::TooManyValues(Fxy::from_word(257));

@@ -1,7 +1,7 @@
 #!/usr/bin/env python3
 """Prints the number of words in each page and the longest sentences, and fails if the README has too many words.
 
-    tests/docs_words.py [-v]        -v: print all sentences with more than 25 words
+    tests/docs_wording.py [-v]        -v: print all sentences with more than 25 words
 
 Words in code blocks count as words of the page, but not of a sentence. Each table cell and list item is a sentence.
 """
