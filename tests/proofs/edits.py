@@ -1,0 +1,326 @@
+"""Makes edits that shorten the proof of a lemma. Most of them fail; the checker finds out which do not."""
+import re
+import sys
+from typing import Iterator, NamedTuple
+
+from lemmas import NAME, SIGNATURE, Declaration, ProofFile
+from line_width import OF_PROOFS, broken
+
+Change = tuple[int, int, str]  # where the old text begins and ends, and the new text
+Edit = tuple[Change, ...]
+
+LET = re.compile(r"(?<![^\s(\[{])let(?=\s)|(?<=\s)in(?=\s|$)")
+TACTIC = re.compile(r"(?<![^\s(\[{])(omega|grind|search|cc|simp) (?=\()")
+PATH = re.compile(r"(?<![^\s(\[{,←])c\.[^\s(){}\[\],;]+")
+WORD = re.compile(r"[^\s(){}\[\],;.`]+")
+MOST_CITED = 10
+MOST_INLINE = 40  # characters: a longer `let` is not written where it is used, since that is harder to read
+
+
+def depths(text: str) -> list[int]:
+    """The number of brackets that are open before each character, and at the end."""
+    found, depth = [], 0
+    for char in text:
+        depth -= char in ")]}"
+        found.append(depth)
+        depth += char in "([{"
+    return [*found, depth]
+
+
+def is_balanced(text: str) -> bool:
+    opened = []
+    for char in text:
+        if char in "([{":
+            opened.append(char)
+        elif char in ")]}" and (not opened or "([{".index(opened.pop()) != ")]}".index(char)):
+            return False
+    return not opened
+
+
+def split(text: str, mark: str) -> list[tuple[int, str]]:
+    """The parts of a text between the marks that are in no bracket, each with its place."""
+    depth, parts, start = depths(text), [], 0
+    for at, char in enumerate(text):
+        if char == mark and depth[at] == 0:
+            parts.append((start, text[start:at]))
+            start = at + 1
+    return [*parts, (start, text[start:])]
+
+
+def equals(text: str) -> int:
+    """The place after the first ` =` that is in no bracket, or -1."""
+    depth = depths(text)
+    found = (found.end() for found in re.finditer(r"\s=(?=\s|$)", text) if depth[found.start()] == 0)
+    return next(found, -1)
+
+
+def argument_end(text: str, at: int) -> int:
+    """The end of the argument that begins at a place."""
+    if at < len(text) and text[at] in "([{":
+        depth = depths(text[at:])
+        close = next((place for place in range(1, len(depth)) if depth[place] == 0), len(text) - at - 1)
+        found = re.compile(r"(\.\w+)*").match(text, at + close + 1)
+        return found.end() if found else at + close + 1
+    found = re.compile(r"[^\s(){}\[\],;]+").match(text, at)
+    return found.end() if found else at
+
+
+def bare(text: str) -> str:
+    """A term without the brackets around all of it."""
+    text = " ".join(text.split())
+    while text.startswith("(") and argument_end(text, 0) == len(text) and text.endswith(")"):
+        text = text[1:-1].strip()
+    return text
+
+
+class Let(NamedTuple):
+    """`let name : type = value in`, by its places. The text from `start` to `end` is the whole, with the space after it."""
+
+    name: str
+    start: int
+    colon: int  # where ` : type` begins, or where it would
+    value: int
+    value_end: int
+    end: int
+
+
+def lets(body: str) -> list[Let]:
+    opened, found = [], []
+    for mark in LET.finditer(body):
+        if mark[0] == "let":
+            opened.append(mark.start())
+        elif opened:
+            start = opened.pop()
+            head = re.match(rf"let ({NAME})", body[start:])
+            equal = equals(body[start : mark.start()])
+            if head and equal > 0:
+                after = re.compile(r"\s*").match(body, mark.end())
+                value = start + equal + 1
+                found.append(Let(head[1], start, start + head.end(), value, mark.start() - 1, after.end() if after else mark.end()))
+    return sorted(found, key=lambda one: one.start)
+
+
+def mentions(text: str, name: str) -> list[int]:
+    return [found.start() for found in re.finditer(rf"(?<![^\s(){{}}\[\],]){re.escape(name)}(?![^\s(){{}}\[\],.;])", text)]
+
+
+def arguments(signature: str) -> list[tuple[str, str]]:
+    """The explicit arguments of a lemma: a name, or nothing for a hypothesis, and the type."""
+    flat = " ".join(line.strip() for line in signature.split("\n") if not line.strip().startswith("unfolding "))
+    found = SIGNATURE.match(flat)
+    text, made = flat[found.end() :] if found else "", []
+    for _, part in split(text, "→")[:-1]:
+        part = part.strip()
+        if not re.match(r"[({][^(){}:]+ : ", part):
+            made.append(("", part))
+        while match := re.match(r"([({])([^(){}:]+) : ", part):
+            end = argument_end(part, 0)
+            if match[1] == "(":
+                made += [(name, part[match.end() : end - 1]) for name in match[2].split()]
+            part = part[end:].strip()
+    return made
+
+
+RELATIONS = {"≡": "is", "<": "below", "≤": "most", "≢": "is_not", "∈": "in"}
+
+
+def hypothesis_name(statement: str) -> str:
+    """A name that says what a hypothesis is, such as `h_below`, or h_ and its first word."""
+    found = next((RELATIONS[word] for word in statement.split() if word in RELATIONS and "→" not in statement), "")
+    first = re.search(r"[A-Za-z]\w*", statement)
+    word = re.sub(r"(?<=[a-z])(?=[A-Z])", "_", first[0]).lower() if first else "holds"
+    return f"h_{word}_{found}" if found else f"h_{word}"
+
+
+class Clause(NamedTuple):
+    start: int
+    value: int  # after ` =`
+    end: int
+
+
+def clauses(lemma: Declaration, body: str) -> list[Clause]:
+    margin = "  " if lemma.block >= 0 else ""
+    starts = [found.start() for found in re.finditer(rf"(?m)^{margin}{re.escape(lemma.name)}(?=\s|$)", body)]
+    made = []
+    for start, end in zip(starts, [*(one - 1 for one in starts[1:]), len(body)]):
+        equal = equals(body[start:end])
+        if equal > 0:
+            made.append(Clause(start, start + equal, end))
+    return made
+
+
+def patterns(text: str) -> list[str]:
+    """The arguments that a clause takes, without those in braces."""
+    made, at = [], 0
+    while at < len(text):
+        if text[at].isspace():
+            at += 1
+            continue
+        end = max(argument_end(text, at), at + 1)
+        if text[at] != "{":
+            made.append(text[at:end])
+        at = end
+    return made
+
+
+def one_head(file: ProofFile, lemma: Declaration, body: str, found: list[Clause]) -> str:
+    """The left side of a single clause in place of several, or nothing if its arguments have no good names."""
+    start = len("  " if lemma.block >= 0 else "") + len(lemma.name)
+    taken = [patterns(body[one.start + start : one.value].rstrip()[:-1]) for one in found]
+    wanted = arguments(file.signature(lemma))
+    if len({len(one) for one in taken}) != 1 or len(taken[0]) > len(wanted):
+        return ""
+    names: list[str] = []
+    for number in range(len(taken[0])):
+        name, statement = wanted[number]
+        kept = [one[number] for one in taken if re.fullmatch(r"[a-z]\w*'?", one[number]) and one[number] not in names and (one[number], "") != (name, "")]
+        names.append(name or next((one for one in kept if one not in [other for other, _ in wanted]), hypothesis_name(statement)))
+    if len(set(names)) != len(names):
+        return ""
+    return " ".join([body[found[0].start :][:start], *names, "="])
+
+
+def items(text: str, at: int) -> list[tuple[int, str]]:
+    """The items of the list in brackets that begins at a place."""
+    end = argument_end(text, at)
+    return [(at + 1 + place, item) for place, item in split(text[at + 1 : end - 1], ",")]
+
+
+def facts_of(text: str) -> list[str]:
+    """What a proof cites: the items of its tactics' lists, and the paths of its record of facts."""
+    bound = {one.name for one in lets(text)}
+    found = [item.strip() for tactic in TACTIC.finditer(text) for _, item in items(text, tactic.end())[1:]]
+    words = [item for item in found + PATH.findall(text) if item not in bound and item != "common_steps" and not TACTIC.search(item)]
+    return list(dict.fromkeys(words))
+
+
+def chain_facts(text: str) -> list[str]:
+    """The equations of a chain of `∙`, `sym` and `ap`, without these."""
+    found = []
+    for _, part in split(text, "∙"):
+        part = bare(part)
+        while re.match("(ap|sym) ", part):
+            rest = part.partition(" ")[2]
+            part = bare(rest[argument_end(rest, 0) :] if part.startswith("ap ") else rest)
+        if not re.match("(rw|let|omega|grind|elim|λ)", part) and part not in ("refl", "_"):
+            found.append(part)
+    return list(dict.fromkeys(found))
+
+
+def forms(text: str, citable: set[str]) -> list[str]:
+    """Shorter proofs to try in place of a term, the shortest first."""
+    words = [word for word in dict.fromkeys(WORD.findall(text)) if word in citable]
+    sets = ["nat_tests"] if "nat_tests" in text else []
+    lemmas, facts = ", ".join([*sets, *words[:MOST_CITED]]), ", ".join(facts_of(text)[:MOST_CITED])
+    made = ["refl", "cc", "omega arith", "search rules", "grind (arith, common_steps)"]
+    if lemmas:
+        made += [f"search (rules, {lemmas})", f"grind (arith, common_steps, {lemmas})", f"simp ({lemmas})"]
+    for cited in {lemmas, facts} - {""}:
+        made.append(f"omega (arith, {cited})")
+    if facts:
+        made += [f"grind (arith, common_steps, {facts})", f"cc ({facts})"]
+    if facts and lemmas:
+        made.append(f"grind (arith, common_steps, {', '.join(dict.fromkeys([*sets, *words[:MOST_CITED], *facts.split(', ')]))})")
+    chain = chain_facts(text)
+    if chain and re.search(r"(^|[\s(])(∙|ap|sym)\s", text):
+        heads = ", ".join(dict.fromkeys(part.split()[0] for part in chain if part))
+        made += [f"cc ({', '.join(chain)})", f"grind (arith, common_steps, {', '.join(chain)})", f"rw ({heads})", f"simp ({heads})"]
+    size = len(" ".join(text.split()))
+    return sorted({one for one in made if len(one) < size}, key=len)
+
+
+def strong_edits(file: ProofFile, lemma: Declaration, body: str) -> Iterator[Edit]:
+    """Replaces the proof of all clauses, of one clause, or of what follows its `let`s by a tactic."""
+    citable, found = file.citable(lemma), clauses(lemma, body)
+    if len(found) > 1:
+        head = one_head(file, lemma, body, found)
+        for form in forms(body, citable) if head else ():
+            yield ((found[0].start, len(body), f"{head} {form}"),)
+    for clause in found:
+        text = body[clause.value : clause.end]
+        calls = re.findall(rf"\(({re.escape(lemma.name)}(?: [^\s()]+)+)\)", text)
+        for form in forms(text, citable):
+            yield ((clause.value, clause.end, f" {form}"),)
+        if calls:
+            known = ", ".join(dict.fromkeys(calls))
+            words = [word for word in dict.fromkeys(WORD.findall(text)) if word in citable][:MOST_CITED]
+            for form in (f"cc ({known})", f"omega (arith, {known})", f"grind (arith, common_steps, {', '.join([known, *words])})", f"rw ({known}) refl"):
+                yield ((clause.value, clause.end, f" {form}"),)
+        at = clause.value + len(text) - len(text.lstrip())
+        for one in lets(body):
+            at = one.end if one.start == at else at
+        if body[clause.value : at].strip():
+            yield from (((at, clause.end, form),) for form in forms(body[at : clause.end], citable))
+
+
+def weak_edits(file: ProofFile, lemma: Declaration, body: str) -> Iterator[Edit]:
+    """Removes a `let`, its type or an item of a list, or shortens what they contain."""
+    citable = file.citable(lemma)
+    for one in lets(body):
+        text = body[one.value : one.value_end]
+        uses = [one.end + place for place in mentions(body[one.end :], one.name)]
+        listed = [place for place in uses if re.search(r", $", body[:place]) and re.match(r"[,)]", body[place + len(one.name) :])]
+        if uses == listed:
+            yield ((one.start, one.end, ""), *((place - 2, place + len(one.name), "") for place in listed))
+        if len(uses) == 1 and not body.startswith(".", uses[0] + len(one.name)):
+            flat = " ".join(text.split())
+            is_item = listed == uses or " " not in flat
+            if len(flat) <= MOST_INLINE:
+                yield ((one.start, one.end, ""), (uses[0], uses[0] + len(one.name), flat if is_item else f"({flat})"))
+        if body[one.colon : one.value].strip() != "=":
+            if not re.match(r"(omega|grind|cc|search|rw|simp|refl|record|λ|elim|absurd)\b", text):
+                yield ((one.colon, one.value, " = "),)
+            yield from (((one.value, one.value_end, form),) for form in forms(text, citable))
+    for tactic in TACTIC.finditer(body):
+        found = items(body, tactic.end())
+        optional = [one for one in found if one[1].strip() not in ("arith", "rules")]
+        if len(optional) > 1 and len(optional) < len(found):
+            yield tuple((place - 1, place + len(item), "") for place, item in optional)
+        for place, item in optional:
+            if (place, item) != found[0]:
+                yield ((place - 1, place + len(item), ""),)
+            head = item.split()[0] if item.split() else ""
+            if " " in item.strip() and head in citable:
+                yield ((place, place + len(item), f" {head}" if item.startswith(" ") else head),)
+    for found_at in re.finditer(r"subst \(λ", body):
+        motive = argument_end(body, found_at.start() + 6)
+        equation = argument_end(body, motive + 1)
+        last = argument_end(body, equation + 1)
+        fact, term = bare(body[motive + 1 : equation]), body[equation + 1 : last]
+        back = bare(fact[4:]) if fact.startswith("sym ") else ""
+        if term.strip() and fact:
+            for form in (f"rw (← {back}) at {term}", f"rw ({back}) {term}") if back else (f"rw ({fact}) at {term}", f"rw (← {fact}) {term}"):
+                yield ((found_at.start(), last, form),)
+
+
+def applied(body: str, edit: Edit) -> str:
+    """The body after an edit, with no line that is too long."""
+    for start, end, new in sorted(edit, reverse=True):
+        body = body[:start] + new + body[end:]
+    body = re.sub(r"(?<![^\s(\[{])(omega|grind|search|simp|rw) \(([^\s(){}\[\],;.]+)\)", r"\1 \2", body)
+    body = re.sub(r"(?m)[ \t]+$", "", body)
+    return "\n".join(piece for line in body.split("\n") for piece in (broken(line) if len(line) > OF_PROOFS else [line]))
+
+
+def key_of(body: str, edit: Edit) -> tuple[tuple[str, str], ...]:
+    """What an edit replaces by what, and after what: if it failed, it would fail in a later body too."""
+    return tuple((body[max(0, start - 60) : end], new) for start, end, new in edit)
+
+
+def shorter(file: ProofFile, lemma: Declaration, body: str, is_first: bool) -> list[tuple[Edit, str]]:
+    """The edits that make a body shorter, with what they make of it."""
+    made: dict[str, Edit] = {}
+    for edit in [*strong_edits(file, lemma, body), *([] if is_first else weak_edits(file, lemma, body))]:
+        text = applied(body, edit)
+        if len(text) < len(body) and is_balanced(text):
+            made.setdefault(text, edit)
+    return [(edit, text) for text, edit in made.items()]
+
+
+def merged(edits: list[Edit]) -> Edit:
+    """The edits that do not overlap, those that save most first."""
+    made: list[Change] = []
+    for edit in sorted(edits, key=lambda one: sum(len(new) - (end - start) for start, end, new in one)):
+        if all(end <= first or last <= start for start, end, _ in edit for first, last, _ in made):
+            made += edit
+    return tuple(made)

@@ -1,0 +1,186 @@
+"""Checks modules in a copy of a crate: one check reads a proof file and hundreds of small modules below it."""
+import fcntl
+import os
+import pathlib
+import re
+import shutil
+import signal
+import subprocess
+import tempfile
+from typing import NamedTuple
+
+from antt import Bad, crates
+from lib import TOP
+
+# Each module ends with a lemma that must pass and one that must be refused. If the checker does not refuse the last one,
+# it did not read the module.
+NEEDS = (
+    "use Rattle.std.proofs.Common.{◌≡◌, zero, suc, refl, arith, rules}\n"
+    "use Rattle.std.proofs.lemmas.Grind.{common_steps}\n"
+)
+CONTROLS = """
+shrink_passes : zero ≡ zero
+shrink_passes = refl
+
+shrink_fails : zero ≡ suc zero
+shrink_fails = refl
+"""
+LAW = """//! A law whose answer imports the modules that are tried.
+ghost use Rattle.std.specs.Prelude.{◌≡◌, true};
+
+/// A law whose answer imports the modules that are tried.
+pub fn shrink_law()
+    ensures { true ≡ true }
+{}
+"""
+ERROR = re.compile(r"^(?:\./)?(\S+?\.(?:antt|rt)):(?:(\d+):\d+:)? error: (.*)$")
+
+
+class Outcome(NamedTuple):
+    passed: bool
+    seconds: float
+    errors: list[tuple[int, str]]  # the line and the message
+
+
+class Report(NamedTuple):
+    proved: bool  # the functions that were asked for, and all that they rest on
+    outcomes: list[Outcome]
+    errors: list[tuple[str, int, str]]  # those in other files: the file, the line and the message
+    output: str
+
+
+def libraries(crate: str) -> list[str]:
+    """All crates that one depends on, directly or not."""
+    found: list[str] = []
+    for used in crates()[crate]:
+        found += [one for one in [used, *(libraries(used) if used in crates() else [])] if one not in found]
+    return found
+
+
+def function(file: pathlib.PurePath) -> str:
+    """The function whose proof a file is in. A cycle of calls has no name of its own, so its module or type stands for it."""
+    return "::".join(part for part in file.parent.parts if not part.startswith("+"))
+
+
+class Scratch:
+    """A copy of a crate in which proofs are tried. The checkout itself is only read."""
+
+    def __init__(self, crate: str, file: pathlib.PurePath, rlibs: pathlib.Path | None, prefix: list[str]) -> None:
+        self.crate, self.rlibs, self.prefix, self.rounds = crate, rlibs, prefix, 0
+        self.room = tempfile.TemporaryDirectory(prefix="shrink-")
+        self.top = pathlib.Path(self.room.name) / crate
+        shutil.copytree(TOP / "crates" / crate, self.top, ignore=shutil.ignore_patterns("out", "must-fail"))
+        self.kept = TOP / "crates" / crate / "out/shrink"
+        self.kept.mkdir(parents=True, exist_ok=True)
+        self.lock = open(self.kept / "lock", "w", encoding="utf-8")
+        fcntl.flock(self.lock, fcntl.LOCK_EX)  # another run on this crate would disturb the times
+        self.path = self.top / "proofs" / file
+        self.module = ".".join(["Rattle", crate, "proofs", *file.with_suffix("").parts])
+        self.users: list[str] = []  # modules that are checked too
+        self.root = "src/main.rt" if (self.top / "src/main.rt").is_file() else "src/lib.rt"
+        self.is_answer = file.stem in ("Answers", "Invariants")
+        if self.is_answer:
+            self.asked = [function(file)]
+        else:
+            self.asked = ["shrink_law::shrink_law"]
+            root = self.top / self.root
+            root.write_text(re.sub(r"(?m)^(pub mod|mod) ", r"mod shrink_law;\n\1 ", root.read_text(encoding="utf-8"), count=1), encoding="utf-8")
+            (self.top / "src/shrink_law.rt").write_text(LAW, encoding="utf-8")
+            (self.top / "proofs/shrink_law/shrink_law").mkdir(parents=True)
+
+    def add_user(self, path: pathlib.Path) -> None:
+        """Checks another proof file of the copy too."""
+        parts = path.relative_to(self.top / "proofs").with_suffix("").parts
+        if parts[-1] in ("Answers", "Invariants"):
+            self.asked.append(function(path.relative_to(self.top / "proofs")))
+        else:
+            self.users.append(".".join(["Rattle", self.crate, "proofs", *parts]))
+
+    def close(self) -> None:
+        self.room.cleanup()
+        self.lock.close()
+
+    def words(self) -> list[str]:
+        """The command that checks what is asked for."""
+        rt = shutil.which("rt")
+        if not rt:
+            raise Bad("rt is not on the PATH")
+        kit = pathlib.Path(rt).resolve().parent.parent
+        words = [*self.prefix, "nice", "-n", "19", f"{kit}/bin/rattle", "check", "--crate-name", self.crate, self.root]
+        words += [word for asked in self.asked for word in ("--only", asked)]
+        if self.crate == "bufr_c":
+            words += ["--crate-type", "staticlib"]
+        for one in dict.fromkeys(["core", "std", *libraries(self.crate)]):
+            if one not in crates():
+                words += ["--extern", f"{one}={kit}/rlibs/{one}.rlib"]
+                continue
+            built = self.rlibs / f"{one}.rlib" if self.rlibs else TOP / "crates" / one / "out/rlib" / f"{one}.rlib"
+            if not built.exists():
+                raise Bad(f"there is no {built}; run `rt lib` in crates/{one}, or use --rlibs")
+            words += ["--extern", f"{one}={built}"]
+        words += ["-L", f"dependency={kit}/rlibs", "--antt-project", f"{kit}/rattle/logic/antt-project.json"]
+        return [*words, "--logic-built", f"{kit}/logic_built", "--incremental", str(self.kept), "--jobs", "1"]
+
+    def check(self, text: str, modules: list[str]) -> Report:
+        """Checks the file with this text, and modules below it. Raises Bad if there is no verdict."""
+        self.rounds += 1
+        names = [f"Tried{os.getpid()}x{self.rounds}x{number}" for number in range(len(modules))]
+        below = self.path.with_suffix("")
+        declared = "".join(f"pub mod {name}\n" for name in names)
+        self.path.write_text(declared + text, encoding="utf-8")
+        for name, module in zip(names, modules):
+            below.mkdir(exist_ok=True)
+            (below / f"{name}.antt").write_text(NEEDS + module + CONTROLS, encoding="utf-8")
+        if not self.is_answer:
+            imports = "".join(f"use {self.module}.{name} as x{name}\n" for name in names)
+            imports += "".join(f"use {user} as user{number}\n" for number, user in enumerate(self.users))
+            (self.top / "proofs/shrink_law/shrink_law/Answers.antt").write_text(
+                f"use Rattle.std.proofs.Common.{{refl}}\nuse {self.module} as tried\n{imports}"
+                f"use Rattle.{self.crate}.proofs.shrink_law.shrink_law.Goals as goal\n\npub returns : goal.returns\nreturns c = refl\n",
+                encoding="utf-8",
+            )
+        clock = self.kept / "began"
+        clock.touch()
+        try:
+            status, output = run(self.words(), self.top)
+            verdict = re.search(r"(?m)^only=(\d+) proved=(\d+)$", output)
+            if status not in (0, 1) or not verdict:
+                raise Bad(f"the check of {self.crate} gave no verdict (status {status}):\n{output[-3000:]}")
+            return self.report(names, modules, output, status == 0 and verdict[1] == verdict[2], clock.stat().st_mtime)
+        finally:
+            for tried in [*self.kept.rglob(f"*.Tried{os.getpid()}x*"), *below.glob("Tried*.antt")]:
+                tried.unlink()
+
+    def report(self, names: list[str], modules: list[str], output: str, proved: bool, began: float) -> Report:
+        errors = [(one[1], int(one[2] or 0), one[3]) for one in map(ERROR.match, output.splitlines()) if one]
+        times, outcomes = self.times(names, began), []
+        for name, module in zip(names, modules):
+            own = [(line, message) for file, line, message in errors if file.endswith(f"/{name}.antt")]
+            last = (NEEDS + module + CONTROLS).count("\n")
+            passed = [(line, "`shrink_fails`" in message) for line, message in own] == [(last, True)]
+            if passed and name not in times:
+                raise Bad(f"the checker wrote no file in {self.kept} for a module that it read, so times are not known")
+            outcomes.append(Outcome(passed, times.get(name, 0.0), own))
+        return Report(proved, outcomes, [one for one in errors if "/Tried" not in one[0]], output)
+
+    def times(self, names: list[str], began: float) -> dict[str, float]:
+        """The seconds that each module took. The checker writes a file for each module as soon as it has checked it."""
+        written = []
+        for path in self.kept.rglob("*.oantt"):
+            changed = path.stat().st_mtime
+            if changed >= began and "records" not in path.parts:
+                written.append((changed, path.stem.rpartition(".")[2]))
+        written.sort()
+        gaps = {name: changed - before for (before, _), (changed, name) in zip([(began, ""), *written], written)}
+        return {name: gaps[name] for name in names if name in gaps}
+
+
+def run(words: list[str], folder: pathlib.Path) -> tuple[int, str]:
+    """Runs a command in a process group of its own, and ends all of the group if this program is stopped."""
+    with subprocess.Popen(words, cwd=folder, stdout=subprocess.PIPE, stderr=subprocess.STDOUT, start_new_session=True) as process:
+        try:
+            output, _ = process.communicate()
+        except BaseException:
+            os.killpg(process.pid, signal.SIGKILL)
+            raise
+    return process.returncode, output.decode("utf-8", "replace")
