@@ -72,7 +72,7 @@ END
 mkdir "$work/read"
 tar -xzf "$archive" -C "$work/read" --strip-components 1
 git -C "$work/one" ls-files | (cd "$work/read" && xargs ls -d) > "$work/told" || fail "files of the repository are not in the release"
-"$work/read/tests/docs_names.py" "$work/read/bin/bufr" > "$work/told" || fail "the pages of the release: $(< "$work/told")"
+"$work/read/tests/docs_consistency.py" "$work/read/bin/bufr" > "$work/told" || fail "the pages of the release: $(< "$work/told")"
 
 # refuses STATUS TEXT WORD..: these words fail with this status, say why, and leave the first release as it was.
 refuses() {

@@ -31,7 +31,7 @@ DUMP = ["dump", *TABLES]
 SCRIPTS = {"bufr-auto": [], "bufr-csv": ["--json", "-c", "001001"], "bufr-extract": [], "bufr-lacks": [], "bufr-parallel": ["-P", "2", *DUMP]}
 # Scripts that read a stream themselves.
 READERS = ("bufr-auto", "bufr-csv")
-# A script that needs a package: of it is tried how it begins; tests/plots.py has the rest.
+# A script that needs a package: of it is tried how it begins; tests/bufr_plot.py has the rest.
 OTHERS = {"bufr-plot": ["map", "a.png"]}
 complaints = []
 

@@ -6,8 +6,8 @@
                                                                      FIRST: the number of the first stream
 
 Each stream depends only on its number, as in random_trial.py. Every tenth stream is read with the tables that each message
-needs, and the others with WMO's tables. `differences` in tests/arrays.py makes the comparison. Two streams are tried at a
-time. If a stream differs, the exit status is 1. This trial needs NumPy and pandas, and is not part of the gate.
+needs, and the others with WMO's tables. `differences` in tests/bufr_module.py makes the comparison. Two streams are tried at
+a time. If a stream differs, the exit status is 1. This trial needs NumPy and pandas, and is not part of the gate.
 """
 import multiprocessing
 import os
@@ -26,7 +26,7 @@ if __name__ == "__main__":
     lib.use_python_with("numpy", "pandas")
     os.environ["BUFR_LIBRARY"] = str(pathlib.Path(sys.argv[1]).resolve() / "libbufr.so.0")
 
-import arrays
+import bufr_module
 import random_trial
 
 
@@ -36,8 +36,8 @@ def try_stream(number: int) -> list:
     with tempfile.TemporaryDirectory(prefix="arrays-") as folder:
         path = pathlib.Path(folder) / "stream"
         path.write_bytes(random_trial.stream_of(rng))
-        tables = () if number % 10 == 0 else arrays.TABLES
-        return [f"stream {number}: {difference}" for difference in arrays.differences(path, tables, rng)]
+        tables = () if number % 10 == 0 else bufr_module.TABLES
+        return [f"stream {number}: {difference}" for difference in bufr_module.differences(path, tables, rng)]
 
 
 def main(words: list) -> None:

@@ -17,7 +17,7 @@ import tempfile
 
 sys.path.insert(0, str(pathlib.Path(__file__).resolve().parent.parent))
 
-import library
+import c_library
 import random_trial
 from lib import BUILT
 
@@ -26,25 +26,25 @@ import bufr_library
 
 def try_case(number: int) -> list:
     """What is wrong in the case of a number."""
-    library.wrongs.clear()
+    c_library.wrongs.clear()
     rng = random.Random(f"library case {number}")
     kind = rng.choices(("stream", "text", "tables"), (60, 25, 15))[0]
     with tempfile.TemporaryDirectory(prefix="library-") as name:
-        tables = library.SETS[0]
+        tables = c_library.SETS[0]
         if kind == "tables":
             piece = random_trial.some(rng)
             _, b, _, d = random_trial.tables_of(rng, random_trial.whole_text(piece), pathlib.Path(name))
             tables, octets = (pathlib.Path(b), pathlib.Path(d)), random_trial.whole_stream(piece)
         else:
             octets = random_trial.text_of(rng) if kind == "text" else random_trial.stream_of(rng)
-        room = rng.choice((1 << 20, 4096, library.SMALL))
+        room = rng.choice((1 << 20, 4096, c_library.SMALL))
         of_library = bufr_library.Library(PATH, tables[0].read_bytes(), tables[1].read_bytes(), room)
-        trial = library.try_text if kind == "text" else library.try_stream
+        trial = c_library.try_text if kind == "text" else c_library.try_stream
         try:
             trial(f"case {number}, {kind}", octets, tables, of_library)
         except bufr_library.LibraryError as error:
-            library.alike(f"case {number}: status", error.status, library.table_status(tables))
-    return list(library.wrongs)
+            c_library.alike(f"case {number}: status", error.status, c_library.table_status(tables))
+    return list(c_library.wrongs)
 
 
 def main(words: list) -> None:
@@ -63,5 +63,5 @@ if __name__ == "__main__":
     if len(sys.argv) < 2:
         sys.exit(__doc__.strip())
     PATH = str(pathlib.Path(sys.argv[1]).resolve() / "libbufr.so")
-    library.PROGRAM = random_trial.PROGRAM = str(pathlib.Path(sys.argv[4] if len(sys.argv) > 4 else BUILT).resolve())
+    c_library.PROGRAM = random_trial.PROGRAM = str(pathlib.Path(sys.argv[4] if len(sys.argv) > 4 else BUILT).resolve())
     main(sys.argv[2:4])

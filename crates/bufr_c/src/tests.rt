@@ -16,7 +16,7 @@ const NONE: Texts = Texts {
 };
 
 #[test]
-fn reports_two_stray_bufr_words(rt: HostRuntime) {
+fn reports_two_stray_start_markers(rt: HostRuntime) {
     let (mut lines, mut faults) = ([0; 8], [0; 33]);
     let mut texts = NONE;
     let octets = b"BUFR BUFR";
@@ -31,7 +31,7 @@ fn reports_two_stray_bufr_words(rt: HostRuntime) {
 }
 
 #[test]
-fn stops_if_a_line_does_not_fit(rt: HostRuntime) {
+fn stops_if_fault_report_does_not_fit_in_buffer(rt: HostRuntime) {
     let (mut lines, mut faults) = ([0; 8], [0; 31]);
     let mut texts = NONE;
     let octets = b"BUFR BUFR";
@@ -65,7 +65,7 @@ const BLOCK_INPUT: CallInput<'static> = CallInput {
 };
 
 #[test]
-fn dumps_a_message_and_encodes_the_dump(rt: HostRuntime) {
+fn dumps_message_and_encodes_result(rt: HostRuntime) {
     let (mut text, mut faults) = ([0; 400], [0; 64]);
     let mut texts = NONE;
     let status = bufr_dump(rt.alloc(), &BLOCK_INPUT, &mut text, &mut faults, &mut texts);
@@ -96,7 +96,7 @@ fn dumps_a_message_and_encodes_the_dump(rt: HostRuntime) {
 }
 
 #[test]
-fn reports_required_space(rt: HostRuntime) {
+fn returns_required_buffer_sizes(rt: HostRuntime) {
     let input = CallInput {
         octets: b"subset 1\n",
         ..BLOCK_INPUT
@@ -110,7 +110,7 @@ fn reports_required_space(rt: HostRuntime) {
 }
 
 #[test]
-fn rejects_an_unknown_form(rt: HostRuntime) {
+fn rejects_invalid_form_number(rt: HostRuntime) {
     let input = CallInput {
         form: 3,
         ..BLOCK_INPUT
@@ -147,7 +147,7 @@ fn no_message() -> MessageRow {
 }
 
 #[test]
-fn reads_an_item(rt: HostRuntime) {
+fn returns_item_and_its_message(rt: HostRuntime) {
     let (mut items, mut messages) = ([NO_ITEM; 2], [no_message(); 1]);
     let mut counts = NO_COUNTS;
     let alloc = rt.alloc();
@@ -179,7 +179,7 @@ fn reads_an_item(rt: HostRuntime) {
 }
 
 #[test]
-fn reports_stray_bufr_word_and_stops_if_item_does_not_fit(rt: HostRuntime) {
+fn reports_stray_start_marker_and_stops_if_item_does_not_fit(rt: HostRuntime) {
     let mut octets = [0; 52];
     octets[..4].copy_from_slice(b"BUFR");
     octets[4..].copy_from_slice(&BLOCK);
@@ -204,7 +204,7 @@ fn reports_stray_bufr_word_and_stops_if_item_does_not_fit(rt: HostRuntime) {
 }
 
 #[test]
-fn reads_only_wanted_items(rt: HostRuntime) {
+fn returns_only_requested_items(rt: HostRuntime) {
     let input = CallInput {
         wanted: &[258],
         ..BLOCK_INPUT
@@ -224,7 +224,7 @@ fn reads_only_wanted_items(rt: HostRuntime) {
 }
 
 #[test]
-fn lists_a_message_after_other_octets(rt: HostRuntime) {
+fn lists_message_after_leading_spaces(rt: HostRuntime) {
     let (mut lines, mut faults) = ([0; 251], [0; 64]);
     let mut octets = [b' '; 60];
     octets[12..].copy_from_slice(&BLOCK);
@@ -261,6 +261,6 @@ fn returns_fault_number_for_invalid_table(rt: HostRuntime) {
 }
 
 #[test]
-fn returns_the_version(rt: HostRuntime) {
+fn returns_library_version(rt: HostRuntime) {
     assert_eq!(rt; bufr_version(), 1_000);
 }

@@ -1,4 +1,4 @@
-//! Tests of reading and writing bits, of devices, and of decimal numbers in text.
+//! Tests for bit strings, readers and writers, and decimal text.
 ghost use Rattle.std.specs.Prelude.{◌≤◌, length};
 
 use crate::support::{Runtime, assert_same, joined, ok, repeated};
@@ -63,8 +63,7 @@ const NUMBERS_AT_THE_ENDS: &[(u64, u32, Option<u64>)] = &[
 
 const OCTETS_AT_THE_ENDS: &[(u64, Option<u8>)] = &[(3, Some(0x09)), (64, Some(0x01)), (65, None)];
 
-/// Each row contains a bit offset, an octet count, and the octets that `octets` should return for
-/// that offset and count.
+/// Each row contains a bit offset, an octet count, and the expected result of `octets`.
 #[rattlefmt::skip]
 const BORROWED_OCTETS: &[(u64, usize, Option<&[u8]>)] = &[
     (56, 2, Some(b"\xEF\x01")), (72, 0, Some(b"")), (57, 1, None), (64, 2, None), (80, 0, None),
@@ -72,7 +71,7 @@ const BORROWED_OCTETS: &[(u64, usize, Option<&[u8]>)] = &[
 
 #[test]
 // rule: past-last-bit
-fn returns_none_past_the_last_bit(rt: HostRuntime) {
+fn returns_none_past_last_bit(rt: HostRuntime) {
     for (at, width, want) in NUMBERS_AT_THE_ENDS {
         assert_number(&rt, NINE, *at, *width, *want);
     }
@@ -85,9 +84,9 @@ fn returns_none_past_the_last_bit(rt: HostRuntime) {
     }
 }
 
-/// Fields in a sequence of 15 one bits followed by a zero bit. Each row contains the bit offset of
-/// a field, its width, and whether all its bits are ones, or `None` if the field extends past the
-/// last bit.
+/// Fields of a 16-bit string in which only the last bit is zero. Each row contains a field's bit
+/// offset and width, and the expected result of `all_ones` (`None` if the field extends past the
+/// last bit).
 #[rattlefmt::skip]
 const ONES_AND_A_ZERO: &[(u64, u32, Option<bool>)] = &[
     (0, 15, Some(true)), (0, 16, Some(false)), (1, 16, None), (16, 0, Some(true)),
@@ -125,7 +124,7 @@ fn push_octets(rt: &impl Runtime, writer: &mut BitWriter, octets: &[u8])
     ok(rt, writer.push_octets(octets));
 }
 
-/// `put` and `put_octets` write bits into space that `reserve` has reserved.
+/// `put` and `put_octets` write bits into space that was reserved with `reserve`.
 #[test]
 fn writes_bits_into_reserved_space(rt: HostRuntime) {
     let mut writer = BitWriter::new(rt.alloc());
@@ -143,8 +142,8 @@ fn writes_bits_into_reserved_space(rt: HostRuntime) {
 /// Values to push at each width. Bits that do not fit in the width are dropped.
 const PUSHED: &[u64] = &[0, 1, u64::MAX, 0x5A5A_5A5A_5A5A_5A5A];
 
-/// Returns a writer to which the values in `PUSHED` have been pushed at each width from 0 to 63.
-/// The octets in `NINE` follow the values of each width.
+/// Pushes the values in `PUSHED` at each width from 0 to 63, followed each time by the octets in
+/// `NINE`. Returns the writer.
 fn pushed_at_each_width(rt: &impl Runtime) -> BitWriter {
     let mut writer = BitWriter::new(rt.alloc());
     for width in 0..64u32 {
@@ -186,7 +185,7 @@ fn pushes_values_of_every_bit_width(rt: HostRuntime) {
     assert_same(&rt, &at, &length, &"length");
 }
 
-/// A reader and writer whose every call is interrupted.
+/// A reader and writer whose reads, writes and flushes are all interrupted.
 #[derive(Drop)]
 struct Broken;
 
@@ -232,7 +231,7 @@ fn assert_flush<W: Sink>(rt: &impl Runtime, sink: &mut W, want: Result<(), Faile
 }
 
 #[test]
-fn scripted_reader_fails_at_the_given_offset(rt: HostRuntime) {
+fn scripted_reader_fails_at_given_offset(rt: HostRuntime) {
     let mut source = ScriptIn::new(b"abcdefg", 3, Some(5));
     let mut buf = [0u8; 4];
     let reads = [Ok(3), Ok(2), Err(Failed), Err(Failed)];
@@ -240,15 +239,15 @@ fn scripted_reader_fails_at_the_given_offset(rt: HostRuntime) {
     assert_same(&rt, &buf, b"dec\0", &"octets");
 }
 
-/// The octets of successive writes to a scripted writer, each with the expected result.
+/// Successive writes to a scripted writer, each with its expected result.
 const WRITES: &[(&[u8], Result<usize, Failed>)] = &[
     (b"", Ok(0)),
     (b"abcd", Ok(3)),
     (b"def", Ok(2)),
 ];
 
-/// Each row specifies how a scripted writer behaves when it is full, and contains the expected
-/// results of a write and a flush.
+/// Each row contains the behavior of a full scripted writer, and the expected results of a write
+/// and a flush.
 #[rattlefmt::skip]
 const ENDS: &[(End, Result<usize, Failed>, Result<(), Failed>)] = &[
     (End::Zero, Ok(0), Ok(())),
@@ -256,7 +255,7 @@ const ENDS: &[(End, Result<usize, Failed>, Result<(), Failed>)] = &[
     (End::Flush, Err(Failed), Err(Failed)),
 ];
 
-/// A writer with space for five octets accepts at most three octets in each write.
+/// The writer has space for five octets, and accepts at most three octets per write.
 #[test]
 fn scripted_writer_stops_when_full(rt: HostRuntime) {
     for (end, last, flushed) in ENDS {
@@ -268,7 +267,6 @@ fn scripted_writer_stops_when_full(rt: HostRuntime) {
     }
 }
 
-/// A device reports a failure if its reader or writer fails.
 #[test]
 fn device_fails_if_its_reader_or_writer_fails(rt: HostRuntime) {
     let mut source = Device::new(b"abc".as_slice());
@@ -308,7 +306,7 @@ const TEXTS: &[(i128, i16, &[u8])] = &[
     (i128::MAX, 38, b"1.70141183460469231731687303715884105727"),
 ];
 
-/// The least and the greatest `i128`. Each row contains a number, its sign, and its 39 digits.
+/// The smallest and largest `i128` values. Each row contains a number, its sign, and its 39 digits.
 #[rattlefmt::skip]
 const ENDS_OF_NUMBERS: &[(i128, &[u8], &[u8])] = &[
     (i128::MIN, b"-", b"170141183460469231731687303715884105728"),
@@ -333,7 +331,7 @@ fn writes_decimals_and_reads_them_back(rt: HostRuntime) {
     }
 }
 
-/// Pairs of strings and scales that are rejected, grouped by fault.
+/// Pairs of a string and a scale that should be rejected, grouped by the expected fault.
 #[rattlefmt::skip]
 const REFUSED: &[(NumberFault, &[(&[u8], i16)])] = &[
     (NumberFault::Syntax, &[
@@ -353,8 +351,8 @@ const REFUSED: &[(NumberFault, &[(&[u8], i16)])] = &[
     ]),
 ];
 
-/// Pairs of strings and scales, each with the number that should be read. Many of the numbers are
-/// near the limits of 64 bits.
+/// Valid pairs of a string and a scale, each with the expected number. Many of the numbers are
+/// close to the limits of 64-bit integers.
 #[rattlefmt::skip]
 const READ: &[(&[u8], i16, i128)] = &[
     (b"28800", -2, 288), (b"-0", 0, 0), (b"-0.00", 2, 0), (b"007.50", 1, 75), (b"-000.10", 1, -1),
@@ -392,8 +390,8 @@ fn accepts_valid_decimals_and_rejects_invalid_ones(rt: HostRuntime) {
     }
 }
 
-/// Strings, each with the length, in octets, of the short decimal at its start. The length is 0 if
-/// the string does not start with a short decimal.
+/// Each row contains a string and the length in octets of the short decimal at its start. The
+/// length is 0 if the string does not start with a short decimal.
 #[rattlefmt::skip]
 const PREFIXES: &[(&[u8], usize)] = &[
     (b"0", 1), (b"10  # K", 2), (b"-0.50 ", 5), (b"0.05x", 4), (b"1-2", 1), (b"1.5.", 3),
@@ -417,7 +415,7 @@ fn assert_prefix(rt: &impl Runtime, text: &[u8], want: usize) {
 }
 
 #[test]
-fn finds_short_decimal_at_start_of_text(rt: HostRuntime) {
+fn parses_short_decimal_at_start_of_text(rt: HostRuntime) {
     for (text, want) in PREFIXES {
         assert_prefix(&rt, text, *want);
     }

@@ -1,4 +1,4 @@
-//! Tests of what is cached between messages: templates, and the field specs of their cells.
+//! Tests for the caches that store templates and field specs between messages.
 
 use crate::encode_tests::{document_of, encoded};
 use crate::messages::{PLAIN, message_of, text_of};
@@ -8,10 +8,10 @@ use crate::support::{Runtime, assert_same, ok, repeated};
 use bufr_text::{Form, encode_by};
 use bufr_walk::{SpecCache, Steps, TemplateCache};
 
-/// The number of descriptor lists that are encoded, which is more than the cache can store.
+/// The number of descriptor lists to encode, which is more than the cache can store.
 const LISTS: u16 = 140;
 
-/// Returns the descriptor list with the given index. List 3 is invalid, and the template of list 8
+/// Returns the descriptor list with the given index. List 3 is invalid, and the template for list 8
 /// has too many cells to be cached.
 fn list_of(rt: &impl Runtime, index: u16) -> String {
     let width = (index % 40).saturating_add(128);
@@ -66,7 +66,7 @@ fn encodes_more_descriptor_lists_than_fit_in_cache(rt: HostRuntime) {
 }
 
 #[test]
-fn caches_at_most_1024_cells(rt: HostRuntime) {
+fn caches_field_specs_for_at_most_1024_cells(rt: HostRuntime) {
     let task = Task::new(&rt, Encode);
     let mut specs = SpecCache::new(rt.alloc(), &task.b);
     for (cells, room) in [(0, 0), (3, 3), (1024, 1024), (1025, 1024), (0, 0)] {

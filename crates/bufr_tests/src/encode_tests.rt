@@ -1,5 +1,5 @@
-//! Tests of encoding documents. The tests check the messages, the faults, and the number of steps
-//! in the walk.
+//! Tests for encoding documents. The tests check the resulting messages, the faults, and the number
+//! of steps.
 
 use crate::messages::{HEAD, PACKED, PLAIN, dump_of, message_of_hex, text_of};
 use crate::runs::Command::{Dump, Encode, EncodeIn};
@@ -15,16 +15,16 @@ use bufr_walk::Steps;
 /// The expected result of encoding a document.
 #[derive(Clone, Copy)]
 pub(crate) enum Want {
-    /// A message whose data are given as hexadecimal digits.
+    /// The data of the expected message, in hexadecimal digits.
     Data(&'static str),
-    /// The fault line with which the document is rejected.
+    /// The expected fault line, without the word `line` at its start.
     Fault(&'static str),
 }
 
 use Want::{Data, Fault};
 
-/// A document to encode: its name, its number of subsets, its flags, descriptors and items, the
-/// expected result, and the expected number of steps in the walk. A `|` separates subsets, and a
+/// A document to encode. The fields are the document's name, number of subsets, flags, descriptors
+/// and items, followed by the expected result and number of steps. A `|` separates subsets, and a
 /// `;` separates the items of a subset. The first item is on line 24.
 pub(crate) struct Row(
     &'static str,
@@ -66,11 +66,12 @@ static ROWS: &[Row] = &[
         Fault("25: 62 walk 31 descriptor 001001"), 3),
 ];
 
-/// The items of two subsets. The first subset contains one block number, and the second subset
-/// contains two block numbers.
+/// The items of two subsets. The first subset contains one block number, and the second contains
+/// two.
 const UNEQUAL: &str = "031001 1;001001 10|031001 2;001001 10;001001 11";
 
-/// Each row contains a form, the expected flags of a message in that form, and a document.
+/// Each row contains the requested form, the flags of the expected message, and the document to
+/// encode.
 #[rattlefmt::skip]
 static FORMS: &[(Form, u8, Row)] = &[
     (Form::Compressed, PACKED, Row("delayed_twice", 1, PLAIN, DELAYED,
@@ -93,8 +94,8 @@ impl Row {
         text_of(rt, self.1, self.2, self.3, self.4)
     }
 
-    /// Returns the expected message with the given flags, or no octets if the document should be
-    /// rejected.
+    /// Returns the expected message with the given flags, or an empty vector if the document should
+    /// be rejected.
     fn message(&self, rt: &impl Runtime, flags: u8) -> Vec<u8> {
         match self.5 {
             Data(digits) => message_of_hex(rt, self.1, flags, self.3, digits),
@@ -118,7 +119,7 @@ pub(crate) fn document_of(rt: &impl Runtime, text: &[u8]) -> Document {
     some(rt, ok(rt, reader.next_document(&mut input)))
 }
 
-/// Encodes a document with the command and the tables of a task.
+/// Encodes a document using the command, allocator and tables in `task`.
 fn encode_by(
     task: &Task,
     document: &Document,
@@ -130,8 +131,8 @@ fn encode_by(
     }
 }
 
-/// Encodes a document twice, and returns the result and the number of steps of the second call. The
-/// steps of the first call must not be counted again.
+/// Encodes a document twice with the same step counter. Returns the result and the step count of
+/// the second call. This count must not include the steps of the first call.
 pub(crate) fn encoded(
     rt: &impl Runtime,
     command: Command,
@@ -153,7 +154,7 @@ fn encode_once(
     encode_by(&Task::new(rt, command), document, &mut Steps::new())
 }
 
-/// Encodes a document that must be valid, and returns the octets of the message.
+/// Encodes a document, which must be valid, and returns the octets of the message.
 fn octets_of(rt: &impl Runtime, command: Command, document: &Document) -> Vec<u8> {
     ok(rt, encode_once(rt, command, document))
 }
@@ -195,7 +196,7 @@ fn assert_encoded(rt: &impl Runtime, command: Command, flags: u8, row: &Row) {
     assert_run(rt, run)
 }
 
-/// Checks the result and the number of steps for each document in `ROWS`. More documents are in
+/// Checks the result and the number of steps for every document in `ROWS`. More documents are in
 /// `tests/vectors`.
 #[test]
 // rule: fault-lines-of-encoding
@@ -213,12 +214,12 @@ fn assert_forms(rt: &impl Runtime, forms: &[(Form, u8, Row)]) {
 
 #[test]
 // rule: writes-form, form-option
-fn encodes_in_the_requested_form(rt: HostRuntime) {
+fn encodes_documents_in_requested_form(rt: HostRuntime) {
     assert_forms(&rt, FORMS)
 }
 
 #[test]
-fn law_functions_accept_valid_arguments() {
+fn encoding_laws_can_be_called() {
     laws::dumped_messages_are_encoded_again();
     laws::encoded_messages_are_accepted();
     laws::dumped_messages_are_encoded_in_each_form();
@@ -226,12 +227,12 @@ fn law_functions_accept_valid_arguments() {
     laws::encoded_documents_are_read();
 }
 
-/// The lines of a document from `observed` to its descriptor list. The document has 65,535 subsets,
-/// which is the maximum, and each subset contains two strings.
+/// The lines of a document from the `observed` line to the descriptor list. The document has 65,535
+/// subsets (the maximum), each with two strings.
 const MANY_SUBSETS: &str =
     "observed 1\ncompressed 1\noptional 0\nsubsets 65535\ndescriptors 205255 205002\n";
 
-/// Returns the document whose lines are in `MANY_SUBSETS`.
+/// Returns the document that contains the lines in `MANY_SUBSETS`.
 fn text_of_many_subsets(rt: &impl Runtime) -> String {
     let mut text = with_head(rt, MANY_SUBSETS);
     for subset in 1..=65_535 {
@@ -258,14 +259,14 @@ fn assert_too_long(rt: &impl Runtime, command: Command, document: &Document, lin
     assert_same(rt, &fault.line(), &Some(line), &fault)
 }
 
-/// The lines of a document from `observed` to its descriptor list, without the last descriptor. The
-/// document contains 65,792 strings of 255 octets, followed by a string whose width the last
-/// descriptor specifies.
+/// The lines of a document from the `observed` line to the descriptor list, without the last
+/// descriptor. The document contains 65,792 strings of 255 octets, followed by a string whose
+/// length depends on the last descriptor.
 const MANY_TEXTS: &str = "observed 1\ncompressed 0\noptional 0\nsubsets 1\n\
     descriptors 102255 101255 205255 102003 101255 205255 205255 205255\ndescriptors ";
 
-/// Returns the document whose lines are in `MANY_TEXTS`. The document begins with a comment, and
-/// `last` is the descriptor of its last string.
+/// Returns the document that begins with a comment and contains the lines in `MANY_TEXTS`. `last`
+/// is the descriptor of the last string.
 fn text_of_many_strings(rt: &impl Runtime, last: &str) -> String {
     let head = format!(in rt.alloc(); "# a comment\n{HEAD}{MANY_TEXTS}");
     let mut text = ok(rt, head);
@@ -282,7 +283,7 @@ fn text_of_many_strings(rt: &impl Runtime, last: &str) -> String {
 /// The maximum length of a message is 16,777,215 octets.
 #[test]
 // rule: fault-60
-fn encodes_the_longest_message(rt: HostRuntime) {
+fn encodes_message_of_maximum_length(rt: HostRuntime) {
     let text = text_of_many_strings(&rt, "205192");
     let octets = octets_for(&rt, text.as_bytes());
     assert_same(&rt, &octets.len(), &16_777_215, &"length");
@@ -292,7 +293,7 @@ fn encodes_the_longest_message(rt: HostRuntime) {
 
 /// If a message would be one octet longer than the maximum, nothing is written.
 #[test]
-fn rejects_message_one_octet_too_long(rt: HostRuntime) {
+fn rejects_message_that_is_one_octet_too_long(rt: HostRuntime) {
     let text = text_of_many_strings(&rt, "205193");
     let document = document_of(&rt, text.as_bytes());
     assert_too_long(&rt, Encode, &document, 2);
@@ -301,19 +302,20 @@ fn rejects_message_one_octet_too_long(rt: HostRuntime) {
     run_whole(&rt, Encode, text.as_bytes()).assert(&rt, run, 0)
 }
 
-/// The lines of a document after the header, as someone might write them by hand.
+/// The lines after the header of a handwritten document.
 const BY_HAND: &str = "observed 1\ncompressed 0\n\n# local use and section 2\noptional 1\n\
     subsets 001\nlocal1 ab\nlocal1 CD\nsection2 0102\ndescriptors 012101\ndescriptors 001015\n\
     subset 01\n012101 0288.1\n001015 \"ABC\"  # a name\nend\n";
 
-/// The lines that `dump` writes for the same document.
+/// The corresponding lines in the output of `dump`.
 const AS_DUMPED: &str = "observed 1\ncompressed 0\noptional 1\nsubsets 1\nlocal1 ABCD\n\
     section2 0102\ndescriptors 012101 001015\nsubset 1\n012101 288.10  # AIR TEMPERATURE [K]\n\
     001015 \"ABC                 \"  # STATION OR SITE NAME [CCITT IA5]\nend\n";
 
-/// A handwritten document and its dump are encoded to the same octets.
+/// Encoding a handwritten document and dumping the result normalizes the document. Encoding the
+/// normalized document gives the same octets.
 #[test]
-fn dumps_handwritten_document_in_normal_form(rt: HostRuntime) {
+fn normalizes_handwritten_document(rt: HostRuntime) {
     let octets = octets_for(&rt, with_head(&rt, BY_HAND).as_bytes());
     let text = dumped(&rt, &octets);
     let want = with_head(&rt, AS_DUMPED);
@@ -332,8 +334,8 @@ const ALIKE: &[(u16, &str, &str)] = &[
     (1, "001001 012101", "001001 13;012101 288.15"),
 ];
 
-/// Lines that all subsets share are dumped in each subset, in the correct positions. The shared
-/// lines of one message do not appear in the next message.
+/// Lines that all subsets share are printed in the correct place in each subset. The shared lines
+/// of one message do not appear in the dump of the next message.
 #[test]
 fn dumps_shared_lines_in_every_subset(rt: HostRuntime) {
     let (mut text, mut dump) = (String::new(rt.alloc()), String::new(rt.alloc()));
@@ -353,7 +355,7 @@ fn assert_fault(rt: &impl Runtime, fault: DocumentFault, number: u8, line: Optio
 }
 
 #[test]
-fn reports_number_and_line_for_document_fault(rt: HostRuntime) {
+fn returns_fault_number_and_line_for_documents(rt: HostRuntime) {
     let fxy = Fxy::from_word(0x0101);
     let template = TemplateFault::EmptyGroup(fxy);
     let item = ItemFault::WrongDescriptor(Expected::Item(fxy));

@@ -1,4 +1,4 @@
-//! Tests of writing items as plain or compressed data, and of faults in items.
+//! Tests for writing items as plain or compressed data, and for faults in items.
 
 use crate::support::{Runtime, assert_same, assert_that, from_hex, ok, table_b, template_of};
 use bufr_bits::ShortDecimal;
@@ -9,8 +9,8 @@ use bufr_fill::{
 use bufr_tables::{Fxy, TableB, Template};
 use bufr_walk::{Fields, Steps, WalkStop, walk};
 
-/// Returns the items of two subsets with one 7-bit element each. The first number is given as a
-/// short decimal, and the second as octets.
+/// Returns the items of two subsets, each with one 7-bit element. The first number is given as a
+/// short decimal, and the second as a string of digits.
 fn two_items(rt: &impl Runtime, digits: u64) -> Entries {
     let mut entries = Entries::new(rt.alloc());
     let fxy = Fxy::from_word(257);
@@ -34,7 +34,7 @@ fn two_items(rt: &impl Runtime, digits: u64) -> Entries {
     entries
 }
 
-/// Returns the number of a fault and the line of its item, or line 0 if memory ran out.
+/// Returns the fault number and the line number of the invalid item (0 if memory ran out).
 fn fault_of(fault: DraftFault) -> (u8, u64) {
     let line = match fault {
         DraftFault::Item(line, _) => line,
@@ -43,8 +43,8 @@ fn fault_of(fault: DraftFault) -> (u8, u64) {
     (fault.number(), line)
 }
 
-/// Returns the number and the line of the fault that stopped a walk. If the walk itself found the
-/// fault, the line is `next`, the line of the next entry.
+/// Returns the fault number and the line number for the fault that stopped a walk. For faults 31
+/// and 32, the line number is `next` (the line of the next entry).
 fn stop_of(stop: WalkStop<DraftFault>, next: u64) -> (u8, u64) {
     match stop {
         WalkStop::Width(_) => (31, next),
@@ -55,7 +55,7 @@ fn stop_of(stop: WalkStop<DraftFault>, next: u64) -> (u8, u64) {
 }
 
 /// Writes the items of two subsets as plain data. Returns the data or the fault, and the number of
-/// bits in the complete subsets.
+/// bits in the subsets that were written completely.
 fn write_plain(
     rt: &impl Runtime,
     entries: &Entries,
@@ -103,7 +103,7 @@ fn write_compressed(
 }
 
 #[test]
-fn law_functions_accept_valid_arguments() {
+fn writing_laws_can_be_called() {
     laws::data_round_trip();
     laws::items_are_packed_with_the_least_k();
     laws::written_data_are_read();
@@ -129,7 +129,7 @@ fn assert_written(
 }
 
 #[test]
-fn writes_plain_and_compressed_items(rt: HostRuntime) {
+fn writes_items_as_plain_and_compressed_data(rt: HostRuntime) {
     let (template, table) = (template_of(&rt, "001001"), table_b(&rt));
     let entries = two_items(&rt, 10);
     assert_same(&rt, &entries.len(), &4, &"entries");
@@ -150,7 +150,7 @@ fn rejects_number_reserved_for_missing_values(rt: HostRuntime) {
 }
 
 #[test]
-fn reports_number_for_draft_fault(rt: HostRuntime) {
+fn returns_fault_numbers_for_items(rt: HostRuntime) {
     let fxy = Fxy::from_word(257);
     let many = WalkRefusal::TooManyValues(fxy);
     let rows = [

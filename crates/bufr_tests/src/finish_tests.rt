@@ -1,4 +1,4 @@
-//! Tests of the last line that a run writes to its error output, and of its exit status.
+//! Tests for a run's exit status and the last line of its error output.
 
 use crate::runs::{tally, writer};
 use crate::support::{Runtime, assert_same, joined, ok, read_d, some};
@@ -7,8 +7,8 @@ use bufr_cli::{Outcome, finish};
 use bufr_frame::RunFault;
 use bufr_tables::{Fxy, TableFault};
 
-/// Finishes a run. Returns the exit status and the line that was written to the error output, which
-/// is full after `room.0` octets and then behaves as `room.1` specifies.
+/// Finishes a run whose error output has space for `room.0` octets. `room.1` specifies how the
+/// error output behaves when it is full. Returns the exit status and the line that was written.
 fn finished(rt: &impl Runtime, run: &Outcome<'_>, room: (usize, End)) -> (u8, Vec<u8>) {
     let mut e = writer(rt, 3, room);
     let status = finish(run, &mut e);
@@ -23,8 +23,7 @@ fn assert_finished(rt: &impl Runtime, run: &Outcome<'_>, line: &str, status: u8)
     assert_same(rt, &found, &status, &line);
 }
 
-/// Asserts that the line for a fault consists of `bufr`, the number of the fault, and the
-/// description of the fault.
+/// Asserts that the fault line consists of `bufr`, the fault number and the description.
 fn assert_run_fault(rt: &impl Runtime, fault: RunFault, text: &str) {
     let shown = ok(rt, format!(in rt.alloc(); "{} {fault}", fault.number()));
     assert_same(rt, &shown.as_str(), &text, &fault);
@@ -34,7 +33,7 @@ fn assert_run_fault(rt: &impl Runtime, fault: RunFault, text: &str) {
 
 #[test]
 // rule: status-0-and-1, status-of-usage, status-of-open, fault-70, fault-71, fault-72, fault-73
-fn reports_outcome_and_exit_status(rt: HostRuntime) {
+fn prints_final_line_and_returns_exit_status(rt: HostRuntime) {
     assert_finished(&rt, &Outcome::Ran(tally(3, 0)), "", 0);
     assert_finished(&rt, &Outcome::Ran(tally(3, 1)), "", 1);
     let usage = "error: no command\n";
@@ -47,8 +46,8 @@ fn reports_outcome_and_exit_status(rt: HostRuntime) {
     assert_run_fault(&rt, RunFault::Memory, "73 out of memory");
 }
 
-/// Asserts that the line for a fault in Table B or Table D consists of the name of the table, and
-/// the number and description of the fault. If memory ran out, the line begins with `bufr` instead.
+/// Asserts that the line for a table fault consists of the table's name, the fault number and the
+/// description. If memory ran out, the line contains `bufr` instead of the table's name.
 fn assert_table_fault(rt: &impl Runtime, fault: TableFault, text: &str) {
     let shown = ok(rt, format!(in rt.alloc(); "{} {fault}", fault.number()));
     assert_same(rt, &shown.as_str(), &text, &fault);

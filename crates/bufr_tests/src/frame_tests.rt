@@ -1,4 +1,4 @@
-//! Tests of finding messages in streams, splitting messages into sections, and writing messages.
+//! Tests for finding messages in streams, splitting messages into sections, and writing messages.
 
 use crate::messages::{
     COMPRESSED, EDITION_3, EDITION_3_ODD, LOCAL_USE, ONE_BLOCK_NUMBER, PACKED, PLAIN, STRAY,
@@ -14,10 +14,9 @@ use bufr_frame::{
 };
 use std::alloc::Global;
 
-/// Messages that the tests build from parts are equal to the messages that are listed octet by
-/// octet.
+/// Messages that are built from parts have the same octets as the constants in `messages`.
 #[test]
-fn builds_messages_with_expected_octets(rt: HostRuntime) {
+fn builds_test_messages_with_expected_octets(rt: HostRuntime) {
     let one = message_of_hex(&rt, 1, PLAIN, "001001", "14");
     assert_same(&rt, &one.as_slice(), &ONE_BLOCK_NUMBER, &"plain");
     let two = message_of_hex(&rt, 2, PACKED, "012101", "708F05");
@@ -25,9 +24,9 @@ fn builds_messages_with_expected_octets(rt: HostRuntime) {
     assert_same(&rt, &bulletins(&rt).len(), &305, &"bulletins");
 }
 
-/// An expected event: a frame with its offset and length, a stray with its offset and cause, the
-/// end of the stream, or a failed read. `Holds` is not an event, but states the number of octets
-/// that the finder should buffer, and the greatest length declared so far.
+/// An expected event. `Frame` contains the offset and length of a message. `Stray` contains the
+/// offset of a `BUFR` that does not begin a message, and the cause. `Holds` is not an event, but
+/// contains the expected number of buffered octets and the greatest length declared so far.
 #[derive(Clone, Copy, Debug, PartialEq, Eq)]
 enum Want {
     Frame(u64, usize),
@@ -47,7 +46,7 @@ fn has_at(stream: &[u8], offset: u64, octets: &[u8]) -> bool {
 }
 
 /// Returns the next event. Returns `None` if a frame differs from the octets at its offset in the
-/// stream, or if the finder reports a fault that is not a failed read.
+/// stream, or if the finder reports a fault other than a failed read.
 fn next_event(stream: &[u8], finder: &mut Finder, r: &mut ScriptIn<'_>) -> Option<Want> {
     match finder.next(r) {
         Ok(Event::Frame(offset, octets)) => {
@@ -81,8 +80,8 @@ fn assert_event(
 }
 
 /// Asserts that the finder returns the events in `wanted`. Each read returns at most `step` octets
-/// of the stream, and reads fail from offset `fails_at` on. After the last event, each call returns
-/// the end of the stream or the failed read again.
+/// of the stream, and reads fail from offset `fails_at` on. After the last event in `wanted`, each
+/// call reports the end of the stream or, if `fails_at` is set, a failed read.
 fn assert_events_by(
     rt: &impl Runtime,
     stream: &[u8],
@@ -108,7 +107,7 @@ fn assert_events_by(
     assert_same(rt, &measures_of(&finder).1, &longest, &step);
 }
 
-/// For each trial, the maximum number of octets that a read returns.
+/// The maximum read sizes to test, in octets.
 const STEPS: &[usize] = &[1, 3, 65536];
 
 fn assert_events(
@@ -123,7 +122,7 @@ fn assert_events(
     }
 }
 
-/// Each row contains the parts of a stream, the offset at which its reader fails, the expected
+/// Each row contains the parts of a stream, the offset at which reads begin to fail, the expected
 /// events, and the greatest declared length.
 #[rattlefmt::skip]
 const STREAMS: &[(&[&[u8]], Option<usize>, &[Want], usize)] = &[
@@ -134,7 +133,7 @@ const STREAMS: &[(&[&[u8]], Option<usize>, &[Want], usize)] = &[
     (&[STRAY, ONE_BLOCK_NUMBER, b"xyBUF", ONE_BLOCK_NUMBER, b"BUFR\x00\x00\x0B\x04abcBUFR"], None,
         &[Stray(0, Cause::NoEnd), Frame(8, 48), Frame(61, 48), Stray(109, Cause::ShortLength),
             Stray(120, Cause::Cut)], 64),
-    // The finder returns all events that are certain before it reports the failed read.
+    // The finder returns every event that is certain before it reports the failed read.
     (&[ONE_BLOCK_NUMBER], Some(20), &[], 48),
     (&[ONE_BLOCK_NUMBER, ONE_BLOCK_NUMBER], Some(48), &[Frame(0, 48)], 48),
     (&[ONE_BLOCK_NUMBER, ONE_BLOCK_NUMBER], Some(58), &[Frame(0, 48)], 48),
@@ -147,16 +146,15 @@ const STREAMS: &[(&[&[u8]], Option<usize>, &[Want], usize)] = &[
 
 #[test]
 // rule: first-bufr, stray-cut, stray-short-length, stray-no-end
-fn finds_messages_and_stray_bufr_words_in_streams(rt: HostRuntime) {
+fn finds_messages_and_stray_start_markers(rt: HostRuntime) {
     for (parts, fails_at, wanted, longest) in STREAMS {
         let stream = joined(&rt, parts);
         assert_events(&rt, &stream, *fails_at, wanted, *longest);
     }
 }
 
-/// Returns the expected events for 1,024 strays that begin every `apart` octets. The first
-/// `without_end` strays do not end with `7777`, and the others are cut off by the end of the
-/// stream.
+/// Returns the expected events for 1,024 stray `BUFR` markers that begin `apart` octets apart. The
+/// first `without_end` events have the cause `NoEnd`, and the others have the cause `Cut`.
 fn strays(rt: &impl Runtime, apart: u64, without_end: u64) -> Vec<Want> {
     let mut wanted = Vec::new(rt.alloc());
     for i in 0..1024u64 {
@@ -170,11 +168,11 @@ fn strays(rt: &impl Runtime, apart: u64, without_end: u64) -> Vec<Want> {
     wanted
 }
 
-/// Each occurrence of `BUFR` declares a length. Sometimes the finder must read to the end of the
-/// input to determine whether a message is cut off.
+/// The finder interprets the three octets after each `BUFR` as a length. The finder must read to
+/// the end of the stream to determine that a message is cut off.
 #[test]
 // rule: after-a-stray, output-waits
-fn reports_each_bare_bufr_word(rt: HostRuntime) {
+fn reports_each_of_1024_stray_start_markers(rt: HostRuntime) {
     let words = repeated(&rt, b"BUFR", 1024);
     assert_events(&rt, &words, None, &strays(&rt, 4, 0), 0x42_55_46);
     let words = repeated(&rt, b"BUFR\x00\x10\x00\x04", 1024);
@@ -201,8 +199,8 @@ fn finds_message_longer_than_all_earlier_ones(rt: HostRuntime) {
     assert_events(&rt, &growing, None, &wanted, 5048);
 }
 
-/// A message that is longer than all earlier messages is buffered completely until the next call.
-/// Nothing else is buffered.
+/// A message that is longer than all earlier ones stays in the buffer until the next call. Nothing
+/// else is buffered.
 #[test]
 fn buffers_long_message_until_next_call(rt: HostRuntime) {
     let stream = joined(&rt, &[&long_message(&rt), ONE_BLOCK_NUMBER]);
@@ -211,7 +209,7 @@ fn buffers_long_message_until_next_call(rt: HostRuntime) {
 }
 
 #[test]
-fn law_functions_accept_valid_arguments() {
+fn framing_laws_can_be_called() {
     laws::open_scan_is_prefix();
     laws::events_to_the_end_are_the_scan();
     laws::events_before_the_end_are_certain();
@@ -244,9 +242,9 @@ const HEAD_3: Head = Head {
     year: 24, month: 1, day: 2, hour: 3, minute: 4, second: 0,
 };
 
-/// The contents of a message: section 1, the octets for local use in section 1, section 2, the
-/// number of subsets, whether the data are observed, whether the data are compressed, the first
-/// descriptor, and the data.
+/// The contents of a message. The fields are the values of section 1, the octets for local use,
+/// section 2, the number of subsets with the observed and compressed flags, the single descriptor,
+/// and the data.
 type Parts = (
     Head,
     &'static [u8],
@@ -338,8 +336,8 @@ fn length_of(rt: &impl Runtime, octets: &[u8]) -> Result<u64, SectionFault> {
     }
 }
 
-/// Each row contains changes to the octets of `ONE_BLOCK_NUMBER`, the expected fault, and the
-/// number and description of that fault.
+/// Each row contains changes to the octets of `ONE_BLOCK_NUMBER`, the expected fault, the fault
+/// number and the description.
 #[rattlefmt::skip]
 const FAULTS: &[(&[(usize, u8)], SectionFault, &str)] = &[
     (&[(7, 2)], SectionFault::Edition(2), "10 edition 2"),
@@ -362,8 +360,8 @@ fn changed(rt: &impl Runtime, changes: &[(usize, u8)]) -> Vec<u8> {
     octets
 }
 
-/// Asserts that parsing `octets` returns `fault`, and that `text` is the number and the description
-/// in the fault line.
+/// Asserts that parsing `octets` returns `fault`, and that `ls` reports the fault number and
+/// description in `text`.
 fn assert_fault(rt: &impl Runtime, octets: &[u8], fault: SectionFault, text: &str) {
     assert_same(rt, &length_of(rt, octets), &Err(fault), &text);
     let shown = ok(rt, format!(in rt.alloc(); "{} {fault}", fault.number()));
@@ -380,9 +378,9 @@ fn reports_section_faults(rt: HostRuntime) {
     }
 }
 
-/// Returns the length of an edition 3 message that is 16,777,214 octets long, or the fault if the
-/// message is rejected. `sections` contains sections 0 to 3, and `fourth` is the length field of
-/// section 4.
+/// Parses an edition 3 message that is 16,777,214 octets long. Returns the parsed length, or the
+/// fault if the message is rejected. `sections` contains sections 0 to 3, and `fourth` is the
+/// length field of section 4.
 fn length_of_long(
     rt: &impl Runtime,
     sections: Option<&[u8]>,
@@ -393,11 +391,10 @@ fn length_of_long(
     length_of(rt, &octets)
 }
 
-/// A message with odd sections is rejected if it would be too long after its sections are padded to
-/// even lengths.
+/// A message is rejected if padding its sections to even lengths would make it too long.
 #[test]
 // rule: edition-3-length
-fn rejects_long_edition_3_message_with_odd_sections(rt: HostRuntime) {
+fn rejects_edition_3_message_that_is_too_long_with_padding(rt: HostRuntime) {
     let odd = length_of_long(&rt, EDITION_3_ODD.get(..35), b"\xFF\xFF\xD7");
     assert_same(&rt, &odd, &Err(SectionFault::Edition3Long), &"odd");
     let even = length_of_long(&rt, EDITION_3.get(..36), b"\xFF\xFF\xD6");
@@ -414,8 +411,7 @@ fn length_with(rt: &impl Runtime, local: usize) -> Result<usize, WriteFault> {
     )
 }
 
-/// Each row contains the number of octets for local use in a message, and the message's length or
-/// its fault.
+/// Each row contains a number of octets for local use, and the expected message length or fault.
 #[rattlefmt::skip]
 const LOCAL_LENGTHS: &[(usize, Result<usize, WriteFault>)] = &[
     (16_777_215, Err(WriteFault::TooLong)), (16_777_171, Err(WriteFault::TooLong)),
@@ -442,7 +438,7 @@ fn reads_to_end_of_input_and_counts_reads(rt: HostRuntime) {
 
 /// Fills the buffer twice, and skips two octets after the first read.
 #[test]
-fn refills_buffer_after_a_skip(rt: HostRuntime) {
+fn refills_buffer_after_skipping_octets(rt: HostRuntime) {
     let mut r = ScriptIn::new(b"abcd", 3, None);
     let mut input = InputBuffer::new(rt.alloc());
     assert_same(&rt, &input.fill(&mut r, 4, 8), &Ok(()), &"first read");
@@ -453,9 +449,10 @@ fn refills_buffer_after_a_skip(rt: HostRuntime) {
     assert_same(&rt, &input.held(), &b"cd".as_slice(), &"octets");
 }
 
-/// Appends an octet after the end of the input, and checks that a failed read is reported.
+/// Appends an octet to the buffer at the end of the input, and checks that a failed read is
+/// reported.
 #[test]
-fn appends_octet_at_end_of_input(rt: HostRuntime) {
+fn appends_octet_to_buffer_at_end_of_input(rt: HostRuntime) {
     let mut r = ScriptIn::new(b"", 3, None);
     let mut input = InputBuffer::new(rt.alloc());
     assert_same(&rt, &input.fill(&mut r, 4, 8), &Ok(()), &"read");

@@ -1,4 +1,4 @@
-//! Tests of functions that allocate memory. Each function returns its complete result, or reports
+//! Tests for functions that allocate memory. Each function returns its complete result, or reports
 //! that memory ran out.
 //!
 //! `tests/failed_allocations.py` makes each allocation of each test fail in turn. Therefore, a test
@@ -15,8 +15,8 @@ use std::alloc::AllocError;
 use std::fmt::Debug;
 use std::process::Abort;
 
-/// Returns the result of a call, or `None` if memory ran out. Asserts that the call reported no
-/// fault other than running out of memory.
+/// Returns the result of a call, or `None` if memory ran out. Asserts that the call did not fail
+/// for any other reason.
 fn whole<T, E: Debug + PartialEq + Drop>(
     rt: &impl Abort,
     answer: Result<T, E>,
@@ -68,7 +68,7 @@ fn number_at(index: u64) -> u64 {
 }
 
 #[test]
-fn push_changes_nothing_if_allocation_fails(rt: HostRuntime) {
+fn pushing_bits_changes_nothing_if_allocation_fails(rt: HostRuntime) {
     let mut writer = BitWriter::new(rt.alloc());
     for index in 0..50 {
         push_number(&rt, &mut writer, number_at(index));
@@ -132,8 +132,7 @@ fn write_message_reports_failed_allocation(rt: HostRuntime) {
     }
 }
 
-/// Returns 32 nested replications of one descriptor each. The innermost replication contains an
-/// element.
+/// Returns the descriptors of 32 nested groups. The innermost group contains one element.
 fn thirty_two_groups() -> [Fxy; 33] {
     let mut descriptors = [Fxy::from_word(0x0101); 33];
     for place in 0..32u16 {
@@ -168,8 +167,8 @@ fn read_all_reports_failed_allocation(rt: HostRuntime) {
     }
 }
 
-/// Command lines, each with the end of the expected result: the name of a file, the help, or a
-/// usage error.
+/// Command lines, each with the end of the expected result (a file name, the help text or a usage
+/// error).
 #[rattlefmt::skip]
 static LINES: &[(&[&str], &str)] = &[
     (&["bufr", "encode", "-B", "b.csv", "-D", "d.csv", "--form", "plain", "x.txt"], "x.txt"),

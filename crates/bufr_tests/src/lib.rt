@@ -1,7 +1,7 @@
-//! Tests of the public functions of all libraries.
+//! Tests for the public functions in the library crates.
 //!
-//! The tests are in a separate crate because the tests in a crate are proved together with that
-//! crate.
+//! These tests are in a separate crate because tests are proved together with the crate that
+//! contains them.
 #![tactic(auto)]
 
 #[cfg(test)]

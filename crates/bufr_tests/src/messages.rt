@@ -8,8 +8,7 @@ pub(crate) const HEADER_B: &[u8] = b"fxy,name,unit,scale,reference,width\n";
 /// The header line of Table D.
 pub(crate) const HEADER_D: &[u8] = b"fxy,member\n";
 
-/// Table B for the test messages. The table contains some elements, including delayed replication
-/// factors.
+/// Table B for the test messages. Three of the nine elements are delayed replication factors.
 const TABLE_B: &[u8] = b"fxy,name,unit,scale,reference,width
 001001,WMO BLOCK NUMBER,Numeric,0,0,7
 001015,STATION OR SITE NAME,CCITT IA5,0,0,160
@@ -27,9 +26,9 @@ const TABLE_B: &[u8] = b"fxy,name,unit,scale,reference,width
 /// | sequences | members |
 /// |---|---|
 /// | 3 00 001 to 3 00 017 | the next sequence twice |
-/// | 3 10 001 to 3 10 016 | a group with two passes that contains the next sequence twice |
+/// | 3 10 001 to 3 10 016 | a group with a count of 2 that contains the next sequence twice |
 /// | 3 20 001 to 3 20 033 | the next sequence |
-/// | 3 30 001 to 3 30 003 | an operator or a replication without the required next descriptor |
+/// | 3 30 001 to 3 30 003 | a single operator or replication |
 /// | 3 60 192 | two elements |
 const TABLE_D: &[u8] = b"\
     fxy,member\n300001,300002\n300001,300002\n300002,300003\n300002,300003\n300003,300004\n\
@@ -72,8 +71,8 @@ pub(crate) const ONE_BLOCK_NUMBER: &[u8] = b"\
     \x00\x00\x05\x00\x14\
     7777";
 
-/// An edition 4 message that is 56 octets long. The message is `ONE_BLOCK_NUMBER` with octets for
-/// local use in section 1, and with a section 2.
+/// An edition 4 message that is 56 octets long. The message is `ONE_BLOCK_NUMBER` with a section 2
+/// and with octets for local use in section 1.
 pub(crate) const LOCAL_USE: &[u8] = b"\
     BUFR\x00\x00\x38\x04\
     \x00\x00\x18\x00\x00\x62\x00\x00\x00\x80\x00\x00\x00\x0E\x00\x07\xE8\x01\x02\x03\x04\x05\
@@ -108,13 +107,13 @@ pub(crate) const EDITION_3_ODD: &[u8] = b"\
     \x00\x00\x05\x00\x14\
     7777";
 
-/// A stray that declares a length of 64 octets.
+/// A `BUFR` that declares a length of 64 octets, but does not begin a message.
 pub(crate) const STRAY: &[u8] = b"BUFR\x00\x00\x40\x04";
 
-/// Octet 7 of section 3 if the data are observed and not compressed.
+/// Octet 7 of section 3 for observed, uncompressed data.
 pub(crate) const PLAIN: u8 = 0x80;
 
-/// Octet 7 of section 3 if the data are observed and compressed.
+/// Octet 7 of section 3 for observed, compressed data.
 pub(crate) const PACKED: u8 = 0xC0;
 
 /// The octets of a message from the edition number up to and including the first octet of section
@@ -127,7 +126,7 @@ fn length_of(rt: &impl Runtime, length: usize) -> u16 {
     ok(rt, u16::try_from(length))
 }
 
-/// Returns the given descriptors as the octets that represent them in section 3.
+/// Encodes the given descriptors as they appear in section 3.
 fn octets_of_words(rt: &impl Runtime, descriptors: &str) -> Vec<u8> {
     let mut octets = Vec::new(rt.alloc());
     for word in &words_of(rt, descriptors) {
@@ -169,13 +168,13 @@ pub(crate) fn message_of_hex(
     message_of(rt, subsets, flags, descriptors, &octets)
 }
 
-/// The lines before `observed`, which are the same in every dump.
+/// The lines before `observed` in the dump of a message built with `message_of`.
 pub(crate) const HEAD: &str = "\
     message\nedition 4\nmaster 0\ncentre 98\nsubcentre 0\nupdate 0\ncategory 0\nsubcategory 0\n\
     localsubcategory 0\nmasterversion 14\nlocalversion 0\nyear 2024\nmonth 1\nday 2\nhour 3\n\
     minute 4\nsecond 5\n";
 
-/// Returns the lines of a dump from `observed` to `subsets`.
+/// Returns the `observed`, `compressed`, `optional` and `subsets` lines of a dump.
 fn counts_of(rt: &impl Runtime, subsets: u16, flags: u8) -> String {
     let (observed, compressed) = (flags / 128, flags / 64 % 2);
     let counts = format!(in rt.alloc();
@@ -203,7 +202,7 @@ fn push_descriptors(rt: &impl Runtime, text: &mut String, descriptors: &str) {
     }
 }
 
-/// Descriptors of elements, each with the comment that a dump adds to the element's items.
+/// Element descriptors, each with the comment that `dump` adds to items of that element.
 #[rattlefmt::skip]
 const COMMENTS: &[(&str, &str)] = &[
     ("001001", "  # WMO BLOCK NUMBER [Numeric]"), ("001015", "  # STATION OR SITE NAME [CCITT IA5]"),
@@ -238,7 +237,7 @@ fn push_subset(rt: &impl Runtime, text: &mut String, subset: u16, items: &str, d
     }
 }
 
-/// Returns the document for a message from `message_of`. A `|` separates subsets, and a `;`
+/// Returns the document for a message built with `message_of`. A `|` separates subsets, and a `;`
 /// separates the items of a subset. If `dumped` is set, the items have comments, as in a dump.
 fn text_with(
     rt: &impl Runtime,
@@ -299,27 +298,27 @@ pub(crate) fn text_of_one(rt: &impl Runtime) -> String {
     dump_of(rt, 1, PLAIN, "001001", "001001 10")
 }
 
-/// Returns a message that is 54 octets long. The data contain a delayed replication of two block
-/// numbers.
+/// Returns a message that is 54 octets long. The data contain two block numbers in a delayed
+/// replication.
 pub(crate) fn delayed_twice(rt: &impl Runtime) -> Vec<u8> {
     message_of_hex(rt, 1, PLAIN, "101000 031001 001001", "02142C")
 }
 
-/// Returns `ONE_BLOCK_NUMBER` with edition number 2, so that it is rejected.
+/// Returns `ONE_BLOCK_NUMBER` with the unsupported edition number 2.
 pub(crate) fn of_edition_2(rt: &impl Runtime) -> Vec<u8> {
     let rest = ONE_BLOCK_NUMBER.get(8..).unwrap_or(b"");
     joined(rt, &[b"BUFR\x00\x00\x30\x02", rest])
 }
 
-/// Returns the accepted messages in the stream from `bulletins`.
+/// Returns the four messages in `bulletins` that should be accepted.
 pub(crate) fn messages_of_bulletins(rt: &impl Runtime) -> Vec<u8> {
     let delayed = delayed_twice(rt);
     joined(rt, &[ONE_BLOCK_NUMBER, &delayed, COMPRESSED, LOCAL_USE])
 }
 
 /// Returns the octets of `examples/bulletins.bufr`. The stream is 305 octets long, begins with a
-/// heading, and contains four accepted messages. A stray follows the second message, an edition 2
-/// message follows the third, and a stray that declares a short length follows the fourth.
+/// heading, and contains four accepted messages. A stray `BUFR` follows the second message, an
+/// edition 2 message follows the third, and a stray `BUFR` with a short length follows the fourth.
 pub(crate) fn bulletins(rt: &impl Runtime) -> Vec<u8> {
     let delayed = delayed_twice(rt);
     let refused = of_edition_2(rt);

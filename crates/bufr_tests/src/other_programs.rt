@@ -1,5 +1,5 @@
-//! Other programs that use the crates. One program lists messages, one reads the values of an
-//! element, and one builds a message.
+//! Small programs that use the crates as libraries. One program lists messages, one reads the
+//! values of an element, and one builds a message.
 
 use crate::messages::{LOCAL_USE, ONE_BLOCK_NUMBER, STRAY, line_of_one, text_of_one};
 use crate::runs::writer;
@@ -23,7 +23,7 @@ fn list_message(rt: &impl Runtime, offset: u64, octets: &[u8], output: &mut Scri
 }
 
 /// Lists the messages in a stream. Each event before the end of the stream consumes at least one
-/// octet, so the stream contains at most as many events as octets.
+/// octet, so a stream has no more events than octets.
 fn list(rt: &impl Runtime, stream: &[u8], output: &mut ScriptOut) {
     let mut input = ScriptIn::new(stream, 4096, None);
     let mut finder = Finder::new(rt.alloc());
@@ -37,7 +37,7 @@ fn list(rt: &impl Runtime, stream: &[u8], output: &mut ScriptOut) {
 }
 
 #[test]
-fn lists_the_messages_in_a_stream(rt: HostRuntime) {
+fn lists_messages_in_stream(rt: HostRuntime) {
     let parts = [b"heading", STRAY, ONE_BLOCK_NUMBER, ONE_BLOCK_NUMBER, STRAY];
     let mut output = writer(&rt, 4096, (4096, End::Fail));
     list(&rt, &joined(&rt, &parts), &mut output);
@@ -71,7 +71,7 @@ impl Visitor for Numbers {
     }
 }
 
-/// Passes the items of a message to a visitor.
+/// Reads a message, and passes its items to a visitor.
 fn show(rt: &impl Runtime, octets: &[u8], numbers: &mut Numbers) {
     let message = parsed(rt, octets);
     let (template, b) = (template_for(rt, &message), table_b(rt));
@@ -93,7 +93,7 @@ fn reads_one_element_from_every_message(rt: HostRuntime) {
     assert_same(&rt, &found, &[10, 10].as_slice(), &"001001");
 }
 
-/// Reads the first document from `text`, and returns the octets of its message.
+/// Reads the first document from `text`, encodes it, and returns the octets of the message.
 fn message_of(rt: &impl Runtime, text: &[u8]) -> Vec<u8> {
     let mut input = ScriptIn::new(text, 4096, None);
     let mut reader = DumpReader::new(rt.alloc());
@@ -104,7 +104,7 @@ fn message_of(rt: &impl Runtime, text: &[u8]) -> Vec<u8> {
 }
 
 #[test]
-fn builds_a_message_from_text(rt: HostRuntime) {
+fn builds_message_from_text(rt: HostRuntime) {
     let octets = message_of(&rt, text_of_one(&rt).as_bytes());
     assert_same(&rt, &octets.as_slice(), &ONE_BLOCK_NUMBER, &"001001");
 }

@@ -1,4 +1,4 @@
-//! Tests of parsing command lines, and of running the program with inputs in memory.
+//! Tests for parsing command lines and for running the program with inputs in memory.
 
 use crate::messages::{ONE_BLOCK_NUMBER, line_of_one, table_b, table_d, text_of_one};
 use crate::runs::writer;
@@ -14,7 +14,7 @@ use std::alloc::{AllocError, Global};
 use std::cell::Cell;
 use std::io::{self, ErrorKind, Read, Write};
 
-/// Returns the words of a command line: the program's name, a command and its arguments.
+/// Returns a command line that consists of the program's name, a command and its arguments.
 fn line_of(
     rt: &impl Runtime,
     command: &'static str,
@@ -135,8 +135,8 @@ fn rejects_invalid_arguments_for_dump_and_encode(rt: HostRuntime) {
     }
 }
 
-/// Runs the program. This function has no contract, so the proof of a test does not involve the
-/// contract of `run`.
+/// Runs the program. This function has no contract, which keeps the contract of `run` out of the
+/// tests' proofs.
 fn call<'a, I: Inputs, W: Sink, E: Sink>(
     alloc: Global,
     words: &'a [&'static str],
@@ -152,7 +152,7 @@ fn text_on<'a>(rt: &impl Runtime, writer: &'a ScriptOut) -> &'a str {
     ok(rt, str::from_utf8(writer.taken()))
 }
 
-/// The exit status of the program, and what it wrote to its output and error output.
+/// The program's exit status, output and error output.
 #[derive(Drop)]
 struct Reply {
     status: u8,
@@ -160,8 +160,8 @@ struct Reply {
     errors: ScriptOut,
 }
 
-/// Runs the program with an output of 4,096 octets. `end` specifies what happens if the output is
-/// full or flushed.
+/// Runs the program with an output that has space for 4,096 octets. `end` specifies how the output
+/// behaves when it is full or flushed.
 fn reply_to<'a, I: Inputs>(
     rt: &impl Runtime,
     words: &'a [&'static str],
@@ -212,8 +212,8 @@ impl<'a> Read for Page<'a> {
     }
 }
 
-/// Inputs in memory: two valid tables and an invalid one, the file `one`, files that cannot be read
-/// to their end, and standard input.
+/// In-memory inputs (standard input, the file `one`, two valid tables, an invalid table, and two
+/// files that cannot be read to the end).
 #[derive(Drop)]
 struct Library<'a> {
     one: &'a [u8],
@@ -275,7 +275,7 @@ fn assert_shown(rt: &impl Runtime, words: &'static [&'static str]) {
 
 #[test]
 // rule: status-of-help, help
-fn shows_help(rt: HostRuntime) {
+fn prints_help(rt: HostRuntime) {
     assert_shown(&rt, &["bufr", "--help"]);
     assert_shown(&rt, &["bufr", "encode", "--help"]);
 }
@@ -290,11 +290,11 @@ static CALLED: &[(&[&str], u8, &str, &str)] = &[
     (&["bufr", "ls", "one", "two"], 2, "", "unexpected argument 'two' found"),
 ];
 
-/// Tests command lines that need no tables. The test file `one` contains a stray `BUFR` followed by
-/// a message.
+/// Tests command lines that do not need tables. The test file `one` contains a stray `BUFR`
+/// followed by a message.
 #[test]
 // rule: dash-is-a-name, status-of-help, status-of-usage, version
-fn runs_command_lines_without_tables(rt: HostRuntime) {
+fn runs_commands_that_need_no_tables(rt: HostRuntime) {
     let one = joined(&rt, &[b"BUFR", ONE_BLOCK_NUMBER]);
     let mut library = Library { one: &one, ..ONE };
     let (first, fourth) = (line_of_one(&rt, "0"), line_of_one(&rt, "4"));
@@ -340,9 +340,9 @@ static RUNS: &[(&[&str], u8, bool, Option<&str>)] = &[
     (&["-D", "d.csv"], 2, false, Some("required arguments were not provided")),
 ];
 
-/// Asserts the exit status and the output of a command for the arguments in each row. `output` is
-/// the output of the command if it completes, and `errors` is part of the error output for the file
-/// `one`.
+/// Runs a command with the arguments in each row, and checks the exit status and the output.
+/// `output` is what the command writes if it completes, and `errors` is part of the error output
+/// for the file `one`.
 fn assert_runs(
     rt: &impl Runtime,
     runs: &[(&'static [&'static str], u8, bool, Option<&'static str>)],
@@ -358,11 +358,11 @@ fn assert_runs(
     }
 }
 
-/// Tests command lines of `dump`. The test file `one` contains a stray `BUFR` followed by a
-/// message.
+/// Tests `dump` with valid and invalid command lines. The test file `one` contains a stray `BUFR`
+/// followed by a message.
 #[test]
 // rule: tables-before-input, table-not-read
-fn runs_dump_command_lines(rt: HostRuntime) {
+fn runs_dump_with_valid_and_invalid_arguments(rt: HostRuntime) {
     let one = joined(&rt, &[b"BUFR", ONE_BLOCK_NUMBER]);
     let mut library = Library { one: &one, ..ONE };
     let text = text_of_one(&rt);
@@ -373,7 +373,7 @@ fn runs_dump_command_lines(rt: HostRuntime) {
 /// The test file `one` contains a document followed by a misplaced line.
 #[test]
 // rule: tables-before-input
-fn runs_encode_command_lines(rt: HostRuntime) {
+fn runs_encode_with_valid_and_invalid_arguments(rt: HostRuntime) {
     let text = text_of_one(&rt);
     let one = joined(&rt, &[text.as_bytes(), b"subset 1\n"]);
     let mut library = Library {
@@ -416,7 +416,7 @@ fn assert_flushed(
 
 /// If a read fails, the program flushes its buffered output before it drops the writer.
 #[test]
-fn flushes_output_if_a_read_fails(rt: HostRuntime) {
+fn flushes_output_if_read_fails(rt: HostRuntime) {
     let (line, text) = (line_of_one(&rt, "0"), text_of_one(&rt));
     let (line, text) = (line.as_bytes(), text.as_bytes());
     let arguments = &["-B", "b.csv", "-D", "d.csv", "torn.bufr"];
@@ -446,7 +446,7 @@ impl<'a> Write for Full<'a> {
 }
 
 /// Runs the program with a buffered writer of the given capacity, which flushes to a full writer.
-/// Afterwards, flushes and drops the buffered writer. Returns the exit status.
+/// After the run, flushes and drops the buffered writer. Returns the exit status.
 fn status_if_full(
     rt: &impl Runtime,
     words: &[&'static str],
@@ -486,9 +486,9 @@ fn assert_tried_once(
     assert_one_call(rt, words.as_slice(), &mut inputs, 1000);
 }
 
-/// A failed write is not retried by the program, by a flush, or when the writer is dropped.
+/// A failed write is never retried, not even by a later flush or when the writer is dropped.
 #[test]
-fn does_not_retry_a_failed_write(rt: HostRuntime) {
+fn does_not_retry_failed_write(rt: HostRuntime) {
     let text = text_of_one(&rt);
     let arguments = &["-B", "b.csv", "-D", "d.csv"];
     assert_tried_once(&rt, "ls", &[], ONE_BLOCK_NUMBER);
@@ -504,7 +504,7 @@ fn read_all_in_parts(rt: &impl Runtime, fails_at: Option<usize>) -> Result<Vec<u
 }
 
 #[test]
-fn reads_all_octets_unless_a_read_fails(rt: HostRuntime) {
+fn reads_all_octets_unless_read_fails(rt: HostRuntime) {
     let octets = ok(&rt, read_all_in_parts(&rt, None));
     assert_same(&rt, &octets.as_slice(), &ONE_BLOCK_NUMBER, &"octets");
     let torn = read_all_in_parts(&rt, Some(20));

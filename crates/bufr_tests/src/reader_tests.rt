@@ -1,4 +1,4 @@
-//! Tests of reading documents from readers that return up to 1, 3 or 4,096 octets at a time.
+//! Tests for reading documents, with up to 1, 3 or 4,096 octets per read.
 
 use crate::encode_tests::document_of;
 use crate::messages::{HEAD, ONE_BLOCK_NUMBER, text_of_one};
@@ -9,11 +9,11 @@ use bufr_bits::{Device, ScriptIn, Source};
 use bufr_frame::{Message, RunFault};
 use bufr_text::{Document, DumpReader, ReadFault, TextLineFault, laws};
 
-/// For each trial, the maximum number of octets that a read returns.
+/// The maximum read sizes to test, in octets.
 const STEPS: [usize; 3] = [1, 3, 4096];
 
-/// The result of a call to `next_document`: the number of entries in a document and the number of
-/// its first line, a fault, or the end of the input.
+/// The result of a call to `next_document`. `Read` contains a document's number of entries and the
+/// number of its first line.
 #[derive(Clone, Copy, Debug, PartialEq, Eq)]
 enum Next {
     Read(usize, u64),
@@ -25,8 +25,8 @@ enum Next {
 use Next::{Done, Failed, Read, Refused};
 use TextLineFault::{HeaderRange, NotAllowed, SubsetCount};
 
-/// Returns the document for `ONE_BLOCK_NUMBER` with one line replaced by `text`. `number` is the
-/// number of the replaced line, counted from 1.
+/// Returns the document for `ONE_BLOCK_NUMBER` with line `number` (counted from 1) replaced by
+/// `text`.
 fn with_line(rt: &impl Runtime, number: usize, text: &[u8]) -> Vec<u8> {
     let document = text_of_one(rt);
     let mut octets = Vec::new(rt.alloc());
@@ -44,12 +44,12 @@ fn with_line(rt: &impl Runtime, number: usize, text: &[u8]) -> Vec<u8> {
     octets
 }
 
-/// Returns the result of a call that reads the given document.
+/// Returns the `Read` result for a document.
 fn read_as(document: &Document) -> Next {
     Read(document.entries(), document.line())
 }
 
-/// Returns the result of the next call to the reader.
+/// Calls the reader, and returns the result.
 fn next_of<R: Source>(reader: &mut DumpReader, r: &mut R) -> Next {
     match reader.next_document(r) {
         Ok(None) => Done,
@@ -90,7 +90,7 @@ fn assert_read(rt: &impl Runtime, text: &[u8], fails_at: Option<usize>, wanted: 
     }
 }
 
-/// Returns the fault line that `encode` prints.
+/// Returns the fault line that `encode` prints for an invalid line.
 fn line_of(rt: &impl Runtime, line: u64, fault: TextLineFault) -> String {
     let text = match fault {
         NotAllowed => "50 line",
@@ -172,8 +172,8 @@ fn accepts_valid_lines_and_rejects_invalid_ones(rt: HostRuntime) {
     }
 }
 
-/// Returns a document without subsets. `lines` contains the document's lines with octets for local
-/// use.
+/// Returns a document without subsets. `lines` contains the document's `local1` and `section2`
+/// lines.
 fn with_octets(rt: &impl Runtime, lines: &[u8]) -> Vec<u8> {
     let counts: &[u8] = b"observed 1\ncompressed 0\noptional 1\nsubsets 0\n";
     let end: &[u8] = b"descriptors 001001\nend\n";
@@ -186,7 +186,8 @@ fn line_of_digits(rt: &impl Runtime, word: &[u8], count: usize) -> Vec<u8> {
     joined(rt, &[word, &digits, b"\n"])
 }
 
-/// Asserts that the number of hexadecimal digits in a line must be even and at most 64.
+/// Asserts that a line is rejected if it contains more than 64 hexadecimal digits or an odd number
+/// of digits.
 fn assert_octet_lines(rt: &impl Runtime, word: &[u8]) {
     for (count, want) in [
         (64, Read(0, 1)),
@@ -200,7 +201,7 @@ fn assert_octet_lines(rt: &impl Runtime, word: &[u8]) {
 
 #[test]
 // rule: reading-long-lists
-fn checks_length_of_hexadecimal_lines(rt: HostRuntime) {
+fn limits_hexadecimal_lines_to_64_digits(rt: HostRuntime) {
     assert_octet_lines(&rt, b"local1 ");
     assert_octet_lines(&rt, b"section2 ")
 }
@@ -229,7 +230,7 @@ fn reads_lines_with_up_to_4096_octets(rt: HostRuntime) {
     assert_read(&rt, &note, Some(4097), &[Refused(1, NotAllowed)]);
 }
 
-/// The length of the document for `ONE_BLOCK_NUMBER` in octets.
+/// The length in octets of the document for `ONE_BLOCK_NUMBER`.
 const WHOLE: usize = 300;
 
 /// Line numbers continue from document to document. Blank lines and comments are allowed between
@@ -251,7 +252,7 @@ fn reads_several_documents(rt: HostRuntime) {
 /// If a read fails after the end of a document, the reader first returns the document, and then
 /// reports the fault.
 #[test]
-fn returns_complete_documents_before_a_failed_read(rt: HostRuntime) {
+fn returns_complete_documents_before_reporting_failed_read(rt: HostRuntime) {
     let two = repeated(&rt, text_of_one(&rt).as_bytes(), 2);
     assert_read(&rt, &two, None, &[Read(2, 1), Read(2, 26), Done]);
     let fault = Failed(RunFault::Read);
@@ -273,7 +274,7 @@ fn assert_octets(rt: &impl Runtime, document: &Document, local1: &[u8], section2
 }
 
 #[test]
-fn reads_header_counts_and_descriptors(rt: HostRuntime) {
+fn reads_header_and_descriptor_list(rt: HostRuntime) {
     let document = document_of(&rt, text_of_one(&rt).as_bytes());
     let head = ok(&rt, Message::parse(ONE_BLOCK_NUMBER)).head();
     assert_same(&rt, &document.head(), &head, &"head");
@@ -292,7 +293,7 @@ fn reads_octets_for_local_use(rt: HostRuntime) {
     assert_counts(&rt, &document, (true, false, 0, 0));
 }
 
-/// Each item is an entry, and the end of each subset is also an entry.
+/// Each item counts as one entry, and so does the end of each subset.
 #[test]
 fn counts_items_and_subset_ends_as_entries(rt: HostRuntime) {
     let lines = b"001001 10  # note\n205001 \"\\x0A\"\n012101 MISSING\nR 012101 -400\n";
@@ -314,7 +315,7 @@ static FAULTS: &[(ReadFault, u8, &str)] = &[
 ];
 
 #[test]
-fn reports_number_and_text_for_read_fault(rt: HostRuntime) {
+fn returns_read_fault_number_and_text(rt: HostRuntime) {
     for (fault, number, text) in FAULTS {
         let shown = ok(&rt, format!(in rt.alloc(); "{fault}"));
         assert_same(
@@ -327,7 +328,7 @@ fn reports_number_and_text_for_read_fault(rt: HostRuntime) {
 }
 
 #[test]
-fn law_functions_accept_valid_arguments() {
+fn document_laws_can_be_called() {
     laws::dump_text_spells_its_document();
     laws::texts_are_their_documents();
     laws::calls_compose();
@@ -335,15 +336,14 @@ fn law_functions_accept_valid_arguments() {
     laws::none_comes_again();
 }
 
-/// Returns the result of the next call to the reader, whose input is in memory.
+/// Calls a reader whose input is in memory, and returns the result.
 fn next_in(reader: &mut DumpReader, unread: &mut &[u8]) -> Next {
     next_of(reader, &mut Device::new(unread))
 }
 
-/// After a call, the reader buffers only the octets that were read after the last line of the
-/// document.
+/// After returning a document, the reader buffers only octets that follow the document's last line.
 #[test]
-fn buffers_only_octets_after_a_document(rt: HostRuntime) {
+fn buffers_only_octets_after_document(rt: HostRuntime) {
     let text = repeated(&rt, text_of_one(&rt).as_bytes(), 1000);
     let mut unread = text.as_slice();
     let mut reader = DumpReader::new(rt.alloc());
@@ -358,10 +358,9 @@ fn buffers_only_octets_after_a_document(rt: HostRuntime) {
     assert_that(&rt, unread.is_empty() && reader.held() == 0, &taken);
 }
 
-/// If the last line of the input has no line feed, the reader buffers only the octets of the last
-/// line.
+/// If the last line of the input has no line feed, the reader buffers only that line.
 #[test]
-fn buffers_last_line_without_line_feed(rt: HostRuntime) {
+fn buffers_unterminated_last_line(rt: HostRuntime) {
     let text = joined(&rt, &[text_of_one(&rt).as_bytes(), b"# note"]);
     let mut r = ScriptIn::new(&text, 4096, None);
     let mut reader = DumpReader::new(rt.alloc());
@@ -380,7 +379,7 @@ fn assert_reused<R: Source>(rt: &impl Runtime, reader: &mut DumpReader, r: &mut 
 /// A document can reuse the memory of the previous document, whether that document was longer or
 /// shorter.
 #[test]
-fn reuses_memory_of_previous_document(rt: HostRuntime) {
+fn reuses_memory_from_previous_document(rt: HostRuntime) {
     let one = text_of_one(&rt);
     let (one, short): (&[u8], _) = (one.as_bytes(), with_line(&rt, 21, b"subsets 2\n"));
     let text = joined(&rt, &[one, b"# note\n", one, &short]);

@@ -1,4 +1,4 @@
-//! Tests of complete runs of `ls`, `dump` and `encode`.
+//! Tests for complete runs of `ls`, `dump` and `encode`.
 
 use crate::messages::{
     COMPRESSED, EDITION_3, LOCAL_USE, ONE_BLOCK_NUMBER, PLAIN, bulletins, delayed_twice,
@@ -19,7 +19,7 @@ use std::io::{self, Read};
 
 #[test]
 // rule: fault-1
-fn rejects_message_cut_at_any_offset(rt: HostRuntime) {
+fn rejects_message_truncated_at_any_offset(rt: HostRuntime) {
     assert_cut_anywhere(&rt, Ls, "one block number", ONE_BLOCK_NUMBER);
     assert_cut_anywhere(&rt, Dump, "delayed", &delayed_twice(&rt));
     assert_cut_anywhere(&rt, Dump, "compressed", COMPRESSED);
@@ -27,8 +27,8 @@ fn rejects_message_cut_at_any_offset(rt: HostRuntime) {
     assert_cut_anywhere(&rt, Dump, "edition 3", EDITION_3)
 }
 
-/// A reader that returns one message in each of its first two reads. At each read, the reader
-/// records how many octets have been written.
+/// A reader whose first two reads return one message each. At each read, the reader records how
+/// many octets have been written.
 #[derive(Drop)]
 struct Watching<'a> {
     octets: &'a Cell<usize>,
@@ -52,7 +52,7 @@ impl<'a> Read for Watching<'a> {
 
 /// Each line is written in a single write, before the next message is read.
 #[test]
-fn writes_each_line_before_the_next_read(rt: HostRuntime) {
+fn writes_each_line_before_next_read(rt: HostRuntime) {
     let (first, second) = (line_of_one(&rt, "0").len(), line_of_one(&rt, "48").len());
     let (octets, writes, torn) = (Cell::new(0), Cell::new(0), Cell::new(false));
     let mut watching = Watching {
@@ -74,11 +74,11 @@ fn writes_each_line_before_the_next_read(rt: HostRuntime) {
     assert_same(&rt, &(writes.get(), torn.get()), &(2, false), &"writes");
 }
 
-/// An empty input is accepted, whether the readers and writers are from the tests or from the
-/// standard library.
+/// Empty input is accepted, both with scripted readers and writers and with those in the standard
+/// library.
 #[test]
 // rule: input-without-bufr
-fn accepts_an_empty_input(rt: HostRuntime) {
+fn accepts_empty_input(rt: HostRuntime) {
     let empty: &[u8] = b"";
     let mut w = Device::new(Vec::new(rt.alloc()));
     let mut e = Device::new(Vec::new(rt.alloc()));
@@ -89,8 +89,9 @@ fn accepts_an_empty_input(rt: HostRuntime) {
     }
 }
 
-/// Asserts what a run writes before a read or a write fails. `one` is a message or a document, and
-/// `first` and `second` are the expected outputs if the input contains `one` twice.
+/// Asserts that a run writes the expected octets before a read or a write fails. `one` is a message
+/// or document, and `first` and `second` are the expected outputs for two copies of it in the
+/// input.
 fn assert_pair_stops(
     rt: &impl Runtime,
     command: Command,
@@ -102,11 +103,11 @@ fn assert_pair_stops(
     assert_stops_at_output(rt, accepted(command, "one", one, first))
 }
 
-/// If a read fails or is interrupted, the run still writes everything that was already certain. A
-/// full output contains the octets that fit into it.
+/// If a read fails or is interrupted, the run still writes the lines for all complete messages. If
+/// the lines do not fit in the output, the run writes as many octets as possible.
 #[test]
 // rule: fault-70, fault-71
-fn lists_complete_messages_before_a_failure(rt: HostRuntime) {
+fn lists_complete_messages_before_failure(rt: HostRuntime) {
     let (first, second) = (line_of_one(&rt, "0"), line_of_one(&rt, "48"));
     let lines = (first.as_bytes(), second.as_bytes());
     assert_pair_stops(&rt, Ls, ONE_BLOCK_NUMBER, lines);
@@ -114,20 +115,20 @@ fn lists_complete_messages_before_a_failure(rt: HostRuntime) {
 
 #[test]
 // rule: fault-line-not-written
-fn dumps_complete_messages_before_a_failure(rt: HostRuntime) {
+fn dumps_complete_messages_before_failure(rt: HostRuntime) {
     let text = text_of_one(&rt);
     let text = text.as_bytes();
     assert_pair_stops(&rt, Dump, ONE_BLOCK_NUMBER, (text, text));
 }
 
 #[test]
-fn encodes_complete_documents_before_a_failure(rt: HostRuntime) {
+fn encodes_complete_documents_before_failure(rt: HostRuntime) {
     let (text, message) = (text_of_one(&rt), ONE_BLOCK_NUMBER);
     assert_pair_stops(&rt, Encode, text.as_bytes(), (message, message))
 }
 
 #[test]
-fn reports_stray_bufr_word_before_following_message(rt: HostRuntime) {
+fn reports_stray_start_marker_before_next_message(rt: HostRuntime) {
     let (line, text) = (line_of_one(&rt, "8"), text_of_one(&rt));
     assert_stops_after_a_stray(&rt, Ls, ONE_BLOCK_NUMBER, line.as_bytes());
     assert_stops_after_a_stray(&rt, Dump, ONE_BLOCK_NUMBER, text.as_bytes())
@@ -138,7 +139,8 @@ fn rejected_text(rt: &impl Runtime) -> String {
     text_of(rt, 1, PLAIN, "012101", "012101 288.155")
 }
 
-/// If the error output is full, the run still writes the messages before a rejected document.
+/// Even if the error output is full, the run writes a message for each document that precedes the
+/// rejected one.
 #[test]
 fn stops_if_error_output_fails(rt: HostRuntime) {
     let line = b"offset 0: 1 cut\n";
@@ -160,7 +162,7 @@ fn stops_if_error_output_fails(rt: HostRuntime) {
 /// The run stops at the first rejected document, and does not read the remaining input.
 #[test]
 // rule: first-refusal-ends
-fn stops_at_the_first_rejected_document(rt: HostRuntime) {
+fn stops_at_first_rejected_document(rt: HostRuntime) {
     let (good, bad) = (text_of_one(&rt), rejected_text(&rt));
     let both = joined(&rt, &[good.as_bytes(), bad.as_bytes()]);
     let text = joined(&rt, &[&both, good.as_bytes(), b"no line\n"]);
@@ -176,7 +178,7 @@ fn stops_at_the_first_rejected_document(rt: HostRuntime) {
 /// If the output cannot be flushed, the output and the error output still contain everything that
 /// was written to them.
 #[test]
-fn keeps_written_octets_after_a_failed_flush(rt: HostRuntime) {
+fn keeps_written_octets_after_failed_flush(rt: HostRuntime) {
     let text = joined(&rt, &[text_of_one(&rt).as_bytes(), b"end\n"]);
     let run = accepted(Encode, "flush", &text, ONE_BLOCK_NUMBER);
     let mut run = run.with_errors(b"line 26: 50 line\n");
@@ -206,11 +208,11 @@ fn fails_if_either_writer_cannot_be_flushed(rt: HostRuntime) {
 const LONG: &str =
     "42554652FFFFFE03 000012000062000000000E00180102030400 000009000001800101 FFFFD7";
 
-/// Like `Message::parse`, `ls` rejects a message that would be too long after its sections are
-/// padded to even lengths.
+/// Like `Message::parse`, `ls` rejects a message if padding its sections to even lengths would make
+/// it too long.
 #[test]
 // rule: fault-14
-fn ls_rejects_long_message_with_odd_section(rt: HostRuntime) {
+fn ls_rejects_edition_3_message_that_is_too_long_with_padding(rt: HostRuntime) {
     let mut octets = from_hex(&rt, LONG);
     ok(&rt, octets.resize(16_777_210, 0));
     ok(&rt, octets.extend_from_slice(b"7777"));
@@ -219,7 +221,7 @@ fn ls_rejects_long_message_with_odd_section(rt: HostRuntime) {
 }
 
 #[test]
-fn law_functions_accept_valid_arguments() {
+fn round_trip_laws_can_be_called() {
     laws::dumped_streams_are_built_again();
     laws::runs_close_the_round();
     laws::encoded_texts_are_dumped_in_one_spelling();
@@ -231,10 +233,10 @@ fn round_trip_of(rt: &impl Runtime, stream: &[u8]) -> Round {
     dump_encode_dump(rt.alloc(), stream, 4096, &task.b, &task.d).expect(rt, "a round")
 }
 
-/// Encoding the dump of the bulletins reproduces the four messages that were accepted. Their dump
-/// is the same.
+/// Encoding the dump of the bulletins reproduces the four messages that were accepted. Dumping
+/// these messages gives the same dump again.
 #[test]
-fn round_trips_a_stream(rt: HostRuntime) {
+fn round_trips_stream(rt: HostRuntime) {
     let (messages, round) = (
         messages_of_bulletins(&rt),
         round_trip_of(&rt, &bulletins(&rt)),

@@ -1,7 +1,7 @@
-//! Runs of the three commands with input and outputs in memory.
+//! Functions that run the three commands with in-memory input and output.
 //!
-//! The functions here have no contracts, so the proof of a test does not involve the contracts of
-//! `run_ls`, `run_dump` and `run_encode`.
+//! The functions here have no contracts, which keeps the contracts of `run_ls`, `run_dump` and
+//! `run_encode` out of the tests' proofs.
 
 use crate::messages::STRAY;
 use crate::support::{Runtime, assert_same, joined, ok, some, table_b, table_d};
@@ -14,7 +14,7 @@ use std::alloc::Global;
 use std::cell::Cell;
 use std::io::{self, ErrorKind, Read, Write};
 
-/// The three commands. `EncodeIn` is `encode` with a requested form.
+/// The three commands. `EncodeIn` is `encode` with the `--form` option.
 #[derive(Clone, Copy)]
 pub(crate) enum Command {
     Ls,
@@ -23,12 +23,12 @@ pub(crate) enum Command {
     EncodeIn(Form),
 }
 
-/// Returns the numbers of accepted and rejected messages or documents that a run should report.
+/// Returns a tally of accepted and rejected messages or documents.
 pub(crate) fn tally(accepted: u64, refused: u64) -> Tally {
     Tally { accepted, refused }
 }
 
-/// The input of a run, and the expected result and output.
+/// The input of a run, with its expected result and output.
 #[derive(Clone, Copy)]
 pub(crate) struct Run<'a> {
     pub(crate) command: Command,
@@ -68,7 +68,7 @@ pub(crate) fn refused<'a>(
 }
 
 impl<'a> Run<'a> {
-    /// Returns the same run with different expected numbers of accepted and rejected messages or
+    /// Returns this run with the given expected counts of accepted and rejected messages or
     /// documents.
     pub(crate) fn counting(self, accepted: u64, refused: u64) -> Run<'a> {
         Run {
@@ -77,13 +77,13 @@ impl<'a> Run<'a> {
         }
     }
 
-    /// Returns the same run with different expected fault lines.
+    /// Returns this run with the given expected fault lines.
     pub(crate) fn with_errors(self, errors: &'a [u8]) -> Run<'a> {
         Run { errors, ..self }
     }
 }
 
-/// A command, with its allocator and the tables for the test messages.
+/// A command, an allocator, and the tables for the test messages.
 #[derive(Drop)]
 pub(crate) struct Task {
     pub(crate) alloc: Global,
@@ -167,21 +167,20 @@ pub(crate) fn writer(rt: &impl Runtime, step: usize, (room, end): (usize, End)) 
     ok(rt, ScriptOut::new(rt.alloc(), room, step, end))
 }
 
-/// The behaviour of the reader and the writers in a run.
+/// The behavior of the reader and the writers in a run.
 #[derive(Clone, Copy)]
 pub(crate) struct Devices {
     /// The maximum number of octets that a read returns or a write accepts.
     pub(crate) step: usize,
-    /// The offset from which reads fail, if any.
+    /// The offset at which reads begin to fail, if any.
     pub(crate) fails_at: Option<usize>,
-    /// The space in the output, in octets, and how the output behaves when it is full or flushed.
+    /// The output's capacity in octets, and its behavior when it is full or flushed.
     pub(crate) output: (usize, End),
-    /// The space in the error output, in octets, and how the error output behaves when it is full
-    /// or flushed.
+    /// The error output's capacity in octets, and its behavior when it is full or flushed.
     pub(crate) errors: (usize, End),
 }
 
-/// Returns devices whose outputs have space for 65,536 octets each.
+/// Returns devices whose writers have space for 65,536 octets each.
 pub(crate) fn roomy(step: usize) -> Devices {
     Devices {
         step,
@@ -191,7 +190,7 @@ pub(crate) fn roomy(step: usize) -> Devices {
     }
 }
 
-/// Runs the command of a task with the given input and devices.
+/// Runs the command in `task`, with a reader and writers that behave as `devices` specifies.
 fn run_on(rt: &impl Runtime, task: &Task, input: &[u8], devices: Devices) -> Ran {
     assert!(rt; devices.step > 0);
     let mut r = ScriptIn::new(input, devices.step, devices.fails_at);
@@ -217,8 +216,8 @@ pub(crate) fn assert_run(rt: &impl Runtime, run: Run<'_>) {
     }
 }
 
-/// Asserts the result of a run whose output and error output have limited space. If the error
-/// output is full before all fault lines are written, the output must contain `before`.
+/// Checks the result of a run whose output and error output have limited space. If the fault lines
+/// do not fit in the error output, the output must be exactly `before`.
 fn assert_room<'a>(
     rt: &impl Runtime,
     task: &Task,
@@ -247,9 +246,9 @@ fn assert_room<'a>(
     run_on(rt, task, run.input, devices).assert(rt, wanted, output.0.saturating_add(errors.0))
 }
 
-/// Asserts the results of runs whose output has limited space. If the output is full, writes fail
-/// or accept no octets, and in some runs flushes fail too. The output must contain the octets that
-/// fit into it.
+/// Checks the results of runs whose output has limited space. When the output is full, a write
+/// fails or writes nothing, and in some runs a flush also fails. The run must write as much of the
+/// output as fits.
 pub(crate) fn assert_stops_at_output(rt: &impl Runtime, run: Run<'_>) {
     let (task, errors) = (Task::new(rt, run.command), (run.errors.len(), End::Fail));
     for room in 0..run.output.len().saturating_add(1) {
@@ -259,9 +258,9 @@ pub(crate) fn assert_stops_at_output(rt: &impl Runtime, run: Run<'_>) {
     }
 }
 
-/// Asserts the results of runs whose error output has limited space. If the error output is full,
-/// writes fail or accept no octets, and in some runs flushes fail too. The error output must
-/// contain the octets that fit into it. The output must contain `before`, or everything if all
+/// Checks the results of runs whose error output has limited space. When the error output is full,
+/// a write fails or writes nothing, and in some runs a flush also fails. The run must write as much
+/// of the error output as fits. The output must be exactly `before`, or the complete output if all
 /// fault lines fit.
 pub(crate) fn assert_stops_at_errors(rt: &impl Runtime, run: Run<'_>, before: &[u8]) {
     let (task, output) = (Task::new(rt, run.command), (run.output.len(), End::Fail));
@@ -293,9 +292,9 @@ fn assert_read_fails(rt: &impl Runtime, task: &Task, run: Run<'_>, place: usize)
     }
 }
 
-/// Asserts that if a read fails or is interrupted, the output contains everything that was already
-/// certain. The input consists of two messages or documents of the same length, and `first` is the
-/// output for the first message or document.
+/// Asserts that if a read fails or is interrupted, the output contains the results for every
+/// complete message or document. The input consists of two messages or documents of the same
+/// length, and `first` is the expected output for the first one.
 pub(crate) fn assert_stops_at_reads(rt: &impl Runtime, run: Run<'_>, first: &[u8]) {
     let task = Task::new(rt, run.command);
     let (half, whole) = (run.input.len() / 2, run.input.len());
@@ -338,7 +337,7 @@ impl<'a> Read for Interrupted<'a> {
     }
 }
 
-/// Asserts that an interrupted read stops the run like a failed read, and is not retried.
+/// Asserts that an interrupted read is not retried and, like a failed read, stops the run.
 fn assert_read_interrupted(rt: &impl Runtime, task: &Task, run: Run<'_>, place: usize) {
     let (interrupted, tried_again) = (Cell::new(false), Cell::new(false));
     let mut r = Device::new(Interrupted {
@@ -355,8 +354,8 @@ fn assert_read_interrupted(rt: &impl Runtime, task: &Task, run: Run<'_>, place: 
     assert_same(rt, &notes, &(true, false), &place)
 }
 
-/// Asserts that a message is rejected if any number of octets at its end are missing. If fewer than
-/// four octets remain, nothing is reported.
+/// Asserts that a message is rejected no matter where it is cut off, or ignored if fewer than four
+/// octets remain.
 pub(crate) fn assert_cut_anywhere(rt: &impl Runtime, command: Command, name: &str, whole: &[u8]) {
     for length in 0..whole.len() {
         let prefix = whole.get(..length).unwrap_or(b"");
@@ -366,11 +365,11 @@ pub(crate) fn assert_cut_anywhere(rt: &impl Runtime, command: Command, name: &st
     }
 }
 
-/// Asserts the result of runs whose input consists of a stray that declares 64 octets, a message,
-/// and zeros. The input is 64 octets long.
+/// Checks the results of runs whose input consists of `STRAY`, a message, and zeros (64 octets in
+/// total).
 ///
-/// The run must read the last octet before it can determine that the stray is not a message. The
-/// run then writes the fault line for the stray before it writes the output.
+/// The run must read the last octet before it can determine that `STRAY` does not begin a message.
+/// The run then writes the fault line for `STRAY` before it writes the output.
 pub(crate) fn assert_stops_after_a_stray(
     rt: &impl Runtime,
     command: Command,
@@ -394,8 +393,8 @@ pub(crate) fn assert_stops_after_a_stray(
     assert_read_fails(rt, &task, run, 64)
 }
 
-/// A writer that counts octets and writes, and records whether any write did not end with a line
-/// feed.
+/// A writer that counts its writes and their octets, and records whether any write ended without a
+/// line feed.
 #[derive(Drop)]
 pub(crate) struct Watched<'a> {
     pub(crate) octets: &'a Cell<usize>,

@@ -1,8 +1,7 @@
-//! Functions that the tests share. The functions make assertions, and build octets, tables and
-//! templates from strings.
+//! Functions shared by the tests. The functions make assertions, and convert strings to octets,
+//! tables and templates.
 //!
-//! The functions here have no contracts, so the proof of a test does not involve the calls that the
-//! functions make.
+//! The functions here have no contracts, which keeps the proofs of the tests small.
 
 use crate::messages;
 use bufr_frame::Message;
@@ -11,14 +10,12 @@ use std::alloc::Global;
 use std::fmt::Debug;
 use std::process::Abort;
 
-/// The runtime of a test. The runtime can allocate memory, and abort the test if an assertion
-/// fails.
+/// The runtime of a test, which can allocate memory and abort the test if an assertion fails.
 pub(crate) trait Runtime: Abort + AllocGlobal {}
 
 impl<R: Abort + AllocGlobal> Runtime for R {}
 
-/// Returns the value of a result that must be `Ok`. Using `?` in a test would add another exit to
-/// the test's proof.
+/// Unwraps a result that must be `Ok`. In a test, `?` would add another case to the proof.
 pub(crate) fn ok<T, E: Drop>(rt: &impl Abort, answer: Result<T, E>) -> T {
     match answer {
         Ok(value) => value,
@@ -26,7 +23,7 @@ pub(crate) fn ok<T, E: Drop>(rt: &impl Abort, answer: Result<T, E>) -> T {
     }
 }
 
-/// Returns the value of an option that must be `Some`.
+/// Unwraps an option that must be `Some`.
 pub(crate) fn some<T>(rt: &impl Abort, option: Option<T>) -> T {
     match option {
         Some(value) => value,
@@ -73,7 +70,7 @@ pub(crate) fn from_hex(rt: &impl Runtime, digits: &str) -> Vec<u8> {
     octets
 }
 
-/// Returns the octets of all parts, concatenated.
+/// Concatenates the parts.
 pub(crate) fn joined(rt: &impl Runtime, parts: &[&[u8]]) -> Vec<u8> {
     let mut octets = Vec::new(rt.alloc());
     for part in parts {
@@ -82,7 +79,7 @@ pub(crate) fn joined(rt: &impl Runtime, parts: &[&[u8]]) -> Vec<u8> {
     octets
 }
 
-/// Returns the octets of `part`, repeated `count` times.
+/// Repeats `part` the given number of times.
 pub(crate) fn repeated(rt: &impl Runtime, part: &[u8], times: usize) -> Vec<u8> {
     let mut octets = Vec::new(rt.alloc());
     for _ in 0..times {
@@ -95,8 +92,7 @@ fn descriptor_of(rt: &impl Abort, digits: &str) -> Fxy {
     some(rt, Fxy::read(digits.as_bytes()))
 }
 
-/// Returns the descriptors in a string. Each descriptor consists of six digits, and spaces separate
-/// descriptors.
+/// Parses a string of six-digit descriptors that are separated by spaces.
 pub(crate) fn descriptors_of(rt: &impl Runtime, text: &str) -> Vec<Fxy> {
     let mut descriptors = Vec::new(rt.alloc());
     for digits in text.split_whitespace() {
@@ -105,8 +101,8 @@ pub(crate) fn descriptors_of(rt: &impl Runtime, text: &str) -> Vec<Fxy> {
     descriptors
 }
 
-/// Returns the 16-bit words of the descriptors in a string. Each descriptor consists of six digits,
-/// and spaces separate descriptors.
+/// Parses a string of six-digit descriptors that are separated by spaces, and returns their 16-bit
+/// words.
 pub(crate) fn words_of(rt: &impl Runtime, text: &str) -> Vec<u16> {
     let mut words = Vec::new(rt.alloc());
     for digits in text.split_whitespace() {
@@ -142,14 +138,14 @@ pub(crate) fn build(
     Template::build(alloc, descriptors, table_b, table_d)
 }
 
-/// Returns the template for the descriptors in a string, using the tables for the test messages.
+/// Builds the template for the descriptors in a string, using the tables for the test messages.
 pub(crate) fn template_of(rt: &impl Runtime, text: &str) -> Template {
     let descriptors = descriptors_of(rt, text);
     let (table_b, table_d) = (table_b(rt), table_d(rt));
     ok(rt, build(rt.alloc(), &descriptors, &table_b, &table_d))
 }
 
-/// Returns the template for a message, using the tables for the test messages.
+/// Builds the template for a message, using the tables for the test messages.
 pub(crate) fn template_for(rt: &impl Runtime, message: &Message<'_>) -> Template {
     let mut descriptors = Vec::new(rt.alloc());
     for word in message.descriptors() {
@@ -161,7 +157,7 @@ pub(crate) fn template_for(rt: &impl Runtime, message: &Message<'_>) -> Template
     )
 }
 
-/// Parses a message that must be valid.
+/// Parses a message, which must be valid.
 pub(crate) fn parsed<'a>(rt: &impl Abort, octets: &'a [u8]) -> Message<'a> {
     assert!(rt; octets.len() >= 12);
     ok(rt, Message::parse(octets))

@@ -1,4 +1,4 @@
-//! Tests of descriptors, and of reading tables.
+//! Tests for descriptors and for reading tables.
 
 use crate::messages::{HEADER_B, HEADER_D};
 use crate::support::{
@@ -6,8 +6,7 @@ use crate::support::{
 };
 use bufr_tables::{Entry, Fxy, Kind, TableB, TableD, TableFault};
 
-/// Descriptors written as digits, each with its 16-bit word, or with `None` if the digits are
-/// invalid.
+/// Descriptors written as digits, each with its 16-bit word (`None` if the digits are invalid).
 #[rattlefmt::skip]
 const DESCRIPTORS: &[(&[u8], Option<u16>)] = &[
     (b"000000", Some(0)), (b"001001", Some(0x0101)), (b"012101", Some(0x0c65)),
@@ -17,7 +16,7 @@ const DESCRIPTORS: &[(&[u8], Option<u16>)] = &[
     (b"01210", None), (b"0121010", None), (b"01210a", None),
 ];
 
-/// The 16-bit words of some descriptors. Each row states whether the descriptor is a delayed
+/// Each row contains a descriptor's 16-bit word, and `true` if the descriptor is a delayed
 /// replication factor.
 #[rattlefmt::skip]
 const FACTORS: &[(u16, bool)] = &[
@@ -57,8 +56,8 @@ fn members_of(table: &TableD, word: u16) -> Option<&[Fxy]> {
     table.members(Fxy::from_word(word))
 }
 
-/// Elements of Table B. Each row contains the word of the descriptor, the name, the unit, the kind,
-/// the scale, the reference value, and the data width.
+/// Elements of Table B. Each row contains an element's descriptor (as a 16-bit word), name, unit,
+/// kind, scale, reference value and data width.
 #[rattlefmt::skip]
 const ELEMENTS: &[(u16, &[u8], &[u8], Kind, (i16, i64, u32))] = &[
     (0x0101, b"WMO BLOCK NUMBER", b"Numeric", Kind::Numeric, (0, 0, 7)),
@@ -96,7 +95,7 @@ fn looks_up_elements_in_table_b(rt: HostRuntime) {
 }
 
 #[test]
-fn formats_prefix_and_comment_for_entry(rt: HostRuntime) {
+fn formats_element_descriptor_and_comment(rt: HostRuntime) {
     let (table, again) = (table_b(&rt), table_b(&rt));
     let found = entry_of(&table, 0x0c65);
     let entry = some(&rt, found);
@@ -126,7 +125,7 @@ fn looks_up_sequences_in_table_d(rt: HostRuntime) {
     }
 }
 
-/// Returns `read` if a table could be read, or the number and the description of its fault.
+/// Returns `read` if the table could be read, or the fault number and description otherwise.
 fn outcome<T: Drop>(rt: &impl Runtime, answer: &Result<T, TableFault>) -> String {
     match answer {
         Ok(_) => ok(rt, String::from_str(rt.alloc(), "read")),
@@ -136,7 +135,7 @@ fn outcome<T: Drop>(rt: &impl Runtime, answer: &Result<T, TableFault>) -> String
 
 const LAST_IN_A_CYCLE: &str = "43 cycle 363255";
 
-/// Rows after the header of Table B, grouped by the expected result.
+/// Rows of Table B (without the header), grouped by the expected result.
 #[rattlefmt::skip]
 const ROWS_OF_B: &[(&str, &[&[u8]])] = &[
     ("read", &[
@@ -183,7 +182,7 @@ const NO_HEADERS_OF_B: &[&[u8]] = &[
     b"fxy,name,unit,scale,reference, width\n", b"fxy,member\n",
 ];
 
-/// Rows after the header of Table D, grouped by the expected result.
+/// Rows of Table D (without the header), grouped by the expected result.
 #[rattlefmt::skip]
 const ROWS_OF_D: &[(&str, &[&[u8]])] = &[
     ("read", &[
@@ -252,7 +251,7 @@ fn reads_table_rows_or_reports_faults(rt: HostRuntime) {
     assert_same(&rt, &memory.as_str(), &"73 out of memory", &"memory");
 }
 
-/// Lengths, in octets, of names and units, each with the expected result.
+/// Lengths of names and units in octets, each with the expected result.
 const LONG_NAMES: &[(usize, &str)] = &[(512, "read"), (513, "41 row 2")];
 
 #[test]
@@ -267,7 +266,7 @@ fn limits_names_and_units_to_512_octets(rt: HostRuntime) {
     }
 }
 
-/// Units of elements, each with the expected kind of the element's values.
+/// Units, each with the kind of value that an element with that unit has.
 #[rattlefmt::skip]
 const KINDS: &[(&[u8], Kind)] = &[
     (b"CCITT IA5", Kind::Character), (b"Ccitt iA5", Kind::Character),
@@ -280,7 +279,7 @@ const KINDS: &[(&[u8], Kind)] = &[
 
 #[test]
 // rule: kind-by-unit
-fn determines_kind_from_unit(rt: HostRuntime) {
+fn determines_element_kind_from_unit(rt: HostRuntime) {
     for (unit, kind) in KINDS {
         let text = joined(&rt, &[HEADER_B, b"001001,A,", unit, b",0,0,8\n"]);
         let table = ok(&rt, read_b(rt.alloc(), &text));
@@ -322,8 +321,8 @@ fn limits_table_d_to_65536_rows(rt: HostRuntime) {
 }
 
 /// Returns a Table D that contains all sequences from 3 00 000 to 3 63 255. Each sequence has four
-/// rows, and the member of each sequence is the next sequence. The last sequence contains itself if
-/// `cycle` is set, and an element otherwise. If `back` is set, the file lists the sequences in
+/// rows, and the member in every row is the next sequence. The last sequence contains itself if
+/// `cycle` is set, and an element otherwise. If `back` is set, the table lists the sequences in
 /// reverse order.
 fn long_chain(rt: &impl Runtime, back: bool, cycle: bool) -> Vec<u8> {
     let mut text = joined(rt, &[HEADER_D]);
@@ -363,8 +362,8 @@ fn many_elements(rt: &impl Runtime) -> Vec<u8> {
     text
 }
 
-/// Returns a Table D with 1,500 sequences of ten members. The first member of each sequence is the
-/// next sequence.
+/// Returns a Table D with 1,500 sequences of ten members each. The first member of each sequence is
+/// the next sequence.
 fn many_sequences(rt: &impl Runtime) -> Vec<u8> {
     let mut text = joined(rt, &[HEADER_D]);
     for key in 0..1500u16 {

@@ -1,4 +1,4 @@
-//! Tests of expanding descriptor lists into templates.
+//! Tests for expanding descriptor lists into templates.
 
 use crate::messages::THIRTY_TWO_GROUPS;
 use crate::support::{
@@ -6,8 +6,8 @@ use crate::support::{
 };
 use bufr_tables::{Cell, Fxy, TableB, TableD, Template, TemplateFault};
 
-/// Each row contains a name, a descriptor list, and the expected result of expanding the list: the
-/// number of places and the depth of the template, or a fault.
+/// Each row contains a name, a descriptor list, and the expected result. The result is either the
+/// template's number of places and its depth, or a fault.
 #[rattlefmt::skip]
 const LISTS: &[(&str, &str, &str)] = &[
     ("one_block_number", "001001", "places 2 depth 0"),
@@ -105,9 +105,9 @@ fn expands_descriptor_lists_or_reports_faults(rt: HostRuntime) {
     assert_same(&rt, &memory.as_str(), &"73 out of memory", &"memory");
 }
 
-/// Each row contains a name, a descriptor list, and the cells of its template. A cell is
-/// represented by a letter for its kind, followed by its descriptor or its number of passes. A
-/// colon precedes the index of the cell after the group.
+/// Each row contains a name, a descriptor list, and the cells of its template. Each cell is
+/// represented by a letter for its kind, followed by its descriptor or count, if it has one. The
+/// number after a colon is the index of the cell after the group.
 #[rattlefmt::skip]
 const CELLS: &[(&str, &str, &str)] = &[
     ("one_block_number", "001001", "E001001 F"),
@@ -151,7 +151,7 @@ fn cells_of(rt: &impl Runtime, template: &Template) -> String {
 
 #[test]
 // rule: descriptor-kinds, fixed-replication, replication-before-expansion, replication-nested
-fn expands_descriptors_into_cells(rt: HostRuntime) {
+fn expands_descriptor_lists_into_template_cells(rt: HostRuntime) {
     for (name, text, want) in CELLS {
         let cells = cells_of(&rt, &template_of(&rt, text));
         assert_same(&rt, &cells.as_str(), want, name);

@@ -1,4 +1,4 @@
-//! Tests of the line that `ls` prints for a message, and of the dump of a message.
+//! Tests for writing the `ls` line and the dump of a message.
 
 use crate::messages::{
     COMPRESSED, HEAD, ONE_BLOCK_NUMBER, PLAIN, delayed_twice, line_of_one, message_of,
@@ -12,8 +12,8 @@ use bufr_text::{LineWriter, write_all, write_dump, write_ls};
 use bufr_walk::{Steps, read_message};
 use std::cell::Cell;
 
-/// Parses a message. This function has no contract, so the proof of a test does not involve the
-/// contract of `Message::parse`.
+/// Parses a message. This function has no contract, which keeps the contract of `Message::parse`
+/// out of the tests' proofs.
 fn message_in(octets: &[u8]) -> Option<Message<'_>> {
     if octets.len() < 12 {
         return None;
@@ -23,7 +23,7 @@ fn message_in(octets: &[u8]) -> Option<Message<'_>> {
 
 #[test]
 // rule: listing-line
-fn lists_a_message(rt: HostRuntime) {
+fn writes_ls_line_for_message(rt: HostRuntime) {
     let mut w = writer(&rt, 7, (4096, End::Fail));
     let message = some(&rt, message_in(ONE_BLOCK_NUMBER));
     ok(&rt, write_ls(7, &message, &mut w));
@@ -31,8 +31,8 @@ fn lists_a_message(rt: HostRuntime) {
     assert_same(&rt, &w.taken(), &line.as_bytes(), &"line");
 }
 
-/// Pushes strings and numbers through a `LineWriter` with a block of `room` octets. Does nothing if
-/// `room` is greater than 64.
+/// Writes strings and numbers with a `LineWriter` whose block is `room` octets long. Does nothing
+/// if `room` is greater than 64.
 fn push_each(rt: &impl Runtime, room: usize, w: &mut ScriptOut) {
     let mut block = [0; 64];
     let Some(octets) = block.get_mut(..room) else {
@@ -48,7 +48,7 @@ fn push_each(rt: &impl Runtime, room: usize, w: &mut ScriptOut) {
     ok(rt, line.status());
 }
 
-/// The size of the block does not affect the line that is written.
+/// The block size does not affect the line that is written.
 #[test]
 // rule: listing-time
 fn writes_same_line_for_every_block_size(rt: HostRuntime) {
@@ -61,7 +61,7 @@ fn writes_same_line_for_every_block_size(rt: HostRuntime) {
     }
 }
 
-/// Reads the data of a message, and writes its dump.
+/// Reads the data of a message, and dumps the message.
 fn dump_by<W: Sink>(
     rt: &impl Runtime,
     message: &Message<'_>,
@@ -101,8 +101,8 @@ fn long_message(rt: &impl Runtime) -> Vec<u8> {
     message_of(rt, 1, PLAIN, "101000 031002 001001", &payload)
 }
 
-/// Each row contains the name of a message, the space in the writer in octets, and the number of
-/// steps before the dump is complete or the writer is full.
+/// Each row contains a message's name, the writer's capacity in octets, and the number of steps
+/// until the dump is complete or the writer is full.
 const STOPS: &[(&str, usize, u64)] = &[
     ("delayed_twice", 65_536, 7),
     ("delayed_twice", 200, 7),
@@ -121,9 +121,9 @@ fn steps_to(rt: &impl Runtime, name: &str, room: usize) -> u64 {
     dump_to(rt, &message, &mut writer(rt, 131_072, (room, End::Fail))).1
 }
 
-/// Each operator, factor, item and end of a pass counts as one step. A dump is written in blocks,
-/// so dumping stops at the end of a block if the writer is full. Dumping compressed data takes no
-/// steps.
+/// Each step processes a descriptor, the end of a repetition, or the end of the template. A dump is
+/// written in blocks, so dumping stops at the end of a block if the writer is full. Dumping
+/// compressed data takes no steps.
 #[test]
 fn counts_steps_while_dumping(rt: HostRuntime) {
     for (name, room, steps) in STOPS {
@@ -143,7 +143,7 @@ fn assert_writes(rt: &impl Runtime, message: &[u8], count: usize) {
     assert_same(rt, &(writes.get(), torn.get()), &(count, false), &"writes");
 }
 
-/// A dump is written in one or more writes, each of which consists of complete lines.
+/// Each write contains only complete lines of the dump.
 #[test]
 // rule: one-write-a-line
 fn does_not_split_dump_lines_between_writes(rt: HostRuntime) {

@@ -1,4 +1,4 @@
-//! Tests of reading the data of messages.
+//! Tests for reading the data of messages.
 
 ghost use Rattle.std.specs.Prelude.{◌≤◌, length};
 
@@ -14,8 +14,8 @@ use bufr_walk::{
 };
 use std::alloc::{AllocError, Global};
 
-/// A visitor that describes subsets and items as text. A `#` marks each item that is shown with its
-/// entry in Table B.
+/// A visitor that describes subsets and items as text. A `#` follows each item that is shown with
+/// its Table B entry.
 #[derive(Drop)]
 struct Lines {
     alloc: Global,
@@ -42,8 +42,8 @@ impl Visitor for Lines {
     }
 }
 
-/// Describes an item as text: its descriptor, followed by a number and its scale, the hexadecimal
-/// digits of a string, a reference value, or `missing`.
+/// Describes an item as text. The text contains the descriptor, followed by a number and its scale,
+/// the hexadecimal digits of a string, a reference value, or `missing`.
 fn line_of(alloc: Global, item: &ItemView<'_>) -> Result<String, AllocError> {
     match item.value {
         Value::Number(number, scale) => { format!(in alloc; " {} {number}e{scale}", item.fxy) }
@@ -53,8 +53,7 @@ fn line_of(alloc: Global, item: &ItemView<'_>) -> Result<String, AllocError> {
     }
 }
 
-/// Describes an item that is a string: its descriptor, followed by the hexadecimal digits of the
-/// string.
+/// Returns the descriptor of a string item, followed by the string in hexadecimal digits.
 fn line_of_text(alloc: Global, fxy: Fxy, octets: &[u8]) -> Result<String, AllocError> {
     let mut line = format!(in alloc; " {fxy} \"")?;
     for octet in octets {
@@ -108,14 +107,13 @@ fn spot_of(fault: WalkFault) -> Option<Spot> {
     }
 }
 
-/// The names of faults 30 to 35. The description of a fault begins with the name of the fault.
+/// The names of faults 30 to 35. The description of a fault begins with its name.
 #[rattlefmt::skip]
 const NAMES: [&str; 6] = [
     "data end", "width", "defining", "unequal factor", "increment", "too many values",
 ];
 
-/// Returns the number of a fault, the subset, descriptor and bit offset of the fault, and the
-/// number of steps.
+/// Returns the fault number, subset, descriptor, bit offset and number of steps as text.
 fn refused(rt: &impl Runtime, fault: &WalkFault, steps: &Steps) -> String {
     let (number, count) = (fault.number(), steps.count());
     let Some(spot) = spot_of(*fault) else {
@@ -130,8 +128,8 @@ fn refused(rt: &impl Runtime, fault: &WalkFault, steps: &Steps) -> String {
     ok(rt, text)
 }
 
-/// Returns the number of bits and the number of steps for a `Reading`. If the `Reading` stores
-/// items, the number of stored items follows.
+/// Returns the number of bits read and the number of steps taken as text. If the `Reading` stores
+/// items, the text also contains their number.
 fn measures(rt: &impl Runtime, reading: &Reading<'_>, steps: &Steps) -> String {
     let (bits, count, held) = (reading.bits(), steps.count(), reading.held());
     let mut text = ok(rt, format!(in rt.alloc(); "bits {bits} steps {count}"));
@@ -142,9 +140,8 @@ fn measures(rt: &impl Runtime, reading: &Reading<'_>, steps: &Steps) -> String {
     text
 }
 
-/// Returns the number of bits and steps for a `Reading`, followed by the subsets and items. Showing
-/// the items must take as many steps as reading the message, or no steps if the `Reading` stores
-/// the items.
+/// Like [`measures`], but also describes the subsets and items. Showing the items must take as many
+/// steps as reading the message, or no steps if the `Reading` stores the items.
 fn shown(rt: &impl Runtime, reading: &Reading<'_>, steps: &mut Steps) -> String {
     let mut lines = Lines {
         alloc: rt.alloc(),
@@ -181,7 +178,7 @@ impl Case {
     }
 
     /// Reads the message. Returns the number of bits and steps, or the fault. If `show` is set, the
-    /// subsets and items of the message follow.
+    /// result also contains the subsets and items of the message.
     fn outcome(&self, rt: &impl Runtime, show: bool) -> String {
         let message = parsed(rt, &self.octets);
         let mut steps = Steps::new();
@@ -213,9 +210,9 @@ impl Case {
 }
 
 /// Each row contains a name, the number of subsets, the flags, the descriptor list, the data in
-/// hexadecimal digits, and the expected result. The result contains the number of bits, the number
-/// of steps, and the items, or a fault with its subset, descriptor and bit offset, followed by the
-/// number of steps.
+/// hexadecimal digits, and the expected result. If the data can be read, the result contains the
+/// numbers of bits and steps, and the items. Otherwise, the result contains the fault number, the
+/// subset, the descriptor, the bit offset and the number of steps.
 #[rattlefmt::skip]
 const READINGS: &[(&str, u16, u8, &str, &str, &str)] = &[
     ("one_block_number", 1, PLAIN, "001001", "14", "bits 7 steps 2; 1: 001001 10e0 #"),
@@ -331,8 +328,8 @@ fn reads_data_or_reports_faults(rt: HostRuntime) {
 }
 
 /// Each row contains a name, the number of subsets, the flags, the descriptor list, the first two
-/// octets of the data, the length of the data in octets, and the expected result. If the items are
-/// to be shown, the expected numbers of subsets and items follow.
+/// octets of the data, the length of the data in octets, and the expected result. If the test also
+/// shows the items, the expected numbers of subsets and items follow.
 #[rattlefmt::skip]
 const LIMITS: &[(&str, u16, u8, &str, ([u8; 2], usize), &str, Option<(u64, u64)>)] = &[
     ("one_item_too_many", 65535, PACKED, "101000 031002 001001", ([0x08, 0x00], 3330),
@@ -350,7 +347,7 @@ const LIMITS: &[(&str, u16, u8, &str, ([u8; 2], usize), &str, Option<(u64, u64)>
     ("many_fields", 2, PLAIN, "102205 101005 001001", ([0x14, 0x00], 1794), "bits 14350 steps 4924", Some((2, 2050))),
 ];
 
-/// Returns `len` octets that begin with `first`. The remaining octets are zeros.
+/// Returns `first`, padded with zeros to `len` octets.
 fn octets_with(rt: &impl Runtime, first: &[u8], len: usize) -> Vec<u8> {
     let mut octets = joined(rt, &[first]);
     ok(rt, octets.resize(len, 0));
@@ -359,7 +356,7 @@ fn octets_with(rt: &impl Runtime, first: &[u8], len: usize) -> Vec<u8> {
 
 #[test]
 // rule: too-many-values, compressed-fault-order
-fn reads_data_up_to_the_limits(rt: HostRuntime) {
+fn reads_data_up_to_size_limits(rt: HostRuntime) {
     for (name, subsets, flags, descriptors, (first, len), want, counts) in LIMITS {
         let payload = octets_with(&rt, first, *len);
         let case = Case::new(&rt, *subsets, *flags, descriptors, &payload);
@@ -372,21 +369,21 @@ fn reads_data_up_to_the_limits(rt: HostRuntime) {
 }
 
 #[test]
-fn reads_a_255_octet_string(rt: HostRuntime) {
+fn reads_255_octet_string(rt: HostRuntime) {
     let payload = octets_with(&rt, &[], 258);
     let case = Case::new(&rt, 1, PLAIN, "201129 012101 205255", &payload);
     assert_same(&rt, &case.outcome(&rt, true).len(), &554, &"characters");
 }
 
-/// Each row contains the number of items that a visitor accepts, and the numbers of subsets, items
-/// and steps when the visitor stops. The message has two subsets.
+/// Each row contains the number of items that the visitor accepts, and the expected numbers of
+/// subsets, items and steps. The message has two subsets.
 #[rattlefmt::skip]
 const REFUSED_ITEMS: &[(u64, (u64, u64, u64))] = &[
     (0, (1, 0, 1)), (2, (1, 2, 5)), (3, (2, 3, 8)), (4, (2, 4, 10)), (6, (2, 6, 14)),
 ];
 
 #[test]
-fn stops_when_a_visitor_rejects_an_item(rt: HostRuntime) {
+fn stops_when_visitor_rejects_item(rt: HostRuntime) {
     let payload = octets_with(&rt, &[0x14], 8);
     let case = Case::new(&rt, 2, PLAIN, "012101 101002 001001", &payload);
     for (most, want) in REFUSED_ITEMS {
@@ -395,8 +392,8 @@ fn stops_when_a_visitor_rejects_an_item(rt: HostRuntime) {
 }
 
 /// Items of compressed subsets. Each row contains a name, the number of subsets, the descriptor
-/// list, the data in hexadecimal digits, the number of the expected fault or 0, and the number of
-/// bits in the items that can be read.
+/// list, the data in hexadecimal digits, the expected fault number (0 if there is no fault), and
+/// the number of bits in the items that can be read.
 #[rattlefmt::skip]
 const PACKED_ITEMS: &[(&str, u16, &str, &str, (u8, u64))] = &[
     ("a_number_and_missing", 2, "001001", "FC1080", (0, 17)),
@@ -420,7 +417,7 @@ const PACKED_ITEMS: &[(&str, u16, &str, &str, (u8, u64))] = &[
     ("octets_past_the_data", 2, "205002", "00000C", (30, 0)),
 ];
 
-/// Returns the number of the fault that stopped a walk, or 0 if the walk completed.
+/// Returns the fault number if a fault stopped the walk, or 0 if the walk completed.
 fn number_of(answer: Result<(), WalkStop<DataFault>>) -> u8 {
     match answer {
         Ok(()) => 0,
@@ -431,8 +428,8 @@ fn number_of(answer: Result<(), WalkStop<DataFault>>) -> u8 {
     }
 }
 
-/// Walks over compressed data. Returns the number of the fault or 0, and the number of bits in the
-/// items that were read.
+/// Walks over compressed data. Returns the fault number (0 if there is no fault), and the number of
+/// bits in the items that were read.
 fn walked(
     alloc: Global,
     template: &Template,
@@ -464,9 +461,9 @@ fn reads_items_from_compressed_subsets(rt: HostRuntime) {
     }
 }
 
-/// Checks the numbers of the faults that do not occur in the rows above.
+/// Checks `number` for faults that do not occur in `PACKED_ITEMS`.
 #[test]
-fn reports_number_for_walk_fault(rt: HostRuntime) {
+fn returns_fault_numbers_for_out_of_memory_and_too_many_values(rt: HostRuntime) {
     assert_same(&rt, &WalkFault::Memory.number(), &73, &"memory");
     assert_same(&rt, &DataFault::Memory.number(), &73, &"memory");
     let many = DataFault::TooManyValues(Fxy::from_word(257));

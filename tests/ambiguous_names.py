@@ -1,7 +1,7 @@
 #!/usr/bin/env python3
 """Finds names of public types and definitions that mean something else in another crate.
 
-    tests/names.py
+    tests/ambiguous_names.py
 
 The test reads each `pub struct`, `pub enum` and `pub trait` in src/, and each public definition in specs/. Within a crate,
 a type and its definition share a name. The name of a relation must not end in `So`.
@@ -38,5 +38,5 @@ for name, crates in names().items():
     if re.search(r"[a-z]So$", name):
         wrong.append(f"{name} does not say what holds")
 for line in wrong:
-    print(f"names: {line}", file=sys.stderr)
+    print(f"ambiguous_names: {line}", file=sys.stderr)
 sys.exit(bool(wrong))

@@ -1,7 +1,7 @@
 #!/usr/bin/env python3
 """Tests the rows that scripts/table.awk makes for subsets and levels, with each installed awk.
 
-    tests/awk_csv.py [PROGRAM]
+    tests/table_awk_subsets_and_levels.py [PROGRAM]
 
 The test also covers notes about columns, invalid columns, rows that are joined with a listing, and the running time.
 """
@@ -16,8 +16,8 @@ import subprocess
 import tempfile
 
 import lib
-from awk_scripts import AWKS
 from lib import TABLES, TOP, want
+from table_awk import AWKS
 
 SCRIPT = TOP / "scripts/table.awk"
 # groups in one another, a factor behind a last pass, and an item behind all passes
@@ -313,7 +313,7 @@ def main() -> None:
         stream = Stream(folder)
         for awk in AWKS:
             if not shutil.which(awk[0]):
-                print(f"awk_csv: skipped, {awk[0]} is not installed")
+                print(f"table_awk_subsets_and_levels: skipped, {awk[0]} is not installed")
                 continue
             tries_wide(awk, synop)
             tries_levels(awk, sounding, synop)

@@ -1,7 +1,7 @@
 #!/usr/bin/env python3
 """Runs the commands in the README in order, like a user who has just cloned the repository or unpacked a release.
 
-    tests/first_steps.py [PROGRAM]
+    tests/readme_commands.py [PROGRAM]
 
 A fenced block contains commands if it is marked `sh` or begins with `$ `. The commands run in one shell, with a separate
 home directory, at the top of a clone of the current files. Each command must exit with status 0, and the lines below a

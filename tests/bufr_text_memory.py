@@ -1,7 +1,7 @@
 #!/usr/bin/env python3
 """Measures how much memory the functions in scripts/bufr_text.py use, which must depend only on the longest message.
 
-    tests/module_memory.py [PROGRAM]
+    tests/bufr_text_memory.py [PROGRAM]
 
 A function may use 48 MB, plus 1 KB for each item in the longest message, plus twice the length of that message's dump;
 `encode` may also use memory for its result. The streams contain many messages, long messages, messages whose dumps are
@@ -73,7 +73,7 @@ def main() -> None:
             for call in calls:
                 memory = used(call, path)
                 most = MOST + items + 2 * items * width // 1000 + (100 * len(piece) // 1000 if call == "encode" else 0)
-                print(f"module_memory: {call} of {name}: {memory // 1000} MB, at most {most // 1000}")
+                print(f"bufr_text_memory: {call} of {name}: {memory // 1000} MB, at most {most // 1000}")
                 wrongs += [f"{call} of {name}: {memory} KB"] * (not 0 < memory < most)
     finish(wrongs)
 

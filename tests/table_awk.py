@@ -1,7 +1,7 @@
 #!/usr/bin/env python3
 """Tests scripts/table.awk with each installed awk.
 
-    tests/awk_scripts.py [PROGRAM]
+    tests/table_awk.py [PROGRAM]
 
 Every awk must make the same tables from the examples, with a row of seven fields for each item, and the same JSON from
 strings that contain every byte and every escape. In a live feed, the rows of a message must be written at the end of the
@@ -112,7 +112,7 @@ def main() -> None:
     there = [awk for awk in AWKS if shutil.which(awk[0])]
     for awk in AWKS:
         if awk not in there:
-            print(f"awk_scripts: skipped, {awk[0]} is not installed")
+            print(f"table_awk: skipped, {awk[0]} is not installed")
     made = {
         " ".join(awk): [subprocess.run([*awk, *script, *paths], stdout=subprocess.PIPE).stdout for script in (SCRIPT, WIDE)]
         for awk in there

@@ -1,7 +1,7 @@
 #!/usr/bin/env python3
 """Tests scripts/bufr-extract: which messages it selects from a generated stream, what it rejects, and how fast it is.
 
-    tests/extract_messages.py [PROGRAM]
+    tests/bufr_extract.py [PROGRAM]
 
 Each condition is tried with a file, with standard input redirected from a file, and with a pipe. The same messages must be
 selected each time, with the fault lines and the exit status of `bufr ls`. From a live feed, each message must be copied
@@ -269,7 +269,7 @@ def ignores_the_locale(folder: pathlib.Path) -> None:
     """A condition means the same in every locale: gawk counts characters, or bytes in the locale C."""
     gawk = shutil.which("gawk")
     if not gawk:
-        print("extract_messages: skipped, gawk is not there to try a locale")
+        print("bufr_extract: skipped, gawk is not there to try a locale")
         return
     (folder / "awk").symlink_to(gawk)
     (folder / "one").write_bytes(made(1))
@@ -396,7 +396,7 @@ def takes_at_most_three_times_as_long(program: str, folder: pathlib.Path) -> Non
         if seconds <= 3 * sum(parts):
             break
     told = f"{seconds:.2f} s for 100,000 messages in 1 GB, `bufr ls` {parts[0]:.2f} s, all that it needs {sum(parts):.2f} s"
-    print(f"extract_messages: {told}")
+    print(f"bufr_extract: {told}")
     want(seconds <= 3 * sum(parts), f"over three times the time: {told}")
 
 

@@ -1,7 +1,7 @@
 #!/usr/bin/env python3
 """Tests scripts/bufr-csv.
 
-    tests/csv_command.py [PROGRAM]
+    tests/bufr_csv.py [PROGRAM]
 
 For random messages, the rows in CSV and JSON must contain the values that bufr_text returns, with each installed awk. Other
 tests cover the options, several files with faults in the middle one, live feeds, arguments that must be rejected, and
@@ -24,8 +24,8 @@ import tempfile
 from decimal import Decimal
 
 import lib
-from awk_scripts import AWKS
 from lib import TOP, finish, program
+from table_awk import AWKS
 
 sys.path.insert(0, str(TOP / "scripts"))
 import bufr_text  # noqa: E402
@@ -627,7 +627,7 @@ def seconds(folder: pathlib.Path) -> None:
         other = min(other, lib.seconds_of(["bash", "-c", at_once], cwd=TOP))
         if turn > 1 and other <= 1.5 * one:
             break
-    print(f"csv_command: bufr-csv {other:.2f} s of processor time, bufr-auto and awk {one:.2f} s")
+    print(f"tests/bufr_csv.py: bufr-csv {other:.2f} s of processor time, bufr-auto and awk {one:.2f} s")
     holds("processor time", other <= 1.5 * one, (other, one))
 
 
@@ -646,7 +646,7 @@ def main() -> None:
                 part(folder)
         for awk in AWKS:
             if not shutil.which(awk[0]):
-                print(f"csv_command: skipped, {awk[0]} is not installed")
+                print(f"tests/bufr_csv.py: skipped, {awk[0]} is not installed")
     finish(complaints)
 
 

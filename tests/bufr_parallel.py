@@ -1,7 +1,7 @@
 #!/usr/bin/env python3
 """Tests scripts/bufr-parallel: its output, fault lines and exit status must be those of a single `bufr dump`.
 
-    tests/parallel_dump.py [PROGRAM]
+    tests/bufr_parallel.py [PROGRAM]
 
 The generated stream contains headings, strays, and messages with faults in their sections or data. One stray declares more
 octets than its part contains. bufr-parallel reads the stream from one file, from three files that are split in the middle

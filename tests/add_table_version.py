@@ -1,7 +1,7 @@
 #!/usr/bin/env python3
 """Tests the commands in tables/README.md that add next year's version of the tables.
 
-    tests/next_table_version.py [PROGRAM]
+    tests/add_table_version.py [PROGRAM]
 
 The commands must make a table set from a made-up version 99, and list its differences from the latest set. Version 99
 consists of the tables in wmo-39 in WMO's layout, with an additional element, an additional sequence and a changed width.

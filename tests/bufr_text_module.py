@@ -2,7 +2,7 @@
 """Tests scripts/bufr_text.py: reading and writing dumps, the errors for invalid dumps (with line numbers and causes), rows
 and levels, and running the program (with faults, offsets and failures).
 
-    tests/python_module.py [PROGRAM]
+    tests/bufr_text_module.py [PROGRAM]
 """
 import contextlib
 import csv
@@ -882,5 +882,5 @@ class Runs(unittest.TestCase):
 if __name__ == "__main__":
     os.environ["BUFR"] = lib.program()
     if not shutil.which("mypy"):
-        print("python_module: its types are skipped, mypy is not installed")
+        print("bufr_text_module: its types are skipped, mypy is not installed")
     unittest.main(argv=sys.argv[:1], failfast=True)

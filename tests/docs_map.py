@@ -1,7 +1,7 @@
 #!/usr/bin/env python3
 """Compares docs/map.md with the tags in the sources, and names in other pages with the sources.
 
-    tests/map.py [--update]        --update: update docs/map.md
+    tests/docs_map.py [--update]        --update: update docs/map.md
 
 Each rule in docs/map.md has a tag. In the sources, a comment `rule: TAG, TAG` precedes each item to which these rules
 apply: a definition in specs/, an example in proofs/, a function, or a test in bufr_tests. A file in tests/ has such a
@@ -163,7 +163,7 @@ def rules() -> None:
         MAP.write_text(made, encoding="utf-8")
     for line, (old, new) in enumerate(zip(read(MAP).splitlines(), lines), 1):
         if old != new:
-            complain("docs/map.md", line, "is not as the tags have it: run tests/map.py --update")
+            complain("docs/map.md", line, "is not as the tags have it: run tests/docs_map.py --update")
 
 
 def modules(crate: str) -> set:
@@ -200,7 +200,7 @@ def words_of_code() -> set:
 
 def pages() -> None:
     """Each word of a page in backquotes that looks like a name of the code (small letters with `_`, or two capitals) is
-    one. What has a `/` is a path, which tests/docs_names.py looks for."""
+    one. What has a `/` is a path, which tests/docs_consistency.py looks for."""
     code = words_of_code()
     for page in PAGES:
         text = read(TOP / page)

@@ -2,7 +2,7 @@
 """Tests scripts/bufr-plot: maps with unusual positions and strings, soundings, and the messages if there is nothing to draw
 or matplotlib is missing. Failures must leave no files behind.
 
-    tests/plots.py [PROGRAM]
+    tests/bufr_plot.py [PROGRAM]
 
 The test draws with the first python3 that has matplotlib: its own, the one on PATH, or /usr/bin/python3. If none has it,
 drawing is skipped.
@@ -300,7 +300,7 @@ def main() -> None:
         if python:
             draws(python, lib.program(), folder)
         else:
-            print("pictures: skipped, no python3 here has matplotlib")
+            print("bufr_plot: skipped, no python3 here has matplotlib")
 
 
 if __name__ == "__main__":

@@ -1,7 +1,7 @@
 #!/usr/bin/env python3
 """Tests tests/vectors/run.py: the cases that it selects, its exit status, and a program that does not exit.
 
-    tests/vector_runner.py [PROGRAM]
+    tests/test_vector_runner.py [PROGRAM]
 """
 import importlib.util
 import subprocess

@@ -1,7 +1,7 @@
 #!/usr/bin/env python3
 """Compares four ways to get the values in a dump: table.awk by item and by subset, bufr_text.dump, and bufr_text.rows.
 
-    tests/consistent_values.py [PROGRAM]
+    tests/scripts_agree_on_values.py [PROGRAM]
 
 All four must return the same values, with each installed awk. Some messages are random and use WMO's tables. Others use a
 table that the test generates, with numbers of every scale from -127 to 127: zero, one digit, the limits of a field's range,
@@ -20,8 +20,8 @@ import warnings
 from decimal import Decimal
 
 import lib
-from awk_scripts import AWKS
 from lib import TABLES, TOP, want
+from table_awk import AWKS
 
 sys.path[:0] = [str(TOP / "scripts"), str(TOP / "tests/hostile")]
 import bufr_text  # noqa: E402
@@ -172,7 +172,7 @@ def main() -> None:
     text = kinds["numbers of every scale"][0]
     missing, least = text.count(b" MISSING"), text.count(b"\n048255 -9223372036854775808." + b"0" * 18 + b" ")
     want((missing, least) == (len(SCALES), 1), f"of every scale {missing} numbers are missing, and {least} is the least")
-    print(f"consistent_values: {values:,} values agree")
+    print(f"scripts_agree_on_values: {values:,} values agree")
 
 
 if __name__ == "__main__":

@@ -1,8 +1,8 @@
 #!/usr/bin/env python3
 """Compares the C library with the program on examples/, tests/vectors and random hostile streams.
 
-    tests/library.py [PROGRAM [FOLDER]]        FOLDER: the directory that library/build.sh filled (default: the library
-                                               that the variable BUFR_LIBRARY names or, if it is not set, a new build)
+    tests/c_library.py [PROGRAM [FOLDER]]        FOLDER: the directory that library/build.sh filled (default: the library
+                                                 that the variable BUFR_LIBRARY names or, if it is not set, a new build)
 
 The outputs must be the same, with large and small buffers, and in several threads at once. The rows for items must agree
 with the output of `bufr dump`, and the rows for messages with that of `bufr ls`. The structures and numbers in
@@ -204,7 +204,7 @@ def try_names(folder: pathlib.Path) -> None:
     """The archive and the shared library define the calls of bufr.h, and no other global name."""
     calls = set(re.findall(r"^u?int32_t (\w+)\(", (TOP / "library/bufr.h").read_text(), re.M))
     if not shutil.which("nm"):
-        print("tests/library.py: nm is not installed, so the names in the library are not compared", file=sys.stderr)
+        print("tests/c_library.py: nm is not installed, so the names in the library are not compared", file=sys.stderr)
         return
     for words in (["-g", "libbufr.a"], ["-D", "libbufr.so"]):
         names = subprocess.run(["nm", "--defined-only", "-P", *words], cwd=folder, stdout=subprocess.PIPE, text=True).stdout
@@ -303,7 +303,7 @@ def try_examples(folder: pathlib.Path, work: pathlib.Path) -> None:
     ]
     for compiler, flags, source, words, wanted in tries:
         if not shutil.which(compiler):
-            print(f"tests/library.py: {compiler} is not installed, so {source} is not tried with it", file=sys.stderr)
+            print(f"tests/c_library.py: {compiler} is not installed, so {source} is not tried with it", file=sys.stderr)
             continue
         for way, last in (("static", [folder / "libbufr.a"]), ("shared", [f"-L{folder}", "-lbufr", f"-Wl,-rpath,{folder}"])):
             built = work / f"{source}.{compiler}.{way}"
@@ -316,7 +316,7 @@ def try_examples(folder: pathlib.Path, work: pathlib.Path) -> None:
             run = subprocess.run([built, *words], input=b"", stdout=subprocess.PIPE, stderr=subprocess.PIPE)
             alike(f"{compiler} {source}, {way}", (run.returncode, run.stdout, run.stderr), (0, *wanted))
             if way == "shared" and not shutil.which("valgrind"):
-                print("tests/library.py: valgrind is not installed, so no example runs under it", file=sys.stderr)
+                print("tests/c_library.py: valgrind is not installed, so no example runs under it", file=sys.stderr)
             elif way == "shared":
                 check = ["valgrind", "-q", "--error-exitcode=9", "--leak-check=full", "--show-leak-kinds=all", str(built)]
                 run = subprocess.run([*check, *map(str, words)], input=b"", stdout=subprocess.PIPE, stderr=subprocess.PIPE)
@@ -353,7 +353,7 @@ def try_pipe(folder: pathlib.Path, work: pathlib.Path) -> None:
 def try_pkg_config(folder: pathlib.Path, work: pathlib.Path) -> None:
     """Compiles an example with the flags that pkg-config gives, for an installation that is made as docs/library.md says."""
     if not shutil.which("pkg-config") or not shutil.which("gcc"):
-        print("tests/library.py: pkg-config or gcc is not installed, so bufr.pc is not tried", file=sys.stderr)
+        print("tests/c_library.py: pkg-config or gcc is not installed, so bufr.pc is not tried", file=sys.stderr)
         return
     prefix, stream, built = work / "prefix", TOP / "examples/bulletins.bufr", work / "listing"
     for name, place in (("bufr.pc", "lib/pkgconfig"), ("libbufr.*", "lib"), ("bufr.h", "include")):
@@ -379,7 +379,7 @@ def main() -> None:
         folder = pathlib.Path(named).resolve() if named else work / "library"
         if not named:
             if not shutil.which(os.environ.get("CC", "cc")) or not shutil.which("rt"):
-                print("tests/library.py: skipped, since it needs rt and cc, a C compiler", file=sys.stderr)
+                print("tests/c_library.py: skipped, since it needs rt and cc, a C compiler", file=sys.stderr)
                 return
             built = subprocess.run([TOP / "library/build.sh", folder], stdout=subprocess.PIPE, stderr=subprocess.STDOUT)
             if built.returncode:

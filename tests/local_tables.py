@@ -1,7 +1,7 @@
 #!/usr/bin/env python3
 """Tests table sets with local rows: bufr-lacks says how to make such a set, convert.py makes it, and bufr-auto uses it.
 
-    tests/centre_tables.py [PROGRAM]
+    tests/local_tables.py [PROGRAM]
 
 The messages come from centre 98 and need tables=0/13/102. The rows are made up, in wreport's layout. If wreport is
 installed, its rows are converted, too.

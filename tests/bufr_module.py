@@ -1,7 +1,7 @@
 #!/usr/bin/env python3
 """Compares the module `bufr` with bufr_text, which parses the program's output, and tests what only `bufr` offers.
 
-    tests/arrays.py [PROGRAM [TEST..]]        TEST: the name of a class or a method, such as Same.test_examples
+    tests/bufr_module.py [PROGRAM [TEST..]]        TEST: the name of a class or a method, such as Same.test_examples
 
 The comparison uses the streams in examples/ and vectors/, and random hostile streams. Other tests cover the kinds of
 sources, exact values, times, faults, several processes (one of which is killed), memory use, and the examples in
@@ -37,7 +37,7 @@ SCRIPTS = TOP / "scripts"
 if __name__ == "__main__":
     lib.use_python_with("numpy", "pandas")
     if "BUFR_LIBRARY" not in os.environ:
-        print("arrays: skipped, BUFR_LIBRARY does not name libbufr.so.0 (library/build.sh builds it)")
+        print("bufr_module: skipped, BUFR_LIBRARY does not name libbufr.so.0 (library/build.sh builds it)")
         sys.exit()
 sys.path[:0] = [str(SCRIPTS), str(TOP / "tests/hostile"), str(TOP / "library/examples")]
 
@@ -1105,7 +1105,7 @@ class Processes(WithFolder):
             self.skipTest("Dask is not installed (Debian: apt-get install python3-dask python3-distributed)")
         # in another process, because Dask prints tracebacks of workers that end, even if all is well
         (self.folder / "given").write_bytes(pickle.dumps((self.pieces, self.mark, self.wanted[:0])))
-        words = [sys.executable, "-c", "import sys, arrays; arrays.read_by_dask(sys.argv[1])", self.folder]
+        words = [sys.executable, "-c", "import sys, bufr_module; bufr_module.read_by_dask(sys.argv[1])", self.folder]
         environment = {**os.environ, "PYTHONPATH": f"{SCRIPTS}:{TOP}/tests"}
         log, ended = self.folder / "log", "exited with status {}"
         with open(log, "wb") as told:
@@ -1152,7 +1152,7 @@ class Processes(WithFolder):
                 words = [sys.executable, "-W", "ignore", "-c", code.format(call), SCRIPTS, self.stream]
                 done = subprocess.run(words, stdout=subprocess.PIPE, text=True, check=True)
                 used.append(int(re.search(r"^VmHWM:\s+(\d+) kB$", done.stdout, re.M)[1]) // 1000)
-            print(f"arrays: {call}: {used[0]} MB, and {used[1]} MB for three times the messages")
+            print(f"bufr_module: {call}: {used[0]} MB, and {used[1]} MB for three times the messages")
             # If a call retained the input or its items, it would need at least 40 MB more. Equal runs differ by up to 15 MB.
             self.assertLess(used[1] - used[0], 30, call)
 

@@ -1,7 +1,7 @@
 #!/usr/bin/env python3
 """Checks that the documentation agrees with the files, the program and the scripts.
 
-    tests/docs_names.py [PROGRAM]
+    tests/docs_consistency.py [PROGRAM]
 
 - all pages: links and paths, and the Python version that the scripts need;
 - docs/guide.md: octets and items in the example files, and the differences from ecCodes;
@@ -92,7 +92,7 @@ def man_page() -> None:
     want(faults == told, f"man/bufr.1: of the faults {sorted(faults ^ told)} stand here or in docs/texts.md alone")
     for command in (["mandoc", "-T", "lint"], ["groff", "-ww", "-mandoc", "-T", "utf8", "-z"]):
         if not shutil.which(command[0]):
-            print(f"docs_names: skipped, {command[0]} is not installed")
+            print(f"docs_consistency: skipped, {command[0]} is not installed")
             continue
         for path in sorted(TOP.glob("man/*.1")):
             done = subprocess.run([*command, path], stdout=subprocess.PIPE, stderr=subprocess.STDOUT, text=True)

@@ -1,7 +1,7 @@
 #!/usr/bin/env python3
 """Tests docs/believed.py.
 
-    tests/believed.py
+    tests/believed_definitions.py
 
 The output must contain definitions below every heading, the definitions that docs/proof.md cites, and everything that a
 contract names, except names from std. A file of definitions that `run` does not need must say so in its first line.
