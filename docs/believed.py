@@ -116,8 +116,8 @@ Names that are not defined below come from std (rattle/std and rattle/core in th
   `pointwise p xs ys`                          whether the lists are equally long and p holds for each pair of elements
   `from_bool b`                                1 for true, 0 for false
 
-Names that are defined in later sections are listed after the first lines of a file. These lines cite the part of FM 94 that
-the file defines. `(own)` marks a rule that is our choice.
+Names that are defined in later sections are listed after the first lines of a file. These lines cite the part of FM 94 BUFR
+(WMO-No. 306, Volume I.2) that the file defines. Other rules are marked as our choice, or as not part of FM 94 BUFR.
 """
 # The laws that justify definitions, by the file that contains the definitions.
 LAWS = {

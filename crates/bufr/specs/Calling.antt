@@ -1,4 +1,5 @@
--- Only contracts need this file. What the process does with its command-line arguments. (own)
+-- Only contracts need this file. What the process does with its command-line arguments (not part
+-- of FM 94 BUFR).
 use Rattle.std.specs.Prelude.{◌≡◌, ◌⊎◌, ℕ, List, [], Option, codes}
 use Rattle.std.specs.Borrow.{Bor}
 use Rattle.bufr_frame.specs.declared.fault.RunFault.TheVariants.{Memory}
@@ -13,8 +14,8 @@ IsWordless outcome =
     × (text.now ≡ codes "error: an argument is not UTF-8\n"))
 
 -- What the process does with its arguments. If the arguments are available, the process runs the
--- program with them. Otherwise, it writes nothing to the output, and reports the reason in the last
--- line of the error output and in the exit status.
+-- program with them. Otherwise, it only writes the reason to standard error and exits with the
+-- corresponding status.
 -- rule: argument-not-utf-8
 pub data RunsArguments {Standard File : Type 0} (inputs : Known Standard File)
     (opened opened' : Option (List InputName)) (before after : Writers) (status : ℕ) : Type 0 where

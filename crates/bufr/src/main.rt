@@ -2,15 +2,15 @@
 //!
 //! `bufr ls [FILE]` prints one line for each message in a stream.
 //! `bufr dump -B FILE -D FILE [FILE]` prints each message as text, using Tables B and D.
-//! `bufr encode -B FILE -D FILE [--form WORD] [FILE]` encodes text in the format of `dump` as
+//! `bufr encode -B FILE -D FILE [--form WORD] [FILE]` converts text in the format of `dump` into
 //! messages. Faults are reported on standard error, one per line. The exit status is 0 if nothing
 //! was rejected. The exit status is 1 if a message or a document was rejected, or if the input
 //! contained a stray (an occurrence of `BUFR` where no message begins). The exit status is 2 if the
 //! command line or a table was invalid, a file could not be opened, reading or writing failed, or
 //! memory ran out.
 //!
-//! This crate passes the arguments, the inputs and the writers of the process to [`run`] in
-//! `bufr_cli`, which does the work.
+//! This crate only passes the arguments, inputs and writers of the process to [`run`] in
+//! `bufr_cli`.
 #![tactic(auto)]
 
 ghost use Rattle.bufr.specs.Calling.{IsWordless, RunsArguments};
@@ -25,12 +25,12 @@ use process::Process;
 use std::io::{Error, ErrorKind};
 use std::process::ExitCode;
 
-/// Runs the command line with the inputs and writers of the process.
+/// Runs the program and exits with its status.
 fn main(rt: HostRuntime) -> ExitCode {
     ExitCode::from(status(&rt))
 }
 
-/// Runs the command line and returns the exit status of the process.
+/// Runs the program with the inputs and writers of the process, and returns the exit status.
 // rule: output-held-back
 fn status(rt: &HostRuntime) -> u8 {
     let Ok(mut e) = Buffered::new(rt.alloc(), BUFFERED, Device::new(rt.stderr())) else {
@@ -59,7 +59,7 @@ fn argument_fault(error: &Error) -> Outcome<'static>
     }
 }
 
-/// Runs the command line of the process with the given inputs and writers.
+/// Runs the program with the process's arguments and with the given inputs and writers.
 fn run_words<I: Inputs, W: Sink, E: Sink>(
     rt: &HostRuntime,
     inputs: &mut I,

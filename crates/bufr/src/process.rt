@@ -1,12 +1,12 @@
-//! The inputs that the process provides to the program.
+//! Provides standard input and files as the inputs of the program.
 use bufr_bits::BufferedDevice;
 use bufr_cli::{BUFFERED, Inputs, OpenFault};
 use std::alloc::AllocError;
 use std::fs::{self, File};
 use std::io::{BufReader, Stdin};
 
-/// The inputs of the process: its standard input, and the files that it opens by name. Nothing is
-/// known about the octets of the inputs until they are read.
+/// The inputs of the process (standard input, and files that are opened by name). Contracts assume
+/// nothing about the contents of these inputs.
 #[derive(Drop)]
 pub struct Process<'a> {
     /// The runtime of the process.

@@ -1,7 +1,7 @@
--- Only contracts need this file. The octets that a bit slice reads.
+-- Only contracts need this file. The octets of a bit slice.
 use Rattle.std.specs.Prelude.{ℕ, List}
 use Rattle.bufr_bits.specs.declared.bit_slice.BitSlice.{BitSlice}
 
--- the octets from which a slice reads bits
+-- the octets that a bit slice refers to
 abbrev pub octets_of : BitSlice → List ℕ
 octets_of s = s.octets.now

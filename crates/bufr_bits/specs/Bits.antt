@@ -1,5 +1,4 @@
--- Conversions between octets, bits and numbers. (WMO-No. 306, Volume I.2, FM 94: the most
--- significant bit comes first)
+-- Conversions between octets, bits and numbers, most significant bit first (FM 94 BUFR).
 -- Cited by public contracts.
 use Rattle.std.specs.Prelude.{ℕ, zero, suc, ◌+◌, ◌-◌, ◌*◌, ◌^◌, ◌/◌, ◌%◌, ◌==◌, Bool, false, if◌then◌else◌, List, [], ◌∷◌, ◌++◌, take, drop, replicate, ◌≡◌, ◌<◌, ◌≤◌, length, min}
 use Rattle.std.specs.List.{list_all}
@@ -15,8 +14,7 @@ unfoldable pub bits_of : List ℕ → List Bool
 bits_of [] = []
 bits_of (octet ∷ more) = bits_of_octet octet ++ bits_of more
 
--- the number that results from appending bits to n; for each bit, the number is doubled and the bit
--- is added
+-- the number that results from appending the given bits to the binary digits of n
 abbrev pub number_after_bits : ℕ → List Bool → ℕ
 number_after_bits n [] = n
 number_after_bits n (bit ∷ bits) = number_after_bits (2 * n + (if bit then 1 else 0)) bits
@@ -43,7 +41,7 @@ bits_in value (suc width) = (value / 2 ^ width % 2 == 1) ∷ bits_in value width
 abbrev pub padding : (length : ℕ) → List Bool
 padding length = replicate ((8 - length % 8) % 8) false
 
--- ---- Eight octets read as one number. (own)
+-- ---- Eight octets read as one number (not part of FM 94 BUFR).
 
 -- `window` is the number stored in the eight octets that begin at index `first`.
 pub record IsWindow (window first : ℕ) (octets : List ℕ) : Type 0 where
@@ -51,9 +49,9 @@ pub record IsWindow (window first : ℕ) (octets : List ℕ) : Type 0 where
   pub small : window < 2 ^ 64
   pub bits : bits_of (take 8 (drop first octets)) ≡ bits_in window 64
 
--- ---- The state of a bit writer: whole octets, and the remaining bits, stored as a number.
+-- ---- A bit writer, which stores whole octets in a buffer and the remaining bits as a number.
 
--- a bit writer: the bits written so far, and the number of bits that still fit
+-- the model of a bit writer, with the bits written so far and the number of bits that still fit
 pub record BitWriterModel : Type 0 where
   pub bits : List Bool
   pub room : ℕ
@@ -64,8 +62,8 @@ abbrev pub room_after : (len capacity count : ℕ) → ℕ
 room_after len capacity count = min (8 * capacity) (2 ^ 63) - (8 * len + count)
 
 -- `last` contains the `count` bits that follow the `len` whole octets, and has space for `free`
--- more bits. `count` and `free` add up to less than 64, and the buffer has room for those
--- `count + free` bits. At most 2^63 bits have been written.
+-- more bits. `count + free` is less than 64, and the buffer has room for that many bits after the
+-- whole octets. At most 2^63 bits have been written.
 pub record IsWriting (len capacity last count free : ℕ) : Type 0 where
   pub few : count + free < 64
   pub low : last < 2 ^ count

@@ -1,4 +1,4 @@
--- Decimal strings. The number v at scale s is written as v / 10^s (own).
+-- Decimal strings. The number v at scale s is written as v / 10^s (our choice).
 -- Cited by public contracts.
 use Rattle.std.specs.Prelude.{ℕ, zero, suc, ◌+◌, ◌-◌, List, [], ◌∷◌, ◌++◌, length, take, drop, replicate, ℤ, pos, negsuc, unsigned_abs, ◌≡◌, ◌*◌, ◌/◌, ◌%◌, ◌^◌, ◌==◌, nat_lt, nat_le, Bool, true, false, ◌&&◌, if◌then◌else◌, Result, Ok, Err, neg_ℤ, is_some, ◌||◌}
 use Rattle.std.specs.Fmt.{decimal}
@@ -37,7 +37,8 @@ sign_of (negsuc n) = 45 ∷ []
 unfoldable pub decimal_text_of : (v scale : ℤ) → List ℕ
 decimal_text_of v scale = sign_of v ++ unsigned_text (unsigned_abs v) scale
 
--- ---- Reading decimal strings. At scale s, a string that represents x is read as x * 10^s. (own)
+-- ---- Reading decimal strings. At scale s, a string that represents x is read as x * 10^s (not
+-- part of FM 94 BUFR).
 
 -- the part of a string after an optional minus sign
 abbrev pub unsigned_part : List ℕ → List ℕ
@@ -47,7 +48,7 @@ unsigned_part text = if starts_with_minus text then drop 1 text else text
 abbrev pub whole_part : List ℕ → List ℕ
 whole_part text = before_first (λ c. c == 46) text
 
--- the part of a string after the decimal point; empty if there is no decimal point
+-- the part of a string after the decimal point, or an empty string if there is no decimal point
 abbrev pub fraction_part : List ℕ → List ℕ
 fraction_part text = after_first (λ c. c == 46) text
 
@@ -66,12 +67,12 @@ is_unsigned text =
     is_digits (whole_part text)
     && (if is_some (position (λ c. c == 46) text) then is_digits (fraction_part text) else true)
 
--- the exponent of ten in the multiplier: the scale if it is positive; otherwise, 0
+-- the scale if it is positive; otherwise, 0
 abbrev pub positive_scale : ℤ → ℕ
 positive_scale (pos n) = n
 positive_scale (negsuc n) = 0
 
--- the exponent of ten in the divisor: the absolute value of a negative scale; otherwise, 0
+-- `-scale` if the scale is negative; otherwise, 0
 abbrev pub negative_scale : ℤ → ℕ
 negative_scale (pos n) = 0
 negative_scale (negsuc n) = n + 1
@@ -92,13 +93,13 @@ abbrev pub signed : (negative : Bool) → ℕ → Result ℤ NumberFault
 signed false n = if nat_lt n (2 ^ 127) then Ok (pos n) else Err Large
 signed true n = if nat_le n (2 ^ 127) then Ok (neg_ℤ (pos n)) else Err Large
 
--- sequencing that stops at the first fault
+-- the result of passing x to `next`, or the fault if the first step failed
 infixl 10 ◌>>=◌
 abbrev pub ◌>>=◌ : {E A B : Type 0} → Result A E → (A → Result B E) → Result B E
 (Ok x) >>= next = next x
 (Err fault) >>= next = Err fault
 
--- a result in which any fault is converted by `form`
+-- a result in which `form` has been applied to the fault, if any
 abbrev pub map_err : {E F A : Type 0} → (E → F) → Result A E → Result A F
 map_err form (Ok x) = Ok x
 map_err form (Err fault) = Err (form fault)
@@ -122,7 +123,7 @@ pub record IsParts (text whole fraction : List ℕ) : Type 0 where
   pub after : fraction ≡ fraction_part text
 
 -- ---- Short decimals, each stored as a sign, the integer formed by all its digits, and the number
--- of digits after the decimal point. (own)
+-- of digits after the decimal point (not part of FM 94 BUFR).
 
 -- the number with the given sign
 abbrev pub signed_number : (negative : Bool) → ℕ → ℤ
@@ -133,21 +134,21 @@ signed_number true n = neg_ℤ (pos n)
 abbrev pub short_text : ShortDecimal → List ℕ
 short_text d = decimal_text_of (signed_number d.negative d.digits) (pos d.places)
 
--- whether an octet is a digit, a minus sign or a decimal point, as in a decimal string
+-- whether an octet can occur in a decimal string (a digit, a minus sign or a decimal point)
 abbrev pub is_decimal_octet : ℕ → Bool
 is_decimal_octet c = is_ascii_digit c || (c == 45) || (c == 46)
 
--- whether an octet can continue a number that already has `places` digits after the decimal point;
--- a digit always can, and a decimal point can if `places` is 0
+-- whether an octet can continue a number with `places` digits after the decimal point; it must be a
+-- digit, or a decimal point if `places` is 0
 abbrev pub continues_number : (places octet : ℕ) → Bool
 continues_number places octet = is_ascii_digit octet || ((places == 0) && (octet == 46))
 
--- the number of octets searched for a short decimal at the start of a string, which is 19, or 20 if
--- the string starts with a minus sign
+-- the maximum number of octets that are examined to find a short decimal at the start of a string
+-- (19, or 20 if the string starts with a minus sign)
 abbrev pub searched_octets : List ℕ → ℕ
 searched_octets text = if starts_with_minus text then 20 else 19
 
--- The string is an unsigned decimal with `places` digits after the decimal point.
+-- The string is the unsigned decimal form of `number` at scale `places`.
 pub record IsPlainDecimal (text : List ℕ) (number places : ℕ) : Type 0 where
   pub is : text ≡ unsigned_text number (pos places)
   pub octets : list_all is_decimal_octet text ≡ true

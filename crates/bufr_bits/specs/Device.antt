@@ -4,7 +4,7 @@
 use Rattle.std.specs.Prelude.{true, ℕ, zero, suc, ◌+◌, ◌-◌, ◌^◌, min, max, Bool, false, List, [], ◌∷◌, Result, Ok, Err, if◌then◌else◌, length, nat_eq}
 use Rattle.bufr_bits.specs.declared.device.Device.{Device}
 
--- a new device, on which no calls have been made
+-- a device that has not been called yet
 abbrev pub fresh_device : {T : Type 0} → T → Device T
 fresh_device inner =
     record {
@@ -19,7 +19,7 @@ fresh_device inner =
       all_flushed = true;
     }
 
--- ---- The counts of a device after a call. (own)
+-- ---- The counts of a device after a call (not part of FM 94 BUFR).
 
 -- `count + by`, but at most 2^64 - 1; a count that already exceeds this limit is unchanged
 abbrev pub counted : (count by : ℕ) → ℕ
@@ -39,8 +39,8 @@ empty_writes_after count [] (Ok zero) = count
 empty_writes_after count (octet ∷ more) (Ok zero) = counted count 1
 
 -- The count of complete writes after one more write. A write is complete if all of its octets are
--- accepted. This count is used to bound the number of writes that a buffered writer makes, but it
--- does not appear in the contract of `run`.
+-- accepted. The contract of the buffered writer limits this count, but the contract of `run` does
+-- not mention it.
 abbrev pub whole_writes_after : {E : Type 0} → ℕ → List ℕ → Result ℕ E → ℕ
 whole_writes_after count octets (Err e) = count
 whole_writes_after count octets (Ok taken) =
@@ -56,26 +56,26 @@ abbrev pub flushes_after : {A E : Type 0} → Flushes → Result A E → Flushes
 flushes_after flushes result =
     record { made = counted flushes.made 1; failed = failures_after flushes.failed result }
 
--- Whether, after a write, all accepted octets have been flushed. The result is false if octets
--- were accepted; otherwise, it is the same as before the write.
+-- Whether a device has no unflushed octets after a write. The result is false if octets were
+-- accepted; otherwise, it is the same as before the write.
 abbrev pub all_flushed_after_write : {E : Type 0} → Bool → Result ℕ E → Bool
 all_flushed_after_write before (Err e) = before
 all_flushed_after_write before (Ok zero) = before
 all_flushed_after_write before (Ok (suc taken)) = false
 
--- Whether, after a flush, all accepted octets have been flushed. The result is true if the flush
+-- Whether a device has no unflushed octets after a flush. The result is true if the flush
 -- succeeded; otherwise, it is the same as before the flush.
 abbrev pub all_flushed_after_flush : {A E : Type 0} → Bool → Result A E → Bool
 all_flushed_after_flush before (Ok x) = true
 all_flushed_after_flush before (Err e) = before
 
--- ---- Numbers capped at `u128::MAX` while digits are read. (own)
+-- ---- Numbers that are capped at `u128::MAX` while their digits are read (not part of FM 94 BUFR).
 
 -- a number, capped at `u128::MAX`
 abbrev pub capped : ℕ → ℕ
 capped n = min n (2 ^ 128 - 1)
 
--- a result in which the number, if any, is capped
+-- a result whose number, if any, is capped at `u128::MAX`
 abbrev pub capped_ok : {E : Type 0} → Result ℕ E → Result ℕ E
 capped_ok (Ok n) = Ok (capped n)
 capped_ok (Err fault) = Err fault

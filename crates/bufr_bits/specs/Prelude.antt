@@ -1,4 +1,4 @@
--- Re-exports the names that proofs and other crates use, and declares nothing.
+-- Re-exports the names that proofs and other crates use, and declares nothing itself.
 pub use Rattle.bufr_bits.specs.BitSlice.{octets_of}
 pub use Rattle.bufr_bits.specs.Bits.{bits_of_octet, number_after_bits, number_of, bits_at, are_all_ones, padding, room_after, IsWindow, BitWriterModel}
 unfoldable pub use Rattle.bufr_bits.specs.Bits.{bits_of, bits_in}

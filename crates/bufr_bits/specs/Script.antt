@@ -1,4 +1,5 @@
--- Only contracts need this file. The behaviour of the in-memory test devices. (own)
+-- Only contracts need this file. The behavior of the in-memory test devices (not part of FM 94
+-- BUFR).
 use Rattle.std.specs.Prelude.{ℕ, zero, suc, ◌-◌, min, List, Option, None, Some, option_map, Result, Ok, Err, vec_len}
 use Rattle.bufr_bits.specs.Device.{Flushes}
 use Rattle.bufr_bits.specs.declared.device.Failed.{Failed}
@@ -6,14 +7,14 @@ use Rattle.bufr_bits.specs.declared.script.ScriptOut.{ScriptOut}
 use Rattle.bufr_bits.specs.declared.script.End.{End}
 use Rattle.bufr_bits.specs.declared.script.End.TheVariants.{Zero, Fail, Flush}
 
--- the result of a read into a `room`-octet buffer if `held` octets remain; the last argument is the
--- number of octets to return before the next planned failure, if any
+-- the result of a read into a `room`-octet buffer with `held` octets remaining; the last argument
+-- is the number of octets to return before the next planned failure, if any
 abbrev pub read_answer : (step room held : ℕ) → Option ℕ → Result ℕ Failed
 read_answer step room held None = Ok (min (min step room) held)
 read_answer step room held (Some zero) = Err (record {})
 read_answer step room held (Some (suc before)) = Ok (min (min (min step room) held) (suc before))
 
--- the number of octets that a call read or accepted, given its result
+-- the number of octets read or accepted by a call with the given result
 abbrev pub octets_moved : Result ℕ Failed → ℕ
 octets_moved (Ok n) = n
 octets_moved (Err e) = 0

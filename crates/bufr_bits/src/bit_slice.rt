@@ -1,9 +1,9 @@
-//! Reading numbers that are stored as bits in octets, most significant bit first.
+//! A reader for bits that are packed into octets, most significant bit first.
 ghost use Rattle.std.specs.Prelude.{◌≡◌, ◌≤◌, ◌<◌, ◌+◌, ◌-◌, ◌/◌, ◌%◌, ◌^◌, ◌==◌, ℕ, MatchOption, length, slice_index, slice_range, ◌*◌, option_map, SomeIff, IfSome};
 ghost use Rattle.bufr_bits.specs.Bits.{are_all_ones, IsWindow, number_of, bits_at};
 
-/// A slice of octets that is read as a sequence of bits. The slice has at most 2^60 octets. Bits
-/// are counted from 0, starting with the most significant bit of the first octet.
+/// A slice of octets that is read as a sequence of bits. The slice contains at most 2^60 octets.
+/// Bits are counted from 0, starting with the most significant bit of the first octet.
 ///
 /// ```
 /// let bits = BitSlice::new(&[0x46, 0x59]);
@@ -20,7 +20,7 @@ pub struct BitSlice<'a> {
 impl<'a> BitSlice<'a> {
     ghost use Rattle.bufr_bits.specs.BitSlice.{octets_of};
 
-    /// Creates a bit slice from `octets`, which must have at most 2^60 octets.
+    /// Creates a bit slice from at most 2^60 octets.
     pub fn new(octets: &'a [u8]) -> BitSlice<'a>
         requires { length octets.now ≤ 2 ^ 60 }
         ensures { octets_of result ≡ octets.now }
@@ -35,9 +35,9 @@ impl<'a> BitSlice<'a> {
         8 * self.octets.len() as u64
     }
 
-    /// Returns the unsigned number stored in the `width` bits that begin at bit `at`, most
-    /// significant bit first. Returns `None` if the number extends past the end of the slice. The
-    /// width must be at most 63. If the width is 0, the number is 0.
+    /// Reads the `width` bits that begin at bit `at` as an unsigned number, most significant bit
+    /// first. Returns `None` if the number extends past the end of the slice. The width must be at
+    /// most 63. If the width is 0, the number is 0.
     // rule: bit-order, field-number, past-last-bit
     pub fn get(&self, at: u64, width: u32) -> Option<u64>
         requires { width ≤ 63 }
@@ -55,9 +55,8 @@ impl<'a> BitSlice<'a> {
         Some(self.number(at, width))
     }
 
-    /// Returns the unsigned number stored in the `width` bits that begin at bit `at`, most
-    /// significant bit first. The width must be 1 to 63, and the number must not extend past the
-    /// end of the slice.
+    /// Reads the `width` bits that begin at bit `at` as an unsigned number, most significant bit
+    /// first. The width must be 1 to 63, and the number must not extend past the end of the slice.
     #[inline(always)]
     pub fn number(&self, at: u64, width: u32) -> u64
         requires some { 1 ≤ width }
@@ -73,10 +72,9 @@ impl<'a> BitSlice<'a> {
         }
     }
 
-    /// Returns the same number as [`BitSlice::number`]. This function handles numbers that span
-    /// nine octets or begin in the last seven octets of the slice. If the last eight octets of the
-    /// slice contain the whole number, it is read from those octets. Otherwise, the number is read
-    /// octet by octet.
+    /// Like [`BitSlice::number`], but for numbers that span nine octets or begin in the last seven
+    /// octets of the slice. If the last eight octets of the slice contain the whole number, it is
+    /// read from those octets. Otherwise, the number is read octet by octet.
     #[inline(never)]
     fn by_octets(&self, at: u64, width: u32) -> u64
         requires some { 1 ≤ width }
@@ -132,9 +130,9 @@ impl<'a> BitSlice<'a> {
         Some(part(self.octets, (at / 8) as usize, count))
     }
 
-    /// Returns whether all of the `width` bits that begin at bit `at` are ones. Returns `None` if
-    /// the bits extend past the end of the slice. The width may be greater than 63. An empty range
-    /// of bits counts as all ones.
+    /// Returns whether the `width` bits that begin at bit `at` are all ones. Returns `None` if the
+    /// bits extend past the end of the slice. The width may be greater than 63. An empty range of
+    /// bits counts as all ones.
     pub fn all_ones(&self, at: u64, width: u32) -> Option<bool>
         ensures { SomeIff result (at + width ≤ 8 * length (octets_of self.now))
             (are_all_ones (bits_at (octets_of self.now) at width)) }

@@ -6,8 +6,7 @@ use std::alloc::{AllocError, Global};
 use std::marker::Model;
 
 /// A writer that appends bits to a buffer. The buffer can contain at most 2^63 bits. Contracts
-/// describe a writer in terms of the bits written so far and the number of additional bits for
-/// which room is reserved.
+/// model a writer as the bits written so far and the room reserved for more, in bits.
 ///
 /// ```
 /// let mut bits = BitWriter::new(rt.alloc());
@@ -60,9 +59,9 @@ impl BitWriter {
         8 * self.octets.len() as u64 + u64::from(self.count)
     }
 
-    /// Reserves room for `bits` additional bits. The total, including the bits already written,
-    /// must be at most 2^63 bits. If the buffer must grow, it reserves at least as many additional
-    /// octets as its old capacity.
+    /// Reserves room for `bits` additional bits. The number of bits already written plus `bits`
+    /// must be at most 2^63. If the buffer must grow, its new spare capacity is at least its old
+    /// total capacity.
     ///
     /// # Errors
     ///
@@ -118,7 +117,7 @@ impl BitWriter {
         }
     }
 
-    /// Does the work of [`BitWriter::put`] if `width` is greater than `free`.
+    /// Implements [`BitWriter::put`] for widths greater than `free`.
     #[inline(never)]
     fn put_over(&mut self, value: u64, width: u32)
         requires width { width ≤ 63 }
@@ -223,8 +222,7 @@ impl BitWriter {
     }
 }
 
-/// Reserves room for `n` additional octets, where `n` is the greater of `count` and the old
-/// capacity.
+/// Reserves room for `count` more octets, or for as many as the old capacity if that is greater.
 #[cold]
 #[inline(never)]
 fn grow(out: &mut Vec<u8>, count: usize) -> Result<(), AllocError>
@@ -252,8 +250,7 @@ pub(crate) fn put(out: &mut Vec<u8>, octets: &[u8])
 }
 
 /// Returns the number of bits that can still be added to `last` if it already contains `count`
-/// bits. `last` may contain at most 63 bits, and no more than fit in the spare capacity of
-/// `octets`.
+/// bits. `count` must be at most 63, and that many bits must fit in the spare capacity of `octets`.
 fn free_after(octets: &Vec<u8>, count: u32) -> u32
     requires few { count < 64 }
     requires room { 8 * vec_len octets.now + count ≤ 8 * vec_capacity octets.now }
@@ -280,7 +277,7 @@ fn put_last(out: &mut Vec<u8>, last: u64, count: u32)
     }
 }
 
-/// Law: If the bits of a value occur anywhere in a sequence of octets, reading those bits with
+/// Law: Wherever a value's bits lie in a sequence of octets, reading those bits with
 /// [`BitSlice::get`](crate::BitSlice::get) returns the value.
 pub fn pushed_reads_back(value: u64, width: u32)
     requires { value < 2 ^ width }
@@ -288,9 +285,9 @@ pub fn pushed_reads_back(value: u64, width: u32)
         value width ++ after → number_of (bits_at octets (length before) width) ≡ value }
 {}
 
-/// Law: If the bits of `octets` occur anywhere in a longer sequence of bits, calling
-/// [`BitSlice::octet`](crate::BitSlice::octet) with the position of an octet's first bit returns
-/// that octet.
+/// Law: Wherever the bits of `octets` lie in another sequence of octets,
+/// [`BitSlice::octet`](crate::BitSlice::octet) returns each octet when called with the position of
+/// its first bit.
 pub fn pushed_octets_read_back(octets: &[u8])
     ensures bits { (before after : List Bool) (among : List ℕ)
         → bits_of among ≡ before ++ bits_of octets.now ++ after

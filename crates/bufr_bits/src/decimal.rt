@@ -1,4 +1,4 @@
-//! Conversion between decimal text and scaled integers. The integer v with scale s represents the
+//! Conversion between decimal text and scaled integers. An integer v with scale s represents the
 //! number v / 10^s.
 ghost use Rattle.std.specs.Prelude.{◌≡◌, ◌≤◌, ◌<◌, ◌+◌, ◌*◌, ◌^◌, ◌++◌, ◌==◌, ℕ, true, false, length, replicate, take, get_or, vec_len, vec_capacity, IfSome, MatchOption, OnOk, OnErr};
 ghost use Rattle.std.specs.Char.{is_ascii_digit};
@@ -12,12 +12,12 @@ use itoa::Buffer;
 use std::alloc::AllocError;
 use thiserror::Error;
 
-/// The reason why text cannot be read as a number at a given scale. If several faults apply, the
-/// one that is listed first below is reported.
+/// The reason why text cannot be read as a number with a given scale. If several faults apply, the
+/// one listed first is reported.
 #[derive(Clone, Copy, Debug, PartialEq, Eq, Error)]
 pub enum NumberFault {
-    /// The text does not have the required form: an optional `-`, one or more digits, and
-    /// optionally a decimal point followed by one or more digits.
+    /// The text is not a decimal number (an optional `-`, one or more digits and, optionally, a
+    /// decimal point followed by one or more digits).
     #[error("not a decimal number")]
     Syntax,
     /// The number multiplied by 10^scale is not an integer.
@@ -78,9 +78,8 @@ fn put_zero_digits(out: &mut Vec<u8>, count: usize)
     }
 }
 
-/// Splits `scale` into two exponents of ten. A parsed number is multiplied by 10 to the power of
-/// the first exponent and divided by 10 to the power of the second. At least one of the exponents
-/// is 0.
+/// Splits `scale` into the exponents of two powers of ten. A parsed number is multiplied by the
+/// first power and divided by the second. At least one of the exponents is 0.
 fn powers_of(scale: i16) -> (usize, usize)
     ensures up { result.0 ≡ positive_scale scale }
     ensures down { result.1 ≡ negative_scale scale }
@@ -133,9 +132,9 @@ fn push_with_point(out: &mut Vec<u8>, digits: &[u8], places: usize)
 ///
 /// # Errors
 ///
-/// The first of the following faults that applies: [`NumberFault::Syntax`] if the text does not
-/// have the form described above, [`NumberFault::Inexact`] if the result is not an integer, or
-/// [`NumberFault::Large`] if the result does not fit in an `i128`.
+/// [`NumberFault::Syntax`] if the text does not have the form described above,
+/// [`NumberFault::Inexact`] if the result is not an integer, or [`NumberFault::Large`] if the
+/// result does not fit in an `i128`. If several of these apply, the first one is returned.
 // rule: inexact-before-too-large
 pub fn decimal_read(text: &[u8], scale: i16) -> Result<i128, NumberFault>
     ensures { result ≡ decimal_value_of text.now scale }
@@ -193,9 +192,9 @@ fn all_digits(text: &[u8]) -> bool
     text.iter().all(|c| c.is_ascii_digit())
 }
 
-/// Multiplies a number by 10^`up` and divides it by 10^`down`. The number is given as the digits
-/// before and after its decimal point. At least one of the exponents must be 0. The result is
-/// capped at `u128::MAX`. Returns [`NumberFault::Inexact`] if the result is not an integer.
+/// Multiplies a number by 10^`up` and divides it by 10^`down`. `whole` and `fraction` are the
+/// digits before and after the decimal point. At least one of the exponents must be 0. The result
+/// is capped at `u128::MAX`. Returns [`NumberFault::Inexact`] if the result is not an integer.
 fn scaled(whole: &[u8], fraction: &[u8], up: usize, down: usize) -> Result<u128, NumberFault>
     requires whole { all_digits whole.now ≡ true }
     requires fraction { all_digits fraction.now ≡ true }
@@ -246,8 +245,8 @@ fn times_ten(number: u128, times: usize) -> u128
     value
 }
 
-/// Applies the sign to a number. Returns [`NumberFault::Large`] if the signed number does not fit
-/// in an `i128`.
+/// Returns `number`, negated if `negative` is `true`. Returns [`NumberFault::Large`] if the signed
+/// number does not fit in an `i128`.
 fn apply_sign(negative: bool, number: u128) -> Result<i128, NumberFault>
     ensures { (n : ℕ) → number ≡ capped n → result ≡ signed negative n }
 {
@@ -259,11 +258,11 @@ fn apply_sign(negative: bool, number: u128) -> Result<i128, NumberFault>
     signed.ok_or(NumberFault::Large)
 }
 
-/// The maximum number of decimal digits that always fit in a `u64`.
+/// Every number with at most this many decimal digits fits in a `u64`.
 const MAX_DIGITS: usize = 19;
 
-/// A decimal number that was parsed from text. The digits of the number, read as one integer, fit
-/// in a `u64`. The number of digits after the decimal point is preserved.
+/// A decimal number that was parsed from text. The digits of the number fit in a `u64` when read as
+/// one integer. The number of digits after the decimal point is preserved.
 ///
 /// ```
 /// let (number, len) = ShortDecimal::prefix(b"-0.50  # K").ok_or("a number")?;
@@ -281,11 +280,11 @@ pub struct ShortDecimal {
 }
 
 impl ShortDecimal {
-    /// Parses the number at the start of `text`, and returns the number and its length in octets.
-    /// At most 19 octets after the sign are examined, so further digits of the number may follow in
-    /// `text`. Returns `None` if the text does not begin with a number, if
-    /// [`decimal_text`](crate::decimal_text) would write the number differently, or if the 19th
-    /// octet after the sign is a point.
+    /// Parses the number at the start of `text`, and returns it along with its length in octets. At
+    /// most 19 octets after the sign are examined, so any further digits of a longer number are not
+    /// parsed. Returns `None` if the text does not begin with a number, if
+    /// [`decimal_text`](crate::decimal_text) would write the number differently, or if no digit
+    /// follows the point within those octets.
     #[inline(always)]
     pub fn prefix(text: &[u8]) -> Option<(ShortDecimal, usize)>
         ensures some { IfSome result (λ found. 0 < found.1) }
@@ -313,8 +312,8 @@ impl ShortDecimal {
         Some((number, count + 1))
     }
 
-    /// Returns the number multiplied by 10^`scale`. Given the text of the number,
-    /// [`decimal_read`](crate::decimal_read) returns the same result.
+    /// Returns the number multiplied by 10^`scale`. [`decimal_read`](crate::decimal_read) returns
+    /// the same result for the text of the number.
     ///
     /// # Errors
     ///
@@ -338,8 +337,8 @@ impl ShortDecimal {
     }
 }
 
-/// Parses the unsigned decimal number at the start of `body`. Returns all digits of the number as
-/// one integer, the number of digits after the point, and the length of the number in octets.
+/// Parses the unsigned decimal number at the start of `body`. Returns the digits as one integer,
+/// the number of digits after the point, and the number's length in octets.
 #[inline(always)]
 fn unsigned_prefix(body: &[u8]) -> Option<(u64, u8, usize)>
     ensures some { IfSome result (λ found. 0 < found.2) }
@@ -372,7 +371,7 @@ fn unsigned_prefix(body: &[u8]) -> Option<(u64, u8, usize)>
 }
 
 /// Parses the digits at the start of `text` and appends them to the decimal digits of `number`.
-/// Returns the resulting number and the number of digits appended.
+/// Returns the resulting number and how many digits were appended.
 fn read_digits(number: u64, text: &[u8]) -> (u64, usize)
     requires { (number + 1) * 10 ^ length text.now ≤ 2 ^ 64 }
     ensures count { result.1 ≤ length text.now }
@@ -414,8 +413,8 @@ fn short_signed(negative: bool, number: u64) -> i128
     if negative { -size } else { size }
 }
 
-/// Law: If a number is written as text at some scale, reading that text at the same scale returns
-/// the original number.
+/// Law: Writing a number as text and reading the text back with the same scale returns the original
+/// number.
 pub fn decimal_reads_back(v: i128, scale: i16)
     ensures { decimal_value_of (decimal_text_of v scale) scale ≡ Ok v }
 {}

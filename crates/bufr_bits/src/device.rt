@@ -1,4 +1,4 @@
-//! Readers and writers that count their calls, and adapters for the readers and writers in `std`.
+//! Readers and writers that count their calls, and adapters for readers and writers from `std`.
 ghost use Rattle.std.specs.Prelude.{◌≡◌, ◌≤◌, ◌<◌, ℕ, Bool, true, false, List, Option, length, min, IfOk, IsOk, nat_eq};
 ghost use Rattle.std.specs.Io.Buffered.{reader_remaining, reader_buffer};
 ghost use Rattle.std.specs.Io.KnownBytes.{ReadConsumes, WriteAppends, Keeps};
@@ -8,7 +8,7 @@ use std::io::{BufRead, BufReader, Read, Write};
 use thiserror::Error;
 
 /// The error that a device returns if a read, write or flush fails. An interrupted call counts as a
-/// failure, and no call is retried.
+/// failure. Failed calls are not retried.
 #[derive(Clone, Copy, Debug, PartialEq, Eq, Error)]
 #[error("the device failed")]
 pub struct Failed;
@@ -27,8 +27,8 @@ pub trait Source {
     /// The number of reads made so far.
     ghost reads: { Self → ℕ };
 
-    /// The total number of octets requested, which is the sum of the buffer lengths of all reads.
-    /// (The contract of a complete run does not use this count.)
+    /// The total number of octets requested, which is the sum of the lengths of all buffers passed
+    /// to `read`. The contract of the program's `run` function ignores this count.
     ghost asked: { Self → ℕ };
 
     /// Whether the next read may block or fail.
@@ -69,11 +69,11 @@ pub trait Sink {
     /// The number of writes and flushes that have failed.
     ghost failures: { Self → ℕ };
 
-    /// The number of nonempty writes that accepted no octets.
+    /// The number of nonempty writes that returned 0.
     ghost empty_writes: { Self → ℕ };
 
-    /// The number of writes that accepted all of their octets, or 0 for a sink that does not count
-    /// those writes.
+    /// The number of writes in which the sink accepted the whole buffer, or 0 if the sink does not
+    /// count such writes.
     ghost whole_writes: { Self → ℕ } = { λ _. 0 };
 
     /// The number of flushes and the number of failed flushes.

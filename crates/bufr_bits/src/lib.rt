@@ -1,9 +1,9 @@
-//! This crate is the lowest layer of `bufr`. The crate reads and writes octets and bits, and
-//! converts between numbers and decimal text.
+//! This crate, the lowest layer of `bufr`, reads and writes octets and bits, and converts between
+//! numbers and decimal text.
 //!
-//! *Octet* is WMO's word for byte. A device is a [`Source`], from which octets are read, or a
-//! [`Sink`], to which octets are written. Bits are counted from 0, and the most significant bit of
-//! an octet comes first.
+//! *Octet* is WMO's word for byte. A device is either a [`Source`], from which octets are read, or
+//! a [`Sink`], to which octets are written. Bits are counted from 0, and the most significant bit
+//! of an octet comes first.
 #![tactic(auto)]
 
 mod bit_slice;

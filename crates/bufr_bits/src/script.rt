@@ -1,5 +1,5 @@
 //! An in-memory reader and an in-memory writer for tests. The reader and the writer process octets
-//! in small steps and can be made to fail after a given number of octets.
+//! in small chunks and can be made to fail after a given number of octets.
 ghost use Rattle.std.specs.Prelude.{◌≤◌, ◌<◌, vec_len, vec_capacity, ◌≡◌, Some, length, IfOk, IsOk, [], true, false, ◌-◌};
 ghost use Rattle.std.specs.Io.KnownBytes.{ReadConsumes, WriteAppends, Keeps};
 ghost use Rattle.bufr_bits.specs.Device.{counted, failures_after, empty_writes_after, flushes_after, whole_writes_after, all_flushed_after_write, all_flushed_after_flush};
@@ -9,7 +9,7 @@ use crate::{Failed, Sink, Source};
 use std::alloc::{AllocError, Global};
 
 /// A [`Source`] that reads octets from memory, for tests. The reader returns the octets in small
-/// steps and can be made to fail after a given number of octets.
+/// chunks and can be made to fail after a given number of octets.
 #[derive(Drop)]
 pub struct ScriptIn<'a> {
     rest: &'a [u8],
@@ -89,18 +89,18 @@ impl<'a> Source for ScriptIn<'a> {
     }
 }
 
-/// How a [`ScriptOut`] responds to writes when it is full, and whether it can be flushed.
+/// How a full [`ScriptOut`] responds to writes, and whether flushes fail.
 #[derive(Clone, Copy, Debug, PartialEq, Eq)]
 pub enum End {
-    /// Writes to a full writer return 0.
+    /// If the writer is full, writes return 0.
     Zero,
-    /// Writes to a full writer fail.
+    /// If the writer is full, writes fail.
     Fail,
-    /// Writes to a full writer fail. Every flush also fails, even if the writer is not full.
+    /// If the writer is full, writes fail. Every flush also fails, even if the writer is not full.
     Flush,
 }
 
-/// A [`Sink`] that writes octets to memory, for tests. The writer accepts octets in small steps.
+/// A [`Sink`] that writes octets to memory, for tests. The writer accepts octets in small chunks.
 /// All memory is allocated when the writer is created.
 #[derive(Drop)]
 pub struct ScriptOut {
@@ -124,8 +124,8 @@ impl ScriptOut {
 
     /// Creates a writer that accepts at most `room` octets in total and at most `step` octets per
     /// write. The step must be at least 1. All memory is allocated up front, so writes cannot run
-    /// out of memory. An empty write returns 0 until the writer is full, and then behaves like any
-    /// other write.
+    /// out of memory. Writing an empty buffer returns 0, or fails if the writer is full and `end`
+    /// is not [`End::Zero`].
     ///
     /// # Errors
     ///

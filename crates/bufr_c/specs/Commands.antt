@@ -1,4 +1,5 @@
--- Only contracts need this file. The text that a command writes for an event. (own)
+-- Only contracts need this file. The text that a command writes for an event (not part of FM 94
+-- BUFR).
 use Rattle.std.specs.Prelude.{ℕ, ◌≡◌, ◌==◌, List, flat_map, Option, Some, None, if◌then◌else◌}
 use Rattle.bufr_frame.specs.Prelude.{StreamEvent}
 use Rattle.bufr_cli.specs.Prelude.{Piece, output_of, errors_of, is_accepted, ls_piece, dump_piece, Tallies}
@@ -14,7 +15,7 @@ abbrev pub piece_by : Command → StreamEvent → Piece
 piece_by command.List = ls_piece
 piece_by (command.Dump b d) = dump_piece b.now d.now
 
--- `text` contains the piece's output and error text, and states whether the piece is accepted.
+-- `text` contains the piece's output and error text, and indicates whether the piece was accepted.
 pub record IsTextOf (text : EventText) (piece : Piece) : Type 0 where
   pub output : text.output.octets.items ≡ output_of piece
   pub errors : text.errors.octets.items ≡ errors_of piece
@@ -26,7 +27,7 @@ pub record IsTextOfAll (pieces : List Piece) (text : EventText) (tally : Tally) 
   pub errors : text.errors.octets.items ≡ flat_map errors_of pieces
   pub tallies : Tallies tally pieces
 
--- the form (as written, plain or compressed) that a number represents, if any
+-- the form (as written, plain or compressed) with the given number, if any
 abbrev pub form_by : ℕ → Option Form
 form_by number =
     if number == 0 then Some AsWritten

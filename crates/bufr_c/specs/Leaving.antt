@@ -1,4 +1,4 @@
--- Only contracts need this file. What a call leaves in the caller's buffers. (own)
+-- Only contracts need this file. The caller's buffers after a call (not part of FM 94 BUFR).
 use Rattle.std.specs.Prelude.{ℕ, ◌+◌, ◌<◌, ◌≤◌, ℤ, pos, ◌≡◌, ◌⊎◌, List, [], ◌∷◌, ◌++◌, ◌-◌, Bool, true, false, codes, length, take, drop, map, flat_map, count_by, Ok, IfOk, IfErr}
 use Rattle.bufr_frame.specs.Prelude.{StreamEvent, FrameAt, StrayAt, StartsWithBufr, scan_from, classify, stated_length, stream_event, candidate_len, has_word_at}
 use Rattle.bufr_frame.specs.declared.fault.Cause.{Cause}
@@ -11,7 +11,7 @@ use Rattle.bufr_c.specs.declared.command.EventText.{EventText}
 use Rattle.bufr_c.specs.declared.texts.Texts.{Texts}
 use Rattle.bufr_c.specs.Commands.{IsTextOf}
 
--- the events in a stream from offset `at` on, with offsets counted from the start of the stream
+-- the events found from offset `at` onward; offsets are counted from the start of the stream
 abbrev pub events_from : (at : ℕ) → List ℕ → List StreamEvent
 events_from at octets = scan_from 0 at (drop at octets)
 
@@ -33,7 +33,7 @@ pub record IsMessage (m : List ℕ) (n : ℕ) : Type 0 where
   pub within : n ≤ length m
   pub ends : has_word_at (codes "7777") (n - 4) m ≡ true
 
--- The octets m begin with a stray `BUFR` that has the given cause.
+-- The octets m begin with `BUFR` but not with a message, and `cause` is the reason.
 pub record IsStray (m : List ℕ) (cause : Cause) : Type 0 where
   pub event : (offset : ℕ) → stream_event offset m (classify m) ≡ StrayAt offset cause ∷ []
   pub moves : candidate_len m (classify m) ≡ 4
@@ -44,7 +44,7 @@ abbrev pub IsCandidate : List ℕ → Candidate → Type 0
 IsCandidate m (Stray cause) = IsStray m cause
 IsCandidate m (Frame n) = IsMessage m n
 
--- The octets m, at `offset` in the stream, begin with an event that meets the condition `Is`. The
+-- The octets m, which are at `offset` in the stream, begin with an event that satisfies `Is`. The
 -- search continues directly after the event, n octets later.
 pub record FindsEvent (Is : StreamEvent → Type 0) (offset : ℕ) (m : List ℕ) (n : ℕ) : Type 0 where
   pub event : StreamEvent
@@ -59,7 +59,7 @@ pub record FindsEvent (Is : StreamEvent → Type 0) (offset : ℕ) (m : List ℕ
 abbrev pub WritesEvent : (StreamEvent → Piece) → (offset : ℕ) → List ℕ → ℕ → EventText → Type 0
 WritesEvent piece offset m n text = FindsEvent (λ event. IsTextOf text (piece event)) offset m n
 
--- In the caller's buffers, the octets after the written text are unchanged.
+-- The octets after the written text in the caller's buffers are unchanged.
 pub record LeavesRest (output errors : List ℕ) (texts : Texts) (output' errors' : List ℕ)
     : Type 0 where
   pub output_rest : drop texts.output_length output' ≡ drop texts.output_length output
@@ -80,7 +80,7 @@ pub record HasPut (text : EventText) (old : Texts) (output errors : List ℕ) (n
   pub refused : new.refused ≡ old.refused
   pub reserved : new.reserved ≡ old.reserved
 
--- The buffers lacked room for an event's text, and nothing was written.
+-- The text for an event did not fit into the buffers, so nothing was written.
 pub record HasNoRoom (text : EventText) (old : Texts) (output errors : List ℕ) (new : Texts)
     (output' errors' : List ℕ) : Type 0 where
   pub same_output : output' ≡ output
@@ -96,7 +96,7 @@ pub record HasNoRoom (text : EventText) (old : Texts) (output errors : List ℕ)
   pub lacks : (length output < new.output_length + new.output_needed)
       ⊎ (length errors < new.errors_length + new.errors_needed)
 
--- The text for an event was appended (`true`), or nothing was written for lack of room.
+-- Either the text for an event was appended (`true`), or it did not fit (`false`).
 abbrev pub PutsText : EventText → Texts → (output errors : List ℕ) → Texts
     → (output' errors' : List ℕ) → Bool → Type 0
 PutsText text old output errors new output' errors' true =
@@ -114,7 +114,7 @@ pub record Leaves (output errors : List ℕ) (texts : Texts) (pieces : List Piec
   pub accepted : texts.accepted ≡ count_by is_accepted pieces
   pub refused : texts.refused ≡ count_by is_refused pieces
 
--- The buffers lack room for `written` or `blamed`, and `texts` contains the lengths of both.
+-- The output (`written`) or error text (`blamed`) does not fit; `texts` contains both lengths.
 pub record LacksRoom (output errors : List ℕ) (texts : Texts) (written blamed : List ℕ)
     : Type 0 where
   pub output_needed : texts.output_needed ≡ length written
@@ -122,14 +122,14 @@ pub record LacksRoom (output errors : List ℕ) (texts : Texts) (written blamed 
   pub lacks : (length output < texts.output_length + texts.output_needed)
       ⊎ (length errors < texts.errors_length + texts.errors_needed)
 
--- The buffers lack room for the first event's text.
+-- The text for the first event does not fit into the buffers.
 abbrev pub StopsBefore : (StreamEvent → Piece) → (output errors : List ℕ) → Texts
     → List StreamEvent → Type 0
 StopsBefore piece output errors texts [] = ⊥
 StopsBefore piece output errors texts (next ∷ more) =
     LacksRoom output errors texts (output_of (piece next)) (errors_of (piece next))
 
--- A call that has read its tables can return the given status (0, 73 or 74).
+-- The status is 0, 73 or 74, which a call can return once it has read its tables.
 abbrev pub IsRunStatus : ℤ → Type 0
 IsRunStatus status = (status ≡ pos 0) ⊎ ((status ≡ pos 73) ⊎ (status ≡ pos 74))
 
@@ -145,8 +145,8 @@ pub record PassesOver (octets : List ℕ) (from : ℕ) (passed : List StreamEven
   pub done : status ≡ pos 0 → (events_from at octets ≡ []) × (length octets ≤ at)
   pub stopped : (¬ (status ≡ pos 0)) → at ≡ end_after from passed
 
--- A call wrote the text for each event that it processed. Status 74 means that the buffers lack
--- room for the next event's text.
+-- A call wrote the text for each event that it processed. Status 74 means that the text for the
+-- next event does not fit into the buffers.
 pub record Passes (piece : StreamEvent → Piece) (octets : List ℕ) (from : ℕ)
     (output errors : List ℕ) (texts : Texts) (status : ℤ) : Type 0 where
   pub passed : List StreamEvent
@@ -166,22 +166,21 @@ pub record WritesNone (from : ℕ) (output errors : List ℕ) (texts : Texts)
   pub same_output : output' ≡ output
   pub same_errors : errors' ≡ errors
 
--- The status is 143, because a sequence in Table D contains itself.
+-- The status is 143 because a sequence in Table D contains itself.
 abbrev pub IsCycleStatus : List Sequence → ℤ → Type 0
 IsCycleStatus table status = (status ≡ pos 143) × ((fxy : ℕ) × IsFirstCycle table fxy)
 
--- The status reports a fault in a table. It is the fault number plus `more`, or 73 if memory ran
--- out.
+-- The status is the number of the given table fault plus `more`, or 73 if memory ran out.
 abbrev pub IsTableStatus : (more : ℕ) → TableFault → ℤ → Type 0
 IsTableStatus more fault status =
     (status ≡ pos (more + (table_report fault).0)) ⊎ (status ≡ pos 73)
 
--- The call processed all of its input (status 0), or stopped because the buffers lacked room
--- (status 74).
+-- The call processed all of its input (status 0), or it stopped because the next output did not fit
+-- into the buffers (status 74).
 abbrev pub HasRun : ℤ → Type 0
 HasRun status = (status ≡ pos 0) ⊎ (status ≡ pos 74)
 
--- Both tables can be read, and they meet the condition `Holds`.
+-- Both tables can be read, and they satisfy `Holds`.
 pub record HoldsBy (table_b table_d : List ℕ) (Holds : List Row → List Sequence → Type 0)
     : Type 0 where
   pub b : List Row
@@ -190,15 +189,15 @@ pub record HoldsBy (table_b table_d : List ℕ) (Holds : List Row → List Seque
   pub is_d : table_d_of (records_of table_d) ≡ Ok d
   pub holds : Holds b d
 
--- Either both tables can be read and meet the condition `Holds`, or the status is neither 0 nor 74
--- and the condition `Otherwise` is true.
+-- Either both tables can be read and satisfy `Holds`, or the status is neither 0 nor 74 and
+-- `Otherwise` is true.
 abbrev pub ByTables : (table_b table_d : List ℕ) → (status : ℤ)
     → (List Row → List Sequence → Type 0) → Type 0 → Type 0
 ByTables table_b table_d status Holds Otherwise =
     HoldsBy table_b table_d Holds ⊎ ((¬ HasRun status) × Otherwise)
 
--- A call that reads tables can return the given status. If a table is invalid, the status reports
--- the fault in it, or that memory ran out.
+-- The status is a possible result of a call that reads tables. If a table is invalid, the status is
+-- the number of its fault (plus 100 for Table D), or 73 if memory ran out.
 pub record CallStatus (table_b table_d : List ℕ) (status : ℤ) : Type 0 where
   pub read : IfOk (table_b_of (records_of table_b)) (λ _.
       IfOk (table_d_of (records_of table_d)) (λ d. IsRunStatus status ⊎ IsCycleStatus d status))
@@ -206,8 +205,8 @@ pub record CallStatus (table_b table_d : List ℕ) (status : ℤ) : Type 0 where
   pub no_table_d : IfOk (table_b_of (records_of table_b)) (λ _.
       IfErr (table_d_of (records_of table_d)) (λ fault. IsTableStatus 100 fault status))
 
--- The messages encoded from the text that starts at offset `from` were written, or the buffers
--- lacked room for them and nothing was written.
+-- The output for the text from offset `from` onward was written, or nothing was written because the
+-- output did not fit into the buffers.
 pub record Encodes (pieces : List Piece) (octets : List ℕ) (from : ℕ) (output errors : List ℕ)
     (texts : Texts) (output' errors' : List ℕ) (status : ℤ) : Type 0 where
   pub ran : HasRun status

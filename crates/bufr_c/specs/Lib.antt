@@ -1,8 +1,8 @@
--- a fault line with its offset replaced
+-- replacing the offset in a line
 pub mod Moving
 -- the text that a command writes for an event
 pub mod Commands
--- what a call leaves in the caller's buffers
+-- the caller's buffers after a call
 pub mod Leaving
 -- the rows for items and messages
 pub mod Rows

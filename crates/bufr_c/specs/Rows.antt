@@ -1,4 +1,4 @@
--- Only contracts need this file. The rows for items and messages. (own)
+-- Only contracts need this file. The rows for items and messages (not part of FM 94 BUFR).
 use Rattle.std.specs.Prelude.{ℕ, ◌≡◌, ◌≤◌, ◌<◌, ◌⊎◌, ◌+◌, ◌^◌, ◌-◌, take, drop, ℤ, pos, neg_ℤ, int_lt, Bool, true, false, List, [], ◌∷◌, ◌++◌, length, nat_eq, Option, Some, None, Result, Ok, Err, if◌then◌else◌}
 use Rattle.std.specs.List.{list_any}
 use Rattle.std.specs.Int.{w128, to_le_bytes, cast_unsigned, from_bool}
@@ -16,9 +16,9 @@ use Rattle.bufr_c.specs.Leaving.{PassesOver, events_from}
 
 -- ---- The rows for the items in one message.
 
--- The rows for items and the octets of their strings, together with what the next row needs: the
--- wanted descriptors, the message index, the index of the first octet of the message's strings, and
--- the subset number.
+-- The item rows of a message, and the octets of its strings and of numbers wider than 64 bits. The
+-- other fields are used when a row is added; they contain the wanted descriptors, the index of the
+-- message's row, the index in `texts` at which its octets begin, and the subset number.
 pub record Put : Type 0 where
   pub wanted : List ℕ
   pub message : ℕ
@@ -39,7 +39,7 @@ no_items wanted message base =
       octets = [];
     }
 
--- the row for an item with the given values
+-- the row for an item with the given descriptor and value
 abbrev pub item_by : Put → (fxy kind : ℕ) → (scale value : ℤ) → (length : ℕ) → ValueRow
 item_by p fxy kind scale value length =
     record {
@@ -53,12 +53,12 @@ item_by p fxy kind scale value length =
       reserved = 0;
     }
 
--- the rows after adding a row without octets
+-- the rows after adding an item whose value is stored in the row itself
 abbrev pub with_item : Put → (fxy kind : ℕ) → (scale value : ℤ) → (length : ℕ) → Put
 with_item p fxy kind scale value length =
     record p { items = p.items ++ item_by p fxy kind scale value length ∷ [] }
 
--- the rows after adding a row with octets; the row's value is the index of its first octet
+-- the rows after adding a value stored as octets; the row contains the index of the first octet
 abbrev pub with_text : Put → (fxy kind : ℕ) → (scale : ℤ) → List ℕ → Put
 with_text p fxy kind scale octets =
     record p {
@@ -85,7 +85,7 @@ with_value p fxy (shown_text octets) = with_text p fxy 2 (pos 0) octets
 with_value p fxy shown_missing = with_item p fxy 0 (pos 0) (pos 0) 0
 with_value p fxy (shown_reference n) = with_item p fxy 3 (pos 0) n 0
 
--- whether a descriptor is wanted; if the list of wanted descriptors is empty, all are wanted
+-- whether the caller wants items with the given descriptor; an empty list selects all items
 abbrev pub is_wanted : List ℕ → (fxy : ℕ) → Bool
 is_wanted [] fxy = true
 is_wanted (first ∷ more) fxy = list_any (λ wanted. nat_eq wanted fxy) (first ∷ more)
@@ -96,7 +96,7 @@ with_call p (subset_call number) = record p { subset = number }
 with_call p (item_call v) =
     if is_wanted p.wanted v.fxy then with_value p v.fxy v.value else p
 
--- The given call to a visitor has updated the rows, unless memory ran out.
+-- The given call to a visitor has updated the rows, unless it failed.
 abbrev pub PutsCall : {E : Type 0} → Put → Call → Result (Unit {0}) E → Put → Type 0
 PutsCall p call (Ok _) q = q ≡ with_call p call
 PutsCall p call (Err _) q = Unit {0}
@@ -106,20 +106,20 @@ abbrev pub with_calls : Put → List Timed → Put
 with_calls p [] = p
 with_calls p (t ∷ calls) = with_calls (with_call p t.call) calls
 
--- the rows after adding the items in the data; unchanged if the data contain a fault
+-- the rows after adding the items in the data, or the old rows if the data contain a fault
 abbrev pub data_put : Put → List Timed → Option WalkFault → Put
 data_put p calls None = with_calls p calls
 data_put p calls (Some why) = p
 
--- the rows after adding the items of a message, given its template; unchanged if the template or
--- the data contain a fault
+-- the rows after adding the items of a message, given its template, or the old rows if the template
+-- or the data contain a fault
 abbrev pub template_put : List Row → Sections → Put → Result Tree TemplateFault → Put
 template_put table s p (Ok template) =
     data_put p (calls_of (read_by table template (data_of s) 0 0))
     (fault_of (data_of s) (reading_of (next_item table template) (data_of s)))
 template_put table s p (Err fault) = p
 
--- the rows after adding the items of a message; unchanged if the message is rejected
+-- the rows after adding the items of a message, or the old rows if the message is rejected
 abbrev pub message_put : List Row → List Sequence → Sections → Put → Put
 message_put b d s p = template_put b s p (tree_of (tables_of b d) s.descriptors)
 
@@ -203,7 +203,7 @@ head_row s offset first items fault =
 
 -- ---- The rows for events.
 
--- the rows for items, the octets of their strings, and the rows for messages
+-- the item rows, the octets of strings and of numbers wider than 64 bits, and the message rows
 pub record Rows : Type 0 where
   pub items : List ValueRow
   pub octets : List ℕ
@@ -226,14 +226,13 @@ put_rows p s offset first fault =
       messages = head_row s offset first (length p.items) fault ∷ [];
     }
 
--- the place of an event's rows: the indices of the event's own row, the first octet of its strings,
--- and its first item
+-- the indices at which the message row, the octets and the item rows of an event begin
 pub record RowPlace : Type 0 where
   pub message : ℕ
   pub base : ℕ
   pub first : ℕ
 
--- the place directly after the given rows
+-- the indices directly after the given rows
 abbrev pub place_after : Rows → RowPlace
 place_after before =
     record {
@@ -242,7 +241,7 @@ place_after before =
       first = length before.items;
     }
 
--- the rows for a message, given its sections or the fault in them
+-- the rows for a message, given its sections or the fault that was found in them
 abbrev pub sections_rows : List Row → List Sequence → (wanted : List ℕ) → RowPlace
     → (offset length : ℕ) → Result Sections SectionFault → Rows
 sections_rows b d wanted place offset size (Ok s) =
@@ -274,9 +273,9 @@ rows_after b d wanted before [] = before
 rows_after b d wanted before (event ∷ events) =
     rows_after b d wanted (join_rows before (rows_of b d wanted (place_after before) event)) events
 
--- ---- What a call leaves in the caller's buffers.
+-- ---- The caller's buffers after a call.
 
--- item rows, octets and message rows, combined into one record
+-- a record with the given item rows, octets and message rows
 abbrev pub three : List ValueRow → List ℕ → List MessageRow → Rows
 three items octets messages = record { items = items; octets = octets; messages = messages }
 
@@ -284,7 +283,7 @@ three items octets messages = record { items = items; octets = octets; messages 
 abbrev pub rows_at : RowBuffers → Rows
 rows_at buffers = three buffers.items.now buffers.texts.now buffers.messages.now
 
--- The buffers are the same, and the reserved members are unchanged.
+-- Both structures refer to the same buffers, and the reserved members are unchanged.
 pub record SameBuffers (old new : RowBuffers) : Type 0 where
   pub items : new.items.ghost_name ≡ old.items.ghost_name
   pub texts : new.texts.ghost_name ≡ old.texts.ghost_name
@@ -295,12 +294,12 @@ pub record SameBuffers (old new : RowBuffers) : Type 0 where
 abbrev pub rows_in : Put → MessageRow → Rows
 rows_in p row = three p.items p.octets (row ∷ [])
 
--- the place of the next rows
+-- the indices at which the rows for the next event begin
 abbrev pub row_place : Counts → RowPlace
 row_place counts =
     record { message = counts.messages; base = counts.octets; first = counts.items }
 
--- The buffers begin with the given rows, and `counts` contains the row and octet counts.
+-- The buffers begin with the given rows and octets, and `counts` contains the number of each.
 pub record LeavesRows (room : Rows) (counts : Counts) (rows : Rows) : Type 0 where
   pub items : take counts.items room.items ≡ rows.items
   pub octets : take counts.octets room.octets ≡ rows.octets
@@ -309,8 +308,8 @@ pub record LeavesRows (room : Rows) (counts : Counts) (rows : Rows) : Type 0 whe
   pub octets_fit : counts.octets ≤ length room.octets
   pub messages_fit : counts.messages ≤ length room.messages
 
--- The buffers lack room for the given rows, and `counts` states how many rows and octets are
--- needed.
+-- The given rows do not fit into the buffers, and `counts` contains the required numbers of rows
+-- and octets.
 pub record LacksRowRoom (room : Rows) (counts : Counts) (rows : Rows) : Type 0 where
   pub items_needed : counts.items_needed ≡ length rows.items
   pub octets_needed : counts.octets_needed ≡ length rows.octets
@@ -319,7 +318,7 @@ pub record LacksRowRoom (room : Rows) (counts : Counts) (rows : Rows) : Type 0 w
       ⊎ ((length room.octets < counts.octets + counts.octets_needed)
       ⊎ (length room.messages < counts.messages + counts.messages_needed))
 
--- In the caller's buffers, everything after the rows is unchanged.
+-- Everything after the rows in the caller's buffers is unchanged.
 pub record LeavesRowsRest (before : Rows) (counts : Counts) (after : Rows) : Type 0 where
   pub items_rest : drop counts.items after.items ≡ drop counts.items before.items
   pub octets_rest : drop counts.octets after.octets ≡ drop counts.octets before.octets
@@ -334,7 +333,7 @@ pub record HasPutRows (rows : Rows) (old : Counts) (before : Rows) (new : Counts
   pub at : new.at ≡ old.at
   pub reserved : new.reserved ≡ old.reserved
 
--- The buffers lacked room for the given rows, and nothing was written.
+-- The given rows did not fit into the buffers, so nothing was written.
 pub record HasNoRowRoom (rows : Rows) (old : Counts) (before : Rows) (new : Counts) (after : Rows)
     : Type 0 where
   pub same : after ≡ before
@@ -345,20 +344,20 @@ pub record HasNoRowRoom (rows : Rows) (old : Counts) (before : Rows) (new : Coun
   pub reserved : new.reserved ≡ old.reserved
   pub lacks : LacksRowRoom after new rows
 
--- The rows were appended (`true`), or nothing was written for lack of room.
+-- Either the rows were appended (`true`), or they did not fit (`false`).
 abbrev pub PutsRows : Rows → Counts → Rows → Counts → Rows → Bool → Type 0
 PutsRows rows old before new after true = HasPutRows rows old before new after
 PutsRows rows old before new after false = HasNoRowRoom rows old before new after
 
--- The buffers lack room for the first event's rows.
+-- The rows for the first event do not fit into the buffers.
 abbrev pub StopsBeforeRows : List Row → List Sequence → (wanted : List ℕ) → (room : Rows)
     → Counts → List StreamEvent → Type 0
 StopsBeforeRows b d wanted room counts [] = ⊥
 StopsBeforeRows b d wanted room counts (next ∷ more) =
     LacksRowRoom room counts (rows_of b d wanted (row_place counts) next)
 
--- A call wrote the rows for the events that it processed. Status 74 means that the buffers lack
--- room for the next event's rows.
+-- A call wrote the rows for the events that it processed. Status 74 means that the rows for the
+-- next event do not fit into the buffers.
 pub record PassesRows (b : List Row) (d : List Sequence) (wanted octets : List ℕ) (from : ℕ)
     (room : Rows) (counts : Counts) (status : ℤ) : Type 0 where
   pub passed : List StreamEvent

@@ -29,7 +29,7 @@ pub extern "C" fn bufr_version() -> u32
 ///
 /// Writes a line for each accepted message to `lines`, and a fault line for each stray `BUFR` and
 /// each rejected message to `faults`. Returns 0 at the end of the stream, 73 if memory runs out, or
-/// 74 if the line for the next event does not fit into the buffer.
+/// 74 if the line for the next message or stray `BUFR` does not fit into its buffer.
 #[unsafe(no_mangle)]
 pub extern "C" fn bufr_list(
     alloc: Global,
@@ -53,9 +53,9 @@ pub extern "C" fn bufr_list(
 ///
 /// Writes the dump of each accepted message to `text`, and a fault line for each stray `BUFR` and
 /// each rejected message to `faults`. Returns 0 at the end of the stream, 73 if memory runs out, or
-/// 74 if the dump or the fault line for the next event does not fit into the buffer. If Table B is
-/// invalid, returns the number of its fault. If Table D is invalid, returns 100 plus the number of
-/// its fault.
+/// 74 if the dump or fault line for the next message or stray `BUFR` does not fit into its buffer.
+/// Returns the fault number if Table B is invalid, or 100 plus the fault number if Table D is
+/// invalid.
 #[tactic(auto, using(crate::proofs::EventLemmas::unread, crate::proofs::EventLemmas::dump_read, crate::proofs::EventLemmas::ran_status))]
 #[unsafe(no_mangle)]
 pub extern "C" fn bufr_dump(
@@ -88,9 +88,10 @@ pub extern "C" fn bufr_dump(
 /// invalid document.
 ///
 /// Writes the messages to `messages`, and the fault line for the rejected document, if any, to
-/// `faults`. Returns 0 if the whole output fits into the two buffers. If either buffer is too
-/// small, returns 74, writes nothing, and reports the required space in `texts`. Returns 75 if
-/// `input.form` is not a valid form number. The other statuses are the same as for [`bufr_dump`].
+/// `faults`. Returns 0 if all output fits into the two buffers. If either buffer is too small,
+/// returns 74, writes nothing, and reports the required space in `texts`. Returns 75 if
+/// `input.form` is not a valid form number. If a table is invalid or memory runs out, returns the
+/// same status as [`bufr_dump`].
 #[tactic(auto, using(crate::proofs::EventLemmas::encode_unread, crate::proofs::EventLemmas::encode_read, crate::proofs::EventLemmas::known_status, crate::proofs::EventLemmas::known_form, crate::proofs::EventLemmas::unknown_form, crate::proofs::EventLemmas::ran_status, crate::proofs::EventLemmas::memory_status, crate::proofs::EventLemmas::stopped_73))]
 #[unsafe(no_mangle)]
 pub extern "C" fn bufr_encode(
@@ -137,10 +138,11 @@ pub extern "C" fn bufr_encode(
 
 /// Reads the items of the messages in a stream, starting at offset `counts.at`.
 ///
-/// Writes a row for each requested item to `rows.items`, the octets of strings and wide numbers to
-/// `rows.texts`, and a row for each message or stray `BUFR` to `rows.messages`. Returns 0 at the
-/// end of the stream, 73 if memory runs out, or 74 if the rows for the next event do not fit into
-/// the buffers. If a table is invalid, returns the same status as [`bufr_dump`].
+/// Writes a row for each requested item to `rows.items`, and a row for each message or stray `BUFR`
+/// to `rows.messages`. Strings, and numbers that do not fit in 64 bits, are written to
+/// `rows.texts`. Returns 0 at the end of the stream, 73 if memory runs out, or 74 if the rows for
+/// the next message or stray `BUFR` do not fit into the buffers. If a table is invalid, returns the
+/// same status as [`bufr_dump`].
 #[tactic(auto, using(crate::proofs::RowLemmas::unread_rows, crate::proofs::RowLemmas::buffers_here, crate::proofs::RowLemmas::items_read, crate::proofs::EventLemmas::ran_status))]
 #[unsafe(no_mangle)]
 pub extern "C" fn bufr_items(

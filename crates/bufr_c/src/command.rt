@@ -1,4 +1,4 @@
-//! The output and the fault line for one event, as the program `bufr` writes them.
+//! Produces the same output and fault line for a message or stray `BUFR` as the `bufr` program.
 ghost use Rattle.std.specs.Prelude.{◌≡◌, ◌∷◌, [], false, IfOk, OnOk};
 ghost use Rattle.bufr_frame.specs.Prelude.{scan, FrameAt, cause_report};
 ghost use Rattle.bufr_cli.specs.Prelude.{OnErrors, dump_piece, encode_pieces, fault_line, ls_piece};
@@ -19,18 +19,19 @@ use std::alloc::Global;
 pub(crate) enum Command<'t> {
     /// The command `bufr ls`.
     List,
-    /// The command `bufr dump`, with the tables that it uses.
+    /// The command `bufr dump`, along with the tables that it uses.
     Dump(&'t TableB, &'t TableD),
 }
 
-/// A command, with the allocator that it uses.
+/// A command and the allocator that it uses.
 #[derive(Clone, Copy)]
 pub(crate) struct Run<'t> {
     pub(crate) alloc: Global,
     pub(crate) command: Command<'t>,
 }
 
-/// The output and the fault line for one event, with buffers that are reused for each event.
+/// The output and the fault line for one message or stray `BUFR`, in buffers that are reused for
+/// the next one.
 #[derive(Drop)]
 pub(crate) struct EventText {
     alloc: Global,
@@ -38,10 +39,10 @@ pub(crate) struct EventText {
     pub(crate) output: TextOut,
     /// The text to write to the error output.
     pub(crate) errors: TextOut,
-    /// Whether the event is an accepted message.
+    /// Whether the message was accepted (`false` for a stray `BUFR`).
     pub(crate) accepted: bool,
-    /// The output and the fault lines of a command that ran on the message alone, at offset 0. The
-    /// text is then copied with the correct offset.
+    /// The output and fault lines from running a command on a single message, before offset 0 in
+    /// each line is replaced with the message's offset.
     lines: TextOut,
     faults: TextOut,
 }
@@ -93,8 +94,8 @@ impl EventText {
         write_moved(stray_line(cause), offset, &mut self.errors)
     }
 
-    /// Sets the text to the output of `bufr ls` for a message at `offset`. The command runs on the
-    /// message alone, which is then at offset 0, and the offset is corrected afterwards.
+    /// Sets the text to the output of `bufr ls` for a message at `offset`. Because the command sees
+    /// only this message, it reports offset 0, which is then replaced with `offset`.
     fn set_listed(&mut self, offset: u64, octets: &[u8]) -> Result<(), RunFault>
         requires { scan octets.now ≡ FrameAt 0 octets.now ∷ [] }
         ensures { OnOk result (IsTextOf self.new (ls_piece (FrameAt offset octets.now))) }
@@ -107,9 +108,9 @@ impl EventText {
         write_moved(self.faults.octets.as_slice(), offset, &mut self.errors)
     }
 
-    /// Sets the text to the output of `bufr dump` for a message at `offset`. The command runs on
-    /// the message alone, which is then at offset 0, and the offset in a fault line is corrected
-    /// afterwards.
+    /// Sets the text to the output of `bufr dump` for a message at `offset`. Because the command
+    /// sees only this message, any fault line reports offset 0, which is then replaced with
+    /// `offset`.
     fn set_dumped(
         &mut self,
         offset: u64,

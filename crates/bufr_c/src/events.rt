@@ -1,5 +1,5 @@
-//! Finds the events in a stream in memory, and writes their output and fault lines into the
-//! caller's buffers.
+//! Finds the messages and stray `BUFR` words in an in-memory stream, and writes their output and
+//! fault lines into the caller's buffers.
 ghost use Rattle.std.specs.Prelude.{◌≡◌, ◌≤◌, ◌+◌, ◌++◌, length, take, drop, codes, OnOk, IfOk};
 ghost use Rattle.bufr_frame.specs.Prelude.{StartsWithBufr};
 ghost use Rattle.bufr_c.specs.Commands.{piece_by};
@@ -10,18 +10,17 @@ use crate::texts::{DONE, NO_ROOM, OUT_OF_MEMORY, Texts};
 use bufr_frame::{Cause, RunFault};
 use memchr::memmem;
 
-/// A message or a stray. Both begin with the word `BUFR`.
+/// A message, or a stray `BUFR` (one that does not start a message).
 #[derive(Clone, Copy)]
 pub(crate) enum Candidate {
-    /// A stray `BUFR`, with its cause.
+    /// A stray `BUFR`, and the reason why it does not start a message.
     Stray(Cause),
     /// A message, with its length in octets.
     Frame(usize),
 }
 
-/// Determines whether a message or a stray begins at the start of `m`, which starts with `BUFR`.
-/// The checks are made in the order of the fault numbers, and the first check that fails determines
-/// the cause of the stray.
+/// Determines whether the `BUFR` at the start of `m` begins a message or is stray. The checks run
+/// in order of fault number, and the first one to fail determines the fault.
 pub(crate) fn classify(m: &[u8]) -> Candidate
     requires { StartsWithBufr m.now }
     ensures { IsCandidate m.now result }
@@ -42,8 +41,8 @@ pub(crate) fn classify(m: &[u8]) -> Candidate
     Candidate::Frame(len)
 }
 
-/// Sets `text` to the output and the fault line for the event at the start of `m`, which starts
-/// with `BUFR`. Returns the number of octets to skip before searching for the next event.
+/// Sets `text` to the output and the fault line for the message or stray `BUFR` that `m` begins
+/// with. Returns the number of octets to skip before searching for the next `BUFR`.
 fn set_event(
     command: &Command<'_>,
     offset: u64,
@@ -66,7 +65,7 @@ fn set_event(
     }
 }
 
-/// Copies `values` into `to`, starting at index `at`. Returns the index after the last copied
+/// Copies `values` into `to`, starting at index `at`. Returns the index just past the last copied
 /// value.
 pub(crate) fn put<T: Copy>(values: &[T], at: usize, to: &mut [T]) -> usize
     requires { at + length values.now ≤ length to.old }
@@ -80,8 +79,9 @@ pub(crate) fn put<T: Copy>(values: &[T], at: usize, to: &mut [T]) -> usize
     end
 }
 
-/// If the caller's buffers have enough space, appends the output and the fault line for an event to
-/// them and returns `true`. Otherwise, reports the required space in `texts` and returns `false`.
+/// Appends the output and the fault line for a message or stray `BUFR` to the caller's buffers, and
+/// returns `true`. If the buffers are too small, reports the required space in `texts` and returns
+/// `false` instead.
 pub(crate) fn write_text(
     text: &EventText,
     output: &mut [u8],
@@ -107,8 +107,9 @@ pub(crate) fn write_text(
     true
 }
 
-/// Writes the output and the fault lines for the events, starting at offset `texts.at`, until the
-/// next event does not fit into the buffers. Returns the status of the call.
+/// Writes the output and the fault lines for the messages and stray `BUFR` words in a stream,
+/// starting at offset `texts.at`. Stops if the next output or fault line does not fit into its
+/// buffer. Returns the status of the call.
 #[tactic(auto, using(crate::proofs::EventLemmas::so_far_stopped))]
 pub(crate) fn write_events(
     run: &Run<'_>,

@@ -1,4 +1,4 @@
-//! Rows for the items of one message.
+//! Builds the rows for the items of one message.
 ghost use Rattle.std.specs.Prelude.{◌≡◌, ◌≤◌, length, OnOk, IfOk, [], pos};
 ghost use Rattle.bufr_frame.specs.Prelude.{sections_of, FrameAt, StartsWithBufr};
 ghost use Rattle.bufr_c.specs.Leaving.{FindsEvent};
@@ -13,14 +13,14 @@ use bufr_walk::{ItemView, SpecCache, Steps, TemplateCache, Value, Visitor, WalkF
 use std::alloc::{AllocError, Global};
 use std::marker::Model;
 
-/// The rows for the items of one message, and the octets of its strings and wide numbers.
+/// The rows for the items of one message, and the octets of its strings and wide numbers (numbers
+/// that do not fit in 64 bits).
 #[derive(Drop)]
 pub(crate) struct ItemsOut<'w> {
     wanted: &'w [u16],
     /// The index of the message's row in the caller's buffer.
     message: u32,
-    /// The index, in the caller's buffer, of the first octet of the message's strings and wide
-    /// numbers.
+    /// The index in the caller's buffer at which the message's strings and wide numbers begin.
     base: usize,
     subset: u16,
     pub(crate) items: Vec<ValueRow>,
@@ -75,7 +75,7 @@ impl<'w> ItemsOut<'w> {
         self.wanted.is_empty() || self.wanted.contains(&fxy)
     }
 
-    /// Appends a row for an item without octets.
+    /// Appends a row for an item whose value is stored in the row itself.
     fn put_row(&mut self, fxy: u16, kind: u8, scale: i16, value: i64) -> Result<(), AllocError>
         ensures { OnOk result (self.new ≡ with_item self.old fxy kind scale value 0) }
     {
@@ -92,7 +92,7 @@ impl<'w> ItemsOut<'w> {
         Ok(())
     }
 
-    /// Appends the octets of an item, and a row for the item.
+    /// Appends the octets of a string or a wide number, and a row for the item.
     fn put_text(&mut self, fxy: u16, kind: u8, scale: i16, octets: &[u8]) -> Result<(), AllocError>
         ensures { OnOk result (self.new ≡ with_text self.old fxy kind scale octets.now) }
     {
@@ -182,8 +182,8 @@ struct Expanded<'a, 'o> {
     template: &'a Template,
 }
 
-/// Appends rows for the items of a message, using the template that `templates` has selected.
-/// Returns the number of the message's fault, or 0 if it has none.
+/// Appends rows for the items of a message, using the template currently selected in `templates`.
+/// Returns the fault number if the message is rejected, and 0 otherwise.
 #[tactic(auto, using(crate::proofs::RowLemmas::message_done, crate::proofs::RowLemmas::message_refused, crate::proofs::RowLemmas::template_refused, crate::proofs::RowLemmas::message_done_fault, crate::proofs::RowLemmas::message_refused_fault, crate::proofs::RowLemmas::template_refused_fault))]
 fn put_selected(
     message: &Message<'_>,
@@ -216,13 +216,14 @@ fn put_selected(
     }
 }
 
-/// The rows for one event, with caches and buffers that are reused for each event.
+/// The rows for one message or stray `BUFR`, with caches and buffers that are reused for the next
+/// one.
 #[derive(Drop)]
 pub(crate) struct EventRows<'t> {
     templates: TemplateCache<'t>,
     descriptors: Vec<Fxy>,
     wanted: &'t [u16],
-    /// The rows for the items of the event.
+    /// The rows for the items of the message.
     pub(crate) out: ItemsOut<'t>,
     /// The row for the message or the stray `BUFR`.
     pub(crate) row: MessageRow,
@@ -243,8 +244,8 @@ impl<'t> EventRows<'t> {
         }
     }
 
-    /// Builds the rows for a message. `counts` determines where the rows will be in the caller's
-    /// buffers.
+    /// Builds the rows for a message. `counts` contains the indices at which the rows will be
+    /// written to the caller's buffers.
     fn set_message(&mut self, offset: u64, octets: &[u8], counts: &Counts) -> Result<(), AllocError>
         requires { 12 ≤ length octets.now }
         ensures table_b { self.new.templates.table_b ≡ self.old.templates.table_b }
@@ -277,8 +278,8 @@ impl<'t> EventRows<'t> {
         Ok(())
     }
 
-    /// Builds the rows for the event at the start of `m`, which starts with `BUFR`. Returns the
-    /// number of octets to skip before searching for the next event.
+    /// Builds the rows for the message or stray `BUFR` that `m` begins with. Returns the number of
+    /// octets to skip before searching for the next `BUFR`.
     pub(crate) fn set_event(
         &mut self,
         offset: u64,

@@ -1,5 +1,5 @@
-//! The library for C and for any language that can call C functions. The library runs `bufr ls`,
-//! `bufr dump` and `bufr encode` on data in memory, and reads the items of messages as rows of
+//! A library for C and any other language that can call C functions. The library runs `bufr ls`,
+//! `bufr dump` and `bufr encode` on data in memory, and returns the items of messages as rows of
 //! numbers.
 #![tactic(auto)]
 

@@ -1,4 +1,5 @@
-//! Finds the events in a stream in memory, and writes their rows into the caller's buffers.
+//! Finds the messages and stray `BUFR` words in an in-memory stream, and writes their rows into the
+//! caller's buffers.
 ghost use Rattle.std.specs.Prelude.{◌≡◌, ◌≤◌, ◌+◌, ◌++◌, length, take, drop, codes, OnOk, IfOk};
 ghost use Rattle.bufr_c.specs.Leaving.{IsRunStatus};
 ghost use Rattle.bufr_c.specs.Rows.{LeavesRowsRest, PassesRows, PutsRows, SameBuffers, rows_at, rows_in};
@@ -9,8 +10,8 @@ use crate::rows::{Counts, RowBuffers};
 use crate::texts::{DONE, NO_ROOM, OUT_OF_MEMORY};
 use memchr::memmem;
 
-/// If the caller's buffers have enough space, appends the rows for an event to them and returns
-/// `true`. Otherwise, reports the required space in `counts` and returns `false`.
+/// Appends the rows for a message or stray `BUFR` to the caller's buffers, and returns `true`. If
+/// the buffers are too small, reports the required space in `counts` and returns `false` instead.
 fn put_rows(event: &EventRows<'_>, rows: &mut RowBuffers<'_>, counts: &mut Counts) -> bool
     requires items { counts.old.items ≤ length rows.old.items.now }
     requires texts { counts.old.octets ≤ length rows.old.texts.now }
@@ -36,8 +37,8 @@ fn put_rows(event: &EventRows<'_>, rows: &mut RowBuffers<'_>, counts: &mut Count
     true
 }
 
-/// Writes the rows for the events, starting at offset `counts.at`, until the next event does not
-/// fit into the buffers. Returns the status of the call.
+/// Writes the rows for the messages and stray `BUFR` words in a stream, starting at offset
+/// `counts.at`. Stops if the next rows do not fit into the buffers. Returns the status of the call.
 #[tactic(auto, using(crate::proofs::RowLemmas::rows_stopped))]
 pub(crate) fn write_rows(
     event: &mut EventRows<'_>,

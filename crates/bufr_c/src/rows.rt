@@ -6,12 +6,12 @@ use bufr_frame::Message;
 
 /// The kind of an item whose value is missing.
 pub const MISSING: u8 = 0;
-/// The kind of an item that is a number. Dividing the item's value by 10^scale gives a number in
-/// the element's unit.
+/// The kind of an item that is a number. The item's value, in the unit of its element, is the
+/// number in the row divided by 10^scale.
 pub const NUMBER: u8 = 1;
 /// The kind of an item that is a string.
 pub const TEXT: u8 = 2;
-/// The kind of an item that redefines a reference value.
+/// The kind of an item that contains a redefined reference value.
 pub const REFERENCE: u8 = 3;
 /// The kind of a numeric item whose value does not fit in 64 bits. The number is stored in 16
 /// octets, least significant octet first.
@@ -21,52 +21,52 @@ pub const WIDE: u8 = 4;
 #[repr(C)]
 #[derive(Clone, Copy, Debug, PartialEq, Eq)]
 pub struct ValueRow {
-    /// The number or the reference value. For a string or a wide number, the index of the item's
-    /// first octet in the buffer `texts`.
+    /// The number or redefined reference value (0 if the value is missing). If the item is a string
+    /// or a wide number, this field contains the index of its first octet in the buffer `texts`.
     pub value: i64,
     /// The index of the message's row in the buffer `messages`.
     pub message: u32,
     /// The number of octets that the item occupies in the buffer `texts`.
     pub length: u32,
-    /// The number of the item's subset. The first subset is number 1.
+    /// The number of the subset that contains the item, counted from 1.
     pub subset: u16,
-    /// The descriptor. F occupies the most significant 2 bits, X the next 6 bits, and Y the
-    /// remaining 8 bits.
+    /// The item's descriptor, in which F occupies the most significant 2 bits, X the next 6 bits,
+    /// and Y the remaining 8 bits.
     pub fxy: u16,
-    /// The scale, if the item is a number.
+    /// The scale of a numeric item.
     pub scale: i16,
-    /// The kind of the item: [`MISSING`], [`NUMBER`], [`TEXT`], [`REFERENCE`] or [`WIDE`].
+    /// The kind of the item ([`MISSING`], [`NUMBER`], [`TEXT`], [`REFERENCE`] or [`WIDE`]).
     pub kind: u8,
-    /// A field that is reserved for later versions. The value is always 0.
+    /// Reserved for future versions. The value is always 0.
     pub reserved: u8,
 }
 
-/// A row that describes a message or a stray `BUFR`.
+/// A row that describes a message or a stray `BUFR` (one that does not start a message).
 #[repr(C)]
 #[derive(Clone, Copy, Debug, PartialEq, Eq)]
 pub struct MessageRow {
-    /// The offset of the message or stray in the stream, in octets from 0.
+    /// The offset of the message or stray `BUFR` in the stream (in octets, counted from 0).
     pub offset: u64,
-    /// The length of the message in octets, or 4 for a stray.
+    /// The length of the message in octets, or 4 for a stray `BUFR`.
     pub length: u64,
     /// The index of the message's first item in the buffer `items`.
     pub first: usize,
     /// The number of rows for the message's items.
     pub items: usize,
-    /// The number of the originating centre.
+    /// The identifier of the originating centre.
     pub centre: u16,
-    /// The number of the originating sub-centre.
+    /// The identifier of the originating sub-centre.
     pub subcentre: u16,
-    /// The year in the header. An edition 3 header contains the year of the century.
+    /// The year, as given in the header (in edition 3, the year of the century).
     pub year: u16,
     /// The number of subsets.
     pub subsets: u16,
-    /// The number of the fault that was found, or 0 if the message was accepted.
+    /// The fault number, or 0 if the message was accepted.
     pub fault: u8,
-    /// The edition. For a stray, or for a message that cannot be split into its sections, the
-    /// edition and all other values of the header are 0.
+    /// The edition. All header values, including the edition, are 0 for a stray `BUFR` or a message
+    /// that cannot be split into its sections.
     pub edition: u8,
-    /// The number of the master table.
+    /// The master table number.
     pub master: u8,
     /// The update sequence number.
     pub update: u8,
@@ -94,7 +94,7 @@ pub struct MessageRow {
     pub observed: u8,
     /// 1 for compressed data, and 0 otherwise.
     pub compressed: u8,
-    /// A field that is reserved for later versions. The value is always 0.
+    /// Reserved for future versions. The value is always 0.
     pub reserved: u64,
 }
 
@@ -173,7 +173,7 @@ impl MessageRow {
     }
 }
 
-/// The caller's buffers to which [`crate::bufr_items`] writes.
+/// The caller's buffers for the rows that [`crate::bufr_items`] writes.
 #[repr(C)]
 #[derive(Drop)]
 pub struct RowBuffers<'a> {
@@ -181,9 +181,9 @@ pub struct RowBuffers<'a> {
     pub items: &'a mut [ValueRow],
     /// The buffer for the octets of strings and wide numbers.
     pub texts: &'a mut [u8],
-    /// The buffer for the rows that describe messages and strays.
+    /// The buffer for the rows that describe messages and stray `BUFR` words.
     pub messages: &'a mut [MessageRow],
-    /// A field that is reserved for later versions. The value must be 0.
+    /// Reserved for future versions. The value must be 0.
     pub reserved: [u64; 2],
 }
 
@@ -192,8 +192,8 @@ pub struct RowBuffers<'a> {
 #[repr(C)]
 #[derive(Clone, Copy, Debug, PartialEq, Eq)]
 pub struct Counts {
-    /// The offset in the stream, in octets from 0, at which the call starts. When the call returns,
-    /// the field contains the offset at which the next call should start.
+    /// The offset in the stream (in octets, counted from 0) at which the call starts. When the call
+    /// returns, this field contains the offset at which the next call should start.
     pub at: usize,
     /// The number of rows written to the buffer `items`.
     pub items: usize,
@@ -201,16 +201,16 @@ pub struct Counts {
     pub octets: usize,
     /// The number of rows written to the buffer `messages`.
     pub messages: usize,
-    /// The number of rows that the next event needs in the buffer `items`, if the event does not
-    /// fit into the buffers.
+    /// The number of rows required in the buffer `items` for the next message or stray `BUFR` (0
+    /// unless the buffers were too small).
     pub items_needed: usize,
-    /// The number of octets that the next event needs in the buffer `texts`, if the event does not
-    /// fit into the buffers.
+    /// The number of octets required in the buffer `texts` for the next message or stray `BUFR` (0
+    /// unless the buffers were too small).
     pub octets_needed: usize,
-    /// The number of rows that the next event needs in the buffer `messages`, if the event does not
-    /// fit into the buffers. The number is always 1.
+    /// The number of rows required in the buffer `messages` for the next message or stray `BUFR` (1
+    /// if the buffers were too small, and 0 otherwise).
     pub messages_needed: usize,
-    /// A field that is reserved for later versions. The value is always 0.
+    /// Reserved for future versions. The value is always 0.
     pub reserved: u64,
 }
 

@@ -67,8 +67,8 @@ impl Sink for TextOut {
     }
 }
 
-/// Writes a line that reports offset 0, but with `offset` in place of 0. Writes nothing if the line
-/// is empty.
+/// Writes a line that reports offset 0, replacing the 0 with `offset`. Writes nothing if the line
+/// has fewer than eight octets.
 pub(crate) fn write_moved<W: Sink>(line: &[u8], offset: u64, out: &mut W) -> Result<(), RunFault>
     ensures { Writes (W.taken out.old) (W.taken out.new) (moved offset line.now) result }
 {

@@ -1,4 +1,4 @@
-//! The input of a call, its status, and the progress that it reports to its caller.
+//! The input, the status and the progress of a call.
 ghost use Rattle.std.specs.Prelude.{◌≡◌, drop};
 ghost use Rattle.bufr_c.specs.Commands.{form_by};
 
@@ -8,7 +8,7 @@ use bufr_text::Form;
 pub(crate) const DONE: i32 = 0;
 /// The status of a call that ran out of memory.
 pub(crate) const OUT_OF_MEMORY: i32 = 73;
-/// The status of a call whose next output does not fit into the caller's buffers.
+/// The status of a call that stopped because the next output did not fit into the buffers.
 pub(crate) const NO_ROOM: i32 = 74;
 /// The status of a call whose input specifies an unknown form.
 pub(crate) const UNKNOWN_FORM: i32 = 75;
@@ -26,10 +26,10 @@ pub struct CallInput<'a> {
     /// The descriptors of the items that [`crate::bufr_items`] should return. If the list is empty,
     /// [`crate::bufr_items`] returns all items.
     pub wanted: &'a [u16],
-    /// The form of the messages that [`crate::bufr_encode`] writes: 0 for the form that each
-    /// document specifies, 1 for plain, or 2 for compressed.
+    /// The form of the messages that [`crate::bufr_encode`] writes (0 for the form that each
+    /// document specifies, 1 for plain, or 2 for compressed).
     pub form: u64,
-    /// A field that is reserved for later versions. The value must be 0.
+    /// Reserved for future versions. The value must be 0.
     pub reserved: [u64; 7],
 }
 
@@ -45,7 +45,7 @@ pub(crate) fn form_by(form: u64) -> Option<Form>
     }
 }
 
-/// Returns the octets from index `at` to the end, or no octets if `at` is past the end.
+/// Returns the octets from index `at` to the end, or an empty slice if `at` is past the end.
 #[tactic(auto, using(crate::proofs::EventLemmas::rest_from))]
 pub(crate) fn rest_of(octets: &[u8], at: usize) -> &[u8]
     ensures { result.now ≡ drop at octets.now }
@@ -57,25 +57,25 @@ pub(crate) fn rest_of(octets: &[u8], at: usize) -> &[u8]
 #[repr(C)]
 #[derive(Clone, Copy, Debug, PartialEq, Eq)]
 pub struct Texts {
-    /// The offset in the input, in octets from 0, at which the call starts. When the call returns,
-    /// the field contains the offset at which the next call should start.
+    /// The offset in the input (in octets, counted from 0) at which the call starts. When the call
+    /// returns, this field contains the offset at which the next call should start.
     pub at: usize,
     /// The number of octets written to the output buffer.
     pub output_length: usize,
     /// The number of octets written to the buffer for fault lines.
     pub errors_length: usize,
-    /// The number of octets that the next event needs in the output buffer, if the event does not
-    /// fit into the buffers.
+    /// The number of octets that the next output needs in its buffer (0 unless the buffers were too
+    /// small).
     pub output_needed: usize,
-    /// The number of octets that the next event needs in the buffer for fault lines, if the event
-    /// does not fit into the buffers.
+    /// The number of octets that the next fault line needs in its buffer (0 unless the buffers were
+    /// too small).
     pub errors_needed: usize,
     /// The number of messages or documents that the call accepted.
     pub accepted: u64,
-    /// The number of messages or documents that the call rejected, plus the number of strays that
-    /// it found.
+    /// The number of messages or documents that the call rejected, plus the number of stray `BUFR`
+    /// words that it found.
     pub refused: u64,
-    /// A field that is reserved for later versions. The value is always 0.
+    /// Reserved for future versions. The value is always 0.
     pub reserved: u64,
 }
 

@@ -1,4 +1,4 @@
--- The lines that report faults in a stream, in its messages, and in documents. (own)
+-- The lines that report faults in streams, messages, and documents (not part of FM 94 BUFR).
 -- Cited by public contracts.
 use Rattle.std.specs.Prelude.{ℕ, List, [], ◌∷◌, ◌++◌, codes, decimal, Option}
 use Rattle.std.specs.Option.{option_map_or}
@@ -19,24 +19,24 @@ stream_report (stream.Section fault) = section_report fault
 stream_report (stream.Template fault) = template_report fault.now
 stream_report (stream.Data fault) = data_report fault.now
 
--- the line that reports a fault: a subject (such as `offset 5: `), and the number and the
--- description of the fault
+-- the line that reports a fault; it consists of a prefix (`subject`), the fault number, and a
+-- description
 abbrev pub report_line : (subject : List (List ℕ)) → (report : ℕ × List (List ℕ)) → List ℕ
 report_line subject report =
     concat (subject ++ decimal report.0 ∷ codes " " ∷ (report.1 ++ codes "\n" ∷ []))
 
--- the line that reports a fault in a stream and gives the offset of the word `BUFR`
+-- the fault line for the message or stray `BUFR` at the given offset in a stream
 -- rule: stream-fault-line
 abbrev pub fault_line : (offset : ℕ) → (report : ℕ × List (List ℕ)) → List ℕ
 fault_line offset = report_line (codes "offset " ∷ decimal offset ∷ codes ": " ∷ [])
 
--- the line that reports a fault in a document and gives the line number, counted from 1
+-- the fault line for a line of a dump, given its number (counted from 1)
 -- rule: fault-lines-of-reading
 abbrev pub document_line : (line : ℕ) → (report : ℕ × List (List ℕ)) → List ℕ
 document_line line = report_line (codes "line " ∷ decimal line ∷ codes ": " ∷ [])
 
--- the line that reports a fault found while reading documents; it is empty if the run itself
--- failed, for example because of a failed read
+-- the fault line for an invalid line of a dump; it is empty if the run stopped for another reason,
+-- such as a failed read
 abbrev pub line_of_read_fault : ReadFault → List ℕ
 line_of_read_fault (read.Line line fault) = document_line line (line_report fault)
 line_of_read_fault (read.Run fault) = []

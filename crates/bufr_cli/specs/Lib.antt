@@ -1,21 +1,20 @@
 -- dumping a stream, encoding the dump, and dumping the result again
 pub mod RoundTrip
--- the effects of a run on its devices, and the device that causes a fault
+-- what a run reads and writes, when it flushes, and which input or writer causes a fault
 pub mod Running
 -- the effects of one step of a run
 pub mod Steps
--- the lines that report faults, with the offset in a stream or the line number in a document
+-- fault lines, which give the offset in a stream or the line number in a document
 pub mod FaultLine
--- the pieces that each command writes for an input; each piece goes to one of the two writers
+-- the pieces of output that each command writes for an input
 pub mod Pieces
--- how a run of the program ends: the last flush, the last line, and the exit status
+-- the last flush, the last line of the error output, and the exit status of a run
 pub mod Ending
--- the command line as clap parses it, and the resulting job or fault
+-- the command line, and the job or fault that results from it
 pub mod Line
--- what the program does when it is run: it performs a job, prints help, or reports an invalid
--- command line
+-- what the program does for a given command line
 pub mod Program
--- what a buffered writer has accepted and flushed, in terms of its sink
+-- the state of a buffered writer, and its calls to the underlying sink
 pub mod Buffering
 -- re-exports of the names that proofs and other crates use
 pub mod Prelude

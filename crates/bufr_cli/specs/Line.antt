@@ -1,7 +1,7 @@
--- The command line of `bufr`, described in terms of clap, a crate in the Rattle kit. An `App` is a
--- command (`top`) with its subcommands, and a `Rule` describes an option or an argument. A `Row`
--- contains the values of an option or argument on a command line (`first_of` returns the first
--- value). `Kinds` is a list of the kinds of errors that clap reports. (own)
+-- Describes the command line of `bufr` in terms of clap, a crate in the Rattle kit (not part of FM
+-- 94 BUFR). An `App` is a command (`top`) with its subcommands, and a `Rule` describes an option or
+-- an argument. A `Row` contains the values of an option or argument on a command line (`first_of`
+-- returns the first value). `Kinds` lists the kinds of errors that clap reports.
 -- Cited by public contracts.
 use Rattle.std.specs.Prelude.{◌≡◌, ◌≢◌, ◌⊎◌, ℕ, List, ◌++◌, Option, Some, None, true, codes, option_map, string_bytes}
 use Rattle.clap.specs.Words.{App, IsAmong, Kinds, Row, Rule, Text, first_of, new_app, new_rule, with_rule, with_subcommand}
@@ -33,7 +33,7 @@ tables_app name =
 abbrev pub form_rule : Rule
 form_rule = record (new_rule (codes "form")) { long = Some (codes "form"); value_names = 1 }
 
--- the command `bufr` without its subcommands; it has a version and requires a subcommand
+-- the command `bufr` without its subcommands; it supports `--version` and requires a subcommand
 abbrev pub top_app : App
 top_app =
     record (new_app (codes "bufr")) {
@@ -41,8 +41,8 @@ top_app =
           { has_version = true; subcommand_required = true };
     }
 
--- the command `bufr` with its subcommands `ls [FILE]`, `dump` and `encode` (which also has the
--- option `--form WORD`); each subcommand is the `top` of an `App`
+-- the command `bufr` with the subcommands `ls`, `dump` and `encode`; only `encode` has the option
+-- `--form`
 -- rule: version, one-file
 abbrev pub bufr_app : App
 bufr_app =
@@ -76,15 +76,16 @@ HasTables rows (Dump tables) = AreNamed rows tables
 HasTables rows (Encode tables form) =
     AreNamed rows tables × (word_of form ≡ first_of (codes "form") rows)
 
--- The job has the subcommand, tables, form and FILE (if any) that the command line specifies.
+-- The job contains the subcommand, tables, form and input file (if any) that the command line
+-- specifies.
 abbrev pub IsJobOf : Option (Text × List Row) → Job → Type 0
 IsJobOf None job = ⊥
 IsJobOf (Some subcommand) job =
     (subcommand.0 ≡ name_of job.command) × HasTables subcommand.1 job.command
     × (option_map (λ name. name.now) job.file ≡ first_of (codes "FILE") subcommand.1)
 
--- The given reason explains why a subcommand with the given name and values does not specify a job:
--- `bufr` has no subcommand with that name, a table is missing, or the value of `--form` is unknown.
+-- The subcommand is invalid because its name is unknown, because a table is missing, or because the
+-- value of `--form` is unknown.
 -- rule: form-words
 abbrev pub IsWhyNoJob : Text → List Row → NoJob → Type 0
 IsWhyNoJob name rows UnknownCommand = (command : Subcommand) → ¬ (name ≡ name_of command)
@@ -94,7 +95,7 @@ IsWhyNoJob name rows MissingTable =
 IsWhyNoJob name rows UnknownForm =
     (name ≡ codes "encode") × ((form : Form) → ¬ (word_of form ≡ first_of (codes "form") rows))
 
--- the text that is written to standard error if a subcommand does not specify a job
+-- the error message that explains why a subcommand is invalid
 abbrev pub no_job_text : NoJob → Text
 no_job_text UnknownCommand = codes "error: no command\n"
 no_job_text MissingTable = codes "error: -B or -D is missing\n"
@@ -102,17 +103,16 @@ no_job_text UnknownForm =
     codes "error: invalid value for '--form <WORD>'\n"
     ++ codes "  [possible values: plain, compressed]\n\nFor more information, try '--help'.\n"
 
--- The command line has no subcommand, or its subcommand does not specify a job, and the text
--- reports the reason.
+-- The subcommand is missing or invalid, and `text` is the error message that reports this.
 -- rule: usage
 abbrev pub GivesNoJob : Option (Text × List Row) → (text : Text) → Type 0
 GivesNoJob None text = text ≡ no_job_text UnknownCommand
 GivesNoJob (Some subcommand) text =
     (why : NoJob) × IsWhyNoJob subcommand.0 subcommand.1 why × (text ≡ no_job_text why)
 
--- The given reason explains why a command line does not specify a job: clap reports one of `kinds`
--- (an error, or a request for help or the version; the wording is not specified), the subcommand
--- does not specify a job, or memory runs out.
+-- The command line does not specify a job because it requests help or the version, because clap
+-- reports an error, because the subcommand is missing or invalid, or because memory runs out. The
+-- wording of clap's messages is not specified.
 -- rule: help, usage
 abbrev pub SaysWhy : Kinds → Option (Text × List Row) → LineFault → Type 0
 SaysWhy kinds subcommand (Help text) = IsAmong DisplayHelp kinds ⊎ IsAmong DisplayVersion kinds

@@ -1,5 +1,4 @@
--- The pieces that each command writes for an input, in order. A piece is text for the writer
--- `output` or a fault line for the writer `errors`. (own)
+-- Defines the pieces of output that each command writes for an input (not part of FM 94 BUFR).
 -- Cited by public contracts.
 use Rattle.std.specs.Prelude.{ℕ, Bool, true, false, not, List, [], ◌∷◌, map, Result, Ok, Err}
 use Rattle.std.specs.Option.{option_map_or}
@@ -14,7 +13,7 @@ use Rattle.bufr_tables.specs.Prelude.{tree_of, tables_of, template_report, Row, 
 use Rattle.bufr_walk.specs.Prelude.{next_item, data_report, data_of, reading_of, fault_of, DataReading}
 use Rattle.bufr_text.specs.declared.encode.Form.{Form}
 
--- text for the writer `output`, or a fault line for the writer `errors`
+-- the output for one message or document, or a fault line for the error output
 pub data Piece : Type 0 where
   OnOutput : (text : List ℕ) → Piece
   OnErrors : (text : List ℕ) → Piece
@@ -29,29 +28,29 @@ abbrev pub errors_of : Piece → List ℕ
 errors_of (OnOutput text) = []
 errors_of (OnErrors text) = text
 
--- whether a piece belongs to the output, as the pieces for accepted messages and documents do
+-- whether a piece belongs to an accepted message or document
 abbrev pub is_accepted : Piece → Bool
 is_accepted (OnOutput text) = true
 is_accepted (OnErrors text) = false
 
--- whether a piece belongs to the error output, as the pieces for rejected messages and lines do
+-- whether a piece is a fault line
 abbrev pub is_refused : Piece → Bool
 is_refused piece = not (is_accepted piece)
 
--- the piece for a message or a stray: the text of the message, or the line that reports the fault
+-- the piece that contains the given text or, if a fault is given, its fault line
 -- rule: refused-messages-write-nothing
 abbrev pub text_or_fault : (offset : ℕ) → Result (List ℕ) (ℕ × List (List ℕ)) → Piece
 text_or_fault offset (Ok text) = OnOutput text
 text_or_fault offset (Err report) = OnErrors (fault_line offset report)
 
--- the piece that `ls` writes for an event
+-- the piece that `ls` writes for an event (a message or a stray `BUFR`)
 -- rule: one-fault-a-message
 abbrev pub ls_piece : StreamEvent → Piece
 ls_piece (FrameAt offset octets) =
     text_or_fault offset (result_map_both (ls_line offset) section_report (sections_of octets))
 ls_piece (StrayAt offset cause) = text_or_fault offset (Err (cause_report cause))
 
--- The dump of a message, or the report of its first fault. The sections are checked first, then the
+-- The dump of a message, or a report of its first fault. The sections are checked first, then the
 -- descriptor list, and finally the data.
 -- rule: list-before-data
 abbrev pub dump_or_report : List Row → List Sequence → Result Sections SectionFault
@@ -63,14 +62,14 @@ dump_or_report b d parsed = do
   option_map_or (λ why. Err (data_report why)) (fault_of (data_of s) reading)
       (Ok (dump_text_of s (dump_items b s.subsets reading.values)))
 
--- the piece that `dump` writes for an event
+-- the piece that `dump` writes for an event (a message or a stray `BUFR`)
 -- rule: one-fault-a-message
 abbrev pub dump_piece : List Row → List Sequence → StreamEvent → Piece
 dump_piece b d (FrameAt offset octets) =
     text_or_fault offset (dump_or_report b d (sections_of octets))
 dump_piece b d (StrayAt offset cause) = text_or_fault offset (Err (cause_report cause))
 
--- the piece for a document: the encoded message, or the line that reports the fault
+-- the piece that contains the encoded message or, if the document is rejected, a fault line
 abbrev pub encoded : Result (List ℕ) DocumentFault → Piece
 encoded (Ok octets) = OnOutput octets
 encoded (Err why) = OnErrors (refusal_line why)

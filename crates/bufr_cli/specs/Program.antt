@@ -1,5 +1,5 @@
--- The effects of running the program: the inputs that it opens, the tables that it reads, its
--- output and its outcome. (own)
+-- Defines which inputs the program opens, which tables it reads, what it writes, and how it ends
+-- (not part of FM 94 BUFR).
 -- Cited by public contracts.
 use Rattle.std.specs.Prelude.{◌≡◌, ◌≢◌, ◌⊎◌, ℕ, List, Option, Some, None, Result, Ok, Err, IfSome, [], ◌∷◌, ◌++◌, true, string_bytes}
 use Rattle.std.specs.Borrow.{Bor}
@@ -27,24 +27,24 @@ use Rattle.bufr_cli.specs.Line.{IsJobOf, SaysWhy, bufr_app}
 use Rattle.bufr_cli.specs.declared.job.LineFault.{LineFault}
 use Rattle.bufr_cli.specs.declared.job.LineFault.TheVariants.{Help, Usage, Memory}
 
--- an input that can be opened: standard input, or the file with the given name
+-- an input of the program, which is either standard input or the file with the given name
 pub data InputName : Type 0 where
   standard_name : InputName
   file_name : (name : List ℕ) → InputName
 
--- If the inputs opened earlier are known, exactly the inputs in `names` were opened after them, in
--- that order.
+-- Between the two states, the program opened or tried to open exactly the inputs in `names`, in
+-- that order. If it is not known which inputs were opened earlier, nothing is guaranteed.
 abbrev pub Opens : (before after : Option (List InputName)) → List InputName → Type 0
 Opens None after names = Unit {0}
 Opens (Some before) None names = ⊥
 Opens (Some before) (Some after) names = after ≡ before ++ names
 
--- What is known about the program's inputs. `Standard` is the type of standard input, and `File` is
--- the type of a file.
+-- What is known about the program's inputs. `Standard` and `File` are the types of the readers for
+-- standard input and for files.
 pub record Known (Standard File : Type 0) : Type 0 where
-  -- the octets of standard input, if they are known
+  -- the octets of standard input, if known
   pub standard : Option (List ℕ)
-  -- the octets of the file with the given name, if they are known (see `Inputs`)
+  -- the octets of the file with the given name, if known (see `Inputs`)
   pub named : List ℕ → Option (List ℕ)
   -- the state of standard input
   pub of_standard : Standard → Input
@@ -63,8 +63,7 @@ command_pieces command.Ls = event_pieces ls_piece
 command_pieces (command.Dump b d) = event_pieces (dump_piece b.now d.now)
 command_pieces (command.Encode form b d) = document_pieces form b.now d.now
 
--- The file with the given name was not opened, either because it could not be opened (in which case
--- its octets are unknown) or because memory ran out.
+-- Either the file could not be opened (in which case its octets are unknown), or memory ran out.
 abbrev pub IsClosed : (named : List ℕ → Option (List ℕ)) → (name : Bor (List ℕ)) → Outcome → Type 0
 IsClosed named name outcome =
     ((outcome ≡ CannotOpen name) × (named name.now ≡ None)) ⊎ (outcome ≡ Run run_fault.Memory)
@@ -88,7 +87,7 @@ RunsOverInput inputs None run = RunsOver inputs.of_standard inputs.standard run
 RunsOverInput inputs (Some name) run = RunsOver inputs.of_file (inputs.named name.now) run
 
 -- The possible outcomes of a run that reads the file with the given name, or standard input if no
--- name is given. Either the input is not opened and nothing is written, or the run takes place.
+-- name is given. Either the input is not opened and nothing is written, or the run reads it.
 -- Opening standard input fails only if memory runs out.
 pub data RunOutcome {Standard File : Type 0} (pieces : RunPieces) (inputs : Known Standard File)
     (file : Option (Bor (List ℕ))) (before after : Writers) (outcome : Outcome) : Type 0 where
@@ -100,29 +99,28 @@ pub data RunOutcome {Standard File : Type 0} (pieces : RunPieces) (inputs : Know
       → RunsOverInput inputs file (λ from to. EndsRun pieces from to before after ran)
       → RunOutcome pieces inputs file before after outcome
 
--- A file was not read to its end, because a read failed, because 2^32 reads did not reach the end,
--- or because memory ran out after fewer reads.
+-- A file was not read completely because a read failed, because its end was not reached after 2^32
+-- reads, or because memory ran out earlier.
 pub record FailsToRead (fault : RunFault) (from to : Input) : Type 0 where
   pub octets : List ℕ
   pub read : Consumes from.left to.left octets
-  -- a file is only read, so the fault cannot be a failed write
+  -- the fault cannot be a failed write, because nothing is written to a file
   pub none : fault ≢ run_fault.Write
-  -- if the fault is `Read`, the file counted one failed read; the type X does not matter, because
-  -- the result is a fault
+  -- if the fault is `Read`, one failed read was counted (the type X does not matter here)
   pub failures : to.failures ≡ read_failures_after {X = Unit {0}} from.failures (Err fault)
   pub reads : ReadsAtMost {X = Unit {0}} from.reads to.reads (Err fault)
   pub fewer : fault ≡ run_fault.Memory → ReadsFewer from.reads to.reads
 
--- A fault prevented the file with the given octets from being read to its end.
+-- The file with the given octets was not read completely, and `outcome` reports the fault.
 -- rule: table-not-read
 abbrev pub IsUnread : {File : Type 0} → (state_of : File → Input) → (octets : Option (List ℕ))
     → Outcome → Type 0
 IsUnread state_of octets outcome =
     (fault : RunFault) × (outcome ≡ Run fault) × RunsOver state_of octets (FailsToRead fault)
 
--- A table is not available, because its file was not opened or not read to its end, or because the
--- table is invalid. `is_result` relates the table's records to the result of reading them, and
--- `outcome_of` returns the outcome for a fault in the table.
+-- A table is not available because its file could not be opened or read, or because the table is
+-- invalid. `is_result` relates the table's records to the result of reading them, and `outcome_of`
+-- returns the outcome for a fault in the table.
 abbrev pub TableOutcome : {X File : Type 0} → (state_of : File → Input)
     → (is_result : List Record → Result X TableFault → Type 0) → (outcome_of : TableFault → Outcome)
     → (named : List ℕ → Option (List ℕ)) → (name : Bor (List ℕ)) → Outcome → Type 0
@@ -131,8 +129,7 @@ TableOutcome state_of is_result outcome_of named name outcome =
     ⊎ ((fault : TableFault) × (outcome ≡ outcome_of fault)
     × IfSome (named name.now) (λ text. is_result (records_of text) (Err fault)))
 
--- `b` and `d` are the tables in the files with the given names, as far as the octets of those files
--- are known.
+-- `b` and `d` are the tables in the given files, if the octets of those files are known.
 pub record AreTables (named : List ℕ → Option (List ℕ)) (tables : TableNames) (b : List Row)
     (d : List Sequence) : Type 0 where
   pub table_b : IfSome (named tables.table_b.now) (λ text. table_b_of (records_of text) ≡ Ok b)
@@ -142,8 +139,9 @@ pub record AreTables (named : List ℕ → Option (List ℕ)) (tables : TableNam
 abbrev pub table_names : TableNames → List InputName
 table_names tables = file_name tables.table_b.now ∷ file_name tables.table_d.now ∷ []
 
--- One of the tables is not available. If Table B is not available, nothing else was opened. If
--- Table D is not available, Table B was read first. `opens` states which inputs were opened.
+-- One of the tables is not available. If Table B is not available, no other input was opened. If
+-- Table D is not available, Table B had already been read. The list of inputs that were opened
+-- satisfies `opens`.
 pub data AreUnread {File : Type 0} (state_of : File → Input) (named : List ℕ → Option (List ℕ))
     (tables : TableNames) (opens : List InputName → Type 0) (outcome : Outcome) : Type 0 where
   NoTableB : opens (file_name tables.table_b.now ∷ [])
@@ -154,14 +152,13 @@ pub data AreUnread {File : Type 0} (state_of : File → Input) (named : List ℕ
       → TableOutcome state_of ReadsTableD TableD named tables.table_d outcome
       → AreUnread state_of named tables opens outcome
 
--- the input that is opened: the file with the given name, or standard input if no name is given
+-- the input to open, which is standard input if no file name is given
 abbrev pub input_name : Option (Bor (List ℕ)) → InputName
 input_name None = standard_name
 input_name (Some name) = file_name name.now
 
 -- The possible outcomes of `dump` and `encode`. Either a table is not available and nothing is
--- written, or both tables are available, the input is opened after the tables, and `RunOutcome`
--- applies.
+-- written, or the input is opened after both tables (see `RunOutcome`).
 -- rule: tables-before-input
 pub data TablesOutcome {Standard File : Type 0} (pieces : List Row → List Sequence → RunPieces)
     (inputs : Known Standard File) (tables : TableNames) (opens : List InputName → Type 0)
@@ -173,7 +170,7 @@ pub data TablesOutcome {Standard File : Type 0} (pieces : List Row → List Sequ
       → RunOutcome (pieces b d) inputs file before after outcome
       → TablesOutcome pieces inputs tables opens file before after outcome
 
--- A subcommand has the given outcome, and `opens` states which inputs it opens.
+-- The subcommand has the given outcome, and the list of inputs that it opens satisfies `opens`.
 abbrev pub CommandOutcome : {Standard File : Type 0} → Known Standard File
     → (opens : List InputName → Type 0) → Subcommand → (file : Option (Bor (List ℕ)))
     → (before after : Writers) → Outcome → Type 0
@@ -186,8 +183,8 @@ CommandOutcome inputs opens (Dump tables) file before after outcome =
 CommandOutcome inputs opens (Encode tables form) file before after outcome =
     TablesOutcome (document_pieces form) inputs tables opens file before after outcome
 
--- Either the help text is written and flushed, and the status is 0, or a write or the flush fails,
--- the last line reports the failure, and the status is 2.
+-- If the help text is written and flushed, the status is 0. If a write or the flush fails, the last
+-- line reports the failure, and the status is 2.
 pub data WritesHelp (text : List ℕ) (before after : Writers) (status : ℕ) : Type 0 where
   InWhole : Appends before.output.taken after.output.taken text
       → after.output.all_flushed ≡ true → HasNotFailed before.output after.output
@@ -197,8 +194,8 @@ pub data WritesHelp (text : List ℕ) (before after : Writers) (status : ℕ) : 
       → WritesLine before.errors after.errors (run_line run_fault.Write) → status ≡ 2
       → WritesHelp text before after status
 
--- The effects of running the program if the command line does not specify a job. Only the text of
--- the help or the version is written to the output.
+-- The effects of running the program if the command line does not specify a job. Only help and the
+-- version are written to the output.
 abbrev pub AnswersFault : LineFault → (before after : Writers) → (status : ℕ) → Type 0
 AnswersFault (Help text) before after status = WritesHelp (string_bytes text) before after status
 AnswersFault (Usage text) before after status =
@@ -208,9 +205,8 @@ AnswersFault Memory before after status =
     (after.output ≡ before.output)
     × WritesLine before.errors after.errors (run_line run_fault.Memory) × (status ≡ 2)
 
--- The effects of running the program. Either clap accepts the command line, it specifies a job, and
--- the last line and the status report the job's outcome; or the program opens no input and reports
--- why the command line does not specify a job.
+-- Either the program runs the job that the command line specifies and reports the outcome, or it
+-- opens no inputs and reports why there is no job.
 -- rule: status-of-help
 pub data RunsProgram {Standard File : Type 0} (words : List Text) (inputs : Known Standard File)
     (opened opened' : Option (List InputName)) (before after : Writers) (status : ℕ) : Type 0 where

@@ -1,5 +1,5 @@
--- Only contracts need this file. Dumping a stream, encoding the dump, and dumping the result again.
--- (own)
+-- Only contracts need this file. Defines what stays the same when a stream is dumped, encoded and
+-- dumped again (not part of FM 94 BUFR).
 use Rattle.std.specs.Prelude.{◌≡◌, ℕ, ◌+◌, ◌≤◌, List, [], ◌∷◌, length, map, flat_map, count_by, Result, Ok, Err}
 use Rattle.std.specs.List.{AllByRecursion, AllZip, concat, filter}
 use Rattle.bufr_bits.specs.Prelude.{taken_of}
@@ -40,13 +40,12 @@ rebuilding b d s = form_pieces AsWritten b d (dumped b d s)
 abbrev pub rebuilt : List Row → List Sequence → List ℕ → List ℕ
 rebuilt b d s = flat_map output_of (rebuilding b d s)
 
--- a list with the octets of a message as its only entry, or an empty list for a stray `BUFR`
+-- a list that contains the octets of a message; it is empty for a stray `BUFR`
 abbrev pub event_octets : StreamEvent → List (List ℕ)
 event_octets (FrameAt offset octets) = octets ∷ []
 event_octets (StrayAt offset cause) = []
 
--- a list with the octets of an accepted message (one whose piece belongs to the output) as its only
--- entry, or an empty list for any other event
+-- a list that contains the octets of an accepted message; it is empty for any other event
 abbrev pub accepted_in : StreamEvent → Piece → List (List ℕ)
 accepted_in here (OnOutput text) = event_octets here
 accepted_in here (OnErrors text) = []
@@ -55,8 +54,8 @@ accepted_in here (OnErrors text) = []
 abbrev pub accepted_messages : List Row → List Sequence → List ℕ → List (List ℕ)
 accepted_messages b d s = flat_map (λ here. accepted_in here (dump_piece b d here)) (scan s)
 
--- the maximum number of octets by which the given messages can grow when they are encoded again:
--- two for each edition 3 message in which section 3 or 4 has an odd length
+-- the maximum number of octets that re-encoding adds to the given messages, which is two for each
+-- edition 3 message whose section 3 or 4 has an odd length
 -- rule: encode-may-grow
 abbrev pub longer_by : List (List ℕ) → ℕ
 longer_by [] = 0
@@ -73,7 +72,7 @@ pub record IsBuiltAgain (b : List Row) (d : List Sequence) (m written : List ℕ
   pub accepted : IsAccepted b d m sections template values used
   pub same : HasSameReading b m sections template values written
 
--- The message is canonical for any sections, template and values with which it can be accepted.
+-- If the message is accepted, it is canonical.
 abbrev pub IsCanonicalMessage : List Row → List Sequence → List ℕ → Type 0
 IsCanonicalMessage b d m =
     (sections : Sections) (template : Tree) (values : Values) (used : ℕ)
@@ -81,20 +80,20 @@ IsCanonicalMessage b d m =
 
 -- Encoding the dump of a stream and dumping the resulting messages gives the same dump.
 pub record RoundTrips (b : List Row) (d : List Sequence) (s : List ℕ) : Type 0 where
-  -- `encode` rejects nothing, and writes as many messages as were dumped
+  -- `encode` rejects nothing and writes as many messages as `dump` accepts
   pub none_refused : count_by is_refused (rebuilding b d s) ≡ 0
   pub no_line : flat_map errors_of (rebuilding b d s) ≡ []
   pub as_many : count_by is_accepted (rebuilding b d s)
       ≡ count_by is_accepted (dump_pieces b d s)
-  -- The output of `encode` consists of accepted messages and nothing else. The output is at most
+  -- The output of `encode` consists entirely of messages that `dump` accepts, and is at most
   -- `longer_by` octets longer than the stream. Reading each encoded message gives the same result
   -- as reading the original message.
   pub messages : rebuilt b d s ≡ concat (accepted_messages b d (rebuilt b d s))
   pub no_longer : length (rebuilt b d s) ≤ length s + longer_by (accepted_messages b d s)
   pub readings : AllZip (IsBuiltAgain b d) (accepted_messages b d s)
       (accepted_messages b d (rebuilt b d s))
-  -- dumping the encoded messages gives exactly the output pieces for the original stream, and
-  -- therefore the same text, octet for octet, without faults
+  -- dumping the encoded messages gives the same output as dumping the original stream, octet for
+  -- octet, and no fault lines
   pub same_pieces : dump_pieces b d (rebuilt b d s)
       ≡ filter is_accepted (dump_pieces b d s)
   pub same_text : dumped b d (rebuilt b d s) ≡ dumped b d s
@@ -108,15 +107,15 @@ pub record RunsInMemory (ran : RunInMemory) (pieces : List Piece) : Type 0 where
   pub errors : taken_of ran.errors ≡ flat_map errors_of pieces
   pub tallies : Tallies ran.tally pieces
 
--- the result of a run: its output, its fault lines and its counts
+-- the output, the fault lines and the counts of a run
 pub record Written : Type 0 where
   pub output : List ℕ
   pub errors : List ℕ
   pub tally : Tally
 
--- A stream was dumped, the dump was encoded, and the resulting messages were dumped again. The two
--- dumps are the same, and only the first run may have rejected anything. Reading each encoded
--- message gives the same result as reading the corresponding message in the stream.
+-- A stream was dumped, the dump was encoded, and the resulting messages were dumped. The two dumps
+-- are the same, and only the first run may have rejected anything. Reading each encoded message
+-- gives the same result as reading the corresponding message in the stream.
 pub record IsWholeRound (b : List Row) (d : List Sequence) (stream : List ℕ)
     (text messages again : Written) : Type 0 where
   pub same_text : again.output ≡ text.output
@@ -141,9 +140,10 @@ abbrev pub written_by : RunInMemory → Written
 written_by ran =
     record { output = taken_of ran.output; errors = taken_of ran.errors; tally = ran.tally }
 
--- ---- Encoding text and dumping the messages, which gives the text in its normal spelling. (own)
+-- ---- Encoding text and dumping the messages gives the text in its normal spelling (not part of FM
+-- 94 BUFR).
 
--- the normal text of a document, or nothing if its template has a fault
+-- the text of a document in its normal spelling, or nothing if its template is invalid
 abbrev pub normal_by : Form → List Row → Document → Result Tree TemplateFault → List ℕ
 normal_by form b document (Ok template) = normal form b template document
 normal_by form b document (Err fault) = []
@@ -152,14 +152,14 @@ abbrev pub normal_text : Form → List Row → List Sequence → Document → Li
 normal_text form b d document =
     normal_by form b document (tree_of (tables_of b d) document.descriptors)
 
--- the text of a document followed by the text of later documents, or no text if the document is
+-- the text of a document and the texts of the documents after it, or nothing if the document is
 -- rejected
 abbrev pub before_refused : Result (List ℕ) DocumentFault → (text : List ℕ)
     → (more : List (List ℕ)) → List (List ℕ)
 before_refused (Ok octets) text more = text ∷ more
 before_refused (Err refused) text more = []
 
--- the normal text of each document before the first rejected document or line
+-- the normal spelling of each document before the first rejected document or line
 unfoldable pub normal_texts : Form → List Row → List Sequence → List ParseResult → List (List ℕ)
 normal_texts form b d [] = []
 normal_texts form b d (Complete document ∷ more) =
@@ -167,12 +167,11 @@ normal_texts form b d (Complete document ∷ more) =
     (normal_texts form b d more)
 normal_texts form b d (Refused line fault ∷ more) = []
 
--- Encoding text and dumping the messages gives the normal text of each document before the first
--- rejected document or line.
+-- Encoding text and dumping the messages gives the normal spelling of each document before the
+-- first rejected document or line.
 pub record IsDumpedInOneSpelling (form : Form) (b : List Row) (d : List Sequence)
     (text : List ℕ) : Type 0 where
-  -- each event is an accepted message whose dump is the normal text of its document; nothing is
-  -- rejected
+  -- dumping each message gives the normal spelling of its document, and nothing is rejected
   pub pieces : dump_pieces b d (built form b d text)
       ≡ map OnOutput (normal_texts form b d (documents_of text))
   pub same_text : dumped b d (built form b d text)
@@ -181,6 +180,6 @@ pub record IsDumpedInOneSpelling (form : Form) (b : List Row) (d : List Sequence
       ≡ count_by is_accepted (form_pieces form b d text)
   pub none_refused : count_by is_refused (dump_pieces b d (built form b d text)) ≡ 0
   pub no_fault : flat_map errors_of (dump_pieces b d (built form b d text)) ≡ []
-  -- encoding each normal text in the form that it specifies gives the same messages again, octet
-  -- for octet
+  -- encoding the new dump in the form that each document specifies gives the same messages again,
+  -- octet for octet
   pub settled : rebuilt b d (built form b d text) ≡ built form b d text

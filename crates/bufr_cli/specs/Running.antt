@@ -1,5 +1,5 @@
--- The effects of a run on its devices: what it reads and writes, when it flushes, and which device
--- causes a fault. (own)
+-- Defines what a run reads and writes, when it flushes, and which input or writer causes a fault
+-- (not part of FM 94 BUFR).
 -- Cited by public contracts.
 use Rattle.std.specs.Prelude.{if◌then◌else◌, ◌+◌, ℕ, Bool, true, OnOk, IfErr, IfOk, ◌≢◌, List, Option, ◌≡◌, ◌⊎◌, Result, Ok, Err, ◌<◌, ◌≤◌, false, ◌++◌, None, flat_map, count_by, option_to_list, map, [], IfSome, Vec, length}
 use Rattle.bufr_frame.specs.declared.fault.RunFault.{RunFault}
@@ -19,7 +19,7 @@ use Rattle.std.specs.Global.{Global}
 use Rattle.bufr_bits.specs.declared.device.Sink as sink
 use Rattle.bufr_bits.specs.declared.device.Source as source
 
--- ---- The counts for an input and for the writers, and the writer that causes a fault. (own)
+-- ---- Inputs and writers, their counts, and the writer that failed (not part of FM 94 BUFR).
 
 -- the state of an input, as described by the ghost items of `Source`
 pub record Input : Type 0 where
@@ -39,12 +39,12 @@ pub record Writers : Type 0 where
   pub output : Writer
   pub errors : Writer
 
--- the state of an input, taken from its ghost items
+-- the state of a reader, according to its ghost items
 abbrev pub input_of : {R : Type 0} → source.Ghosts R → R → Input
 input_of ghosts r =
     record { left = ghosts.left r; reads = ghosts.reads r; failures = ghosts.failures r }
 
--- the state of a writer, taken from its ghost items
+-- the state of a writer, according to its ghost items
 abbrev pub writer_of : {W : Type 0} → sink.Ghosts W → W → Writer
 writer_of ghosts w =
     record {
@@ -59,7 +59,7 @@ abbrev pub writers_of : {W E : Type 0} → sink.Ghosts W → W → sink.Ghosts E
 writers_of output w errors e =
     record { output = writer_of output w; errors = writer_of errors e }
 
--- two writers that have accepted the given octets (if they are known) and whose counts are 0
+-- two writers that have accepted the given octets (if known) and whose counts are all 0
 abbrev pub holding : (output errors : Option (List ℕ)) → Writers
 holding output errors =
     record {
@@ -79,26 +79,25 @@ holding output errors =
       };
     }
 
--- If the call failed, the writer counted one failed call or one write that accepted nothing.
--- Otherwise, the writer's counts are unchanged.
+-- If the call failed, the writer counted one failed call or one nonempty write that returned 0; if
+-- it succeeded, both counts are unchanged.
 abbrev pub CountsCalls : {X : Type 0} → (before after : Writer) → Result X RunFault → Type 0
 CountsCalls before after result =
     CountsWrites before.failures after.failures before.empty_writes after.empty_writes result
 
--- If the call failed, the writer counted one failed call or one write that accepted nothing. The
+-- If the call failed, the writer counted one failed call or one nonempty write that returned 0. The
 -- writer was not flushed.
 abbrev pub OnlyWrites : {X : Type 0} → (before after : Writer) → Result X RunFault → Type 0
 OnlyWrites before after result =
     CountsCalls before after result × (after.flushes ≡ before.flushes)
 
--- Between the two states, no call to the writer failed, and every nonempty write accepted at least
--- one octet.
+-- Between the two states, no call to the writer failed, and no nonempty write returned 0.
 abbrev pub HasNotFailed : (before after : Writer) → Type 0
 HasNotFailed before after =
     (after.failures ≡ before.failures) × (after.empty_writes ≡ before.empty_writes)
 
 -- Between the two states, exactly one call to the writer failed, or exactly one nonempty write
--- accepted no octets.
+-- returned 0.
 abbrev pub HasFailed : (before after : Writer) → Type 0
 HasFailed before after =
     ((after.failures ≡ counted before.failures 1) × (after.empty_writes ≡ before.empty_writes))
@@ -120,14 +119,14 @@ pub record WritesPieces (before after : Writers) (pieces : List Piece) : Type 0 
   pub output : Appends before.output.taken after.output.taken (flat_map output_of pieces)
   pub errors : Appends before.errors.taken after.errors.taken (flat_map errors_of pieces)
 
--- Each writer accepted a prefix of the octets in the pieces that belong to it.
+-- Each writer accepted a prefix of the octets that the pieces contain for it.
 pub record WritesPrefixes (before after : Writers) (pieces : List Piece) : Type 0 where
   pub output : GrowsByPrefix before.output.taken after.output.taken (flat_map output_of pieces)
   pub errors : GrowsByPrefix before.errors.taken after.errors.taken (flat_map errors_of pieces)
 
--- Some pieces were written completely, and at most part of the next one was written.
+-- Writing stopped after zero or more complete pieces, possibly in the middle of the next one.
 pub record WrittenInPart (before after : Writers) (pieces : List Piece) : Type 0 where
-  -- the pieces that were written completely
+  -- the pieces that were completely written
   pub given : List Piece
   -- the next piece, if any; a prefix of it (possibly empty) was written
   pub next : Option Piece
@@ -147,11 +146,11 @@ pub record Tallies (tally : Tally) (pieces : List Piece) : Type 0 where
   pub accepted : tally.accepted ≡ count_by is_accepted pieces
   pub refused : tally.refused ≡ count_by is_refused pieces
 
--- The pieces that a command writes, depending on the octets of its input.
+-- The pieces of output that a command writes for an input.
 pub record RunPieces : Type 0 where
-  -- the pieces for an input that ends after the given octets
+  -- the pieces for an input that consists of the given octets
   pub whole : List ℕ → List Piece
-  -- the certain pieces, which come first for every input that begins with the given octets
+  -- the pieces that can be determined from the given octets; later input cannot change them
   pub certain : List ℕ → List Piece
   -- whether the run stops after the first fault line, as `encode` does
   pub stops : Bool
@@ -175,17 +174,15 @@ document_pieces form b d =
       stops = true;
     }
 
--- the pieces for the octets that were read: all pieces if the input ended, and only the certain
--- pieces otherwise
+-- the pieces for the octets read so far; before the end of the input, only those that cannot change
 abbrev pub read_pieces : RunPieces → (ended : Bool) → List ℕ → List Piece
 read_pieces pieces ended bs = if ended then pieces.whole bs else pieces.certain bs
 
--- Between the two states, either the writer did not change, or everything it had accepted was
--- flushed.
+-- Either the writer is unchanged, or everything that it accepted was flushed.
 abbrev pub IsFlushed : (before after : Writer) → Type 0
 IsFlushed before after = (after ≡ before) ⊎ (after.all_flushed ≡ true)
 
--- What a run has flushed depends on its result, as the cases below state.
+-- What a run has flushed depends on its result (see the cases below).
 -- rule: output-held-back
 abbrev pub HasFlushed : {X : Type 0} → (before after : Writers) → Result X RunFault → Type 0
 -- a run that completed has flushed everything
@@ -194,8 +191,7 @@ HasFlushed before after (Ok x) =
 -- before the read that failed, everything that the run had written was flushed
 HasFlushed before after (Err Read) =
     IsFlushed before.output after.output × IsFlushed before.errors after.errors
--- after other faults, the output need not have been flushed yet; `FlushesRest` states what happens
--- to it
+-- after any other fault, some output may still be unflushed (see `FlushesRest`)
 HasFlushed before after (Err fault) = Unit {0}
 
 -- Between the two states, a flush of the writer failed.
@@ -213,8 +209,8 @@ NoFlushFails before after =
     (after.output.flushes.failed ≡ before.output.flushes.failed)
     × (after.errors.flushes.failed ≡ before.errors.flushes.failed)
 
--- Either both writers were flushed (the output first), or a flush failed. The octets that the
--- writers have accepted are unchanged.
+-- Either both writers were flushed (the output first), or a flush failed. Neither writer accepted
+-- any more octets.
 pub record FlushesBoth {X : Type 0} (before after : Writers) (result : Result X RunFault) : Type 0
   where
     pub output : Keeps before.output.taken after.output.taken
@@ -227,14 +223,13 @@ pub record FlushesBoth {X : Type 0} (before after : Writers) (result : Result X 
     pub fault : IfErr result (λ fault. fault ≡ Write)
     pub counts : BlamesWriter before after result
 
--- If something had been written to the writer, it was then flushed. Otherwise, the writer is
--- unchanged.
+-- If something had been written to the writer, it was flushed; otherwise, it is unchanged.
 abbrev pub IsFlushedIf : (written : Bool) → (before after : Writer) → Type 0
 IsFlushedIf true before after = after.all_flushed ≡ true
 IsFlushedIf false before after = after ≡ before
 
--- If something had been written to the writer, it was then flushed, or the flush failed. Otherwise,
--- the writer is unchanged. In either case, the octets that the writer has accepted are unchanged.
+-- If something had been written to the writer, it was flushed or the flush failed; otherwise, it is
+-- unchanged. The writer accepted no more octets.
 pub record FlushesIf (written : Bool) (before after : Writer)
     (result : Result (Unit {0}) RunFault) : Type 0 where
   pub keeps : Keeps before.taken after.taken
@@ -245,7 +240,7 @@ pub record FlushesIf (written : Bool) (before after : Writer)
   pub counts : CountsCalls before after result
 
 -- Before a read, each writer with unflushed output was flushed (`output` first), or a flush failed.
--- If the read can neither block nor fail, both writers may be unchanged.
+-- If the read can neither block nor fail, the writers may instead be left unchanged.
 pub record FlushesWritten (waits : Bool) (unflushed unflushed' : Unflushed)
     (before after : Writers) (result : Result (Unit {0}) RunFault) : Type 0 where
   pub output : Keeps before.output.taken after.output.taken
@@ -260,7 +255,7 @@ pub record FlushesWritten (waits : Bool) (unflushed unflushed' : Unflushed)
   pub fault : IfErr result (λ fault. fault ≡ Write)
   pub counts : BlamesWriter before after result
 
--- the writers that need to be flushed once one more piece has been written
+-- which writers need to be flushed after one more piece has been written
 abbrev pub unflushed_after : Unflushed → Verdict → Unflushed
 unflushed_after unflushed Accepted = record unflushed { output = true }
 unflushed_after unflushed Refused = record unflushed { errors = true }
@@ -269,7 +264,7 @@ unflushed_after unflushed Refused = record unflushed { errors = true }
 abbrev pub ReadsFewer : (reads reads' : ℕ) → Type 0
 ReadsFewer reads reads' = (n : ℕ) × (n < max_reads) × (reads' ≡ counted reads n)
 
--- At most 2^32 reads were made, and exactly 2^32 reads if the result is `InputTooLong`.
+-- At most 2^32 reads were made (exactly 2^32 if the result is `InputTooLong`).
 -- rule: fault-72
 abbrev pub ReadsAtMost : {X : Type 0} → (reads reads' : ℕ) → Result X RunFault → Type 0
 ReadsAtMost reads reads' result =
@@ -296,40 +291,37 @@ pub record ReadsAndWrites (pieces : RunPieces) (from to : Input) (before after :
     pub at_end : ended ≡ true → IsAtEnd to.left
     pub written : WrittenInPart before after (read_pieces pieces ended octets)
 
--- If a fault line would stop the run, none of the given pieces is a fault line.
+-- The given pieces contain no fault line that stops the run.
 abbrev pub IsUnrefused : RunPieces → List Piece → Type 0
 IsUnrefused pieces given = pieces.stops ≡ true → count_by is_refused given ≡ 0
 
--- The run `so` ended with the given result, as described for each case below.
+-- The run ended with the given result (see the cases below).
 -- rule: input-not-read, fault-line-not-written, reader-gone, fault-70
 abbrev pub RunEnds : {pieces : RunPieces} → {from to : Input} → {before after : Writers}
     → ReadsAndWrites pieces from to before after → Result Tally RunFault → Type 0
 -- The run completed, either at the end of the input or after a fault line that stopped it. The
--- pieces for the whole input were written and counted. The unread part of the input, t, is empty if
--- the run reached the end of the input. Otherwise, t can be any list of octets, because unread
--- octets do not change the pieces.
+-- pieces for the whole input were written and counted; the unread octets (`t`) cannot add any.
 RunEnds {pieces} {from} {to} {before} {after} so (Ok tally) =
     (pieces.stops ≡ false → so.ended ≡ true) × IsAllWritten so.written
     × ((t : List ℕ) → (so.ended ≡ true → t ≡ [])
     → WritesWhole pieces before after tally (so.octets ++ t))
--- A write or a flush failed. A flush can fail only after the pieces for all the octets read so far
--- have been written.
+-- A write or a flush failed. If a flush failed, the pieces for all octets read so far had been
+-- written.
 RunEnds {pieces} {from} {to} {before} {after} so (Err Write) =
     FlushFails before.output after.output ⊎ FlushFails before.errors after.errors
     → IsAllWritten so.written
--- Memory ran out before a fault line stopped the run. If fault lines do not stop the run, the
--- memory was needed to write a piece (`next`), or fewer than 2^32 reads had been made. After 2^32
--- reads, the fault is `InputTooLong` instead.
+-- Memory ran out before a fault line stopped the run. If the run continues after fault lines,
+-- memory ran out either while a piece (`next`) was being written or after fewer than 2^32 reads.
 RunEnds {pieces} {from} {to} {before} {after} so (Err Memory) =
     IsUnrefused pieces so.written.given
     × (pieces.stops ≡ false → so.written.next ≡ None → ReadsFewer from.reads to.reads)
--- A read failed, or 2^32 reads, each of which returned at least one octet, did not reach the end of
--- the input. All certain pieces were written, and none of them is a fault line that stops the run.
+-- A read failed, or the input did not end within 2^32 reads of at least one octet each. All pieces
+-- that could be determined were written, and none of them is a fault line that stops the run.
 RunEnds {pieces} {from} {to} {before} {after} so (Err fault) =
     (so.ended ≡ false) × IsAllWritten so.written × IsUnrefused pieces so.written.given
     × (fault ≡ InputTooLong → max_reads ≤ length so.octets)
 
--- The effects of a run on its devices, given the pieces that its command writes.
+-- The effects of a run on its input and its writers, given the pieces of its command.
 pub record LeavesDevices (pieces : RunPieces) (from to : Input) (before after : Writers)
     (result : Result Tally RunFault) : Type 0 where
   -- what the run read and wrote
@@ -337,21 +329,20 @@ pub record LeavesDevices (pieces : RunPieces) (from to : Input) (before after : 
   -- what the result implies about the run
   pub ends : RunEnds ran result
   -- if the run completed and the whole input is known, the pieces for the whole input were written
-  -- and counted (`ran` and `ends` imply this condition)
+  -- and counted (this follows from `ran` and `ends`)
   pub whole : IfOk result (λ tally. IfSome from.left (WritesWhole pieces before after tally))
-  -- if flushing the error output failed, the output had already been flushed, because it is flushed
-  -- first
+  -- if a flush of the error output failed, the output was unchanged or had been flushed
   pub order : FlushFails before.errors after.errors → IsFlushed before.output after.output
   pub flushed : HasFlushed before after result
-  -- if the result is the fault `Read`, the input counted one failed read
+  -- if the result is the fault `Read`, one failed read was counted
   pub failures : to.failures ≡ read_failures_after from.failures result
   pub reads : ReadsAtMost from.reads to.reads result
   pub flushes : FlushesByRead from.reads to.reads before after
-  -- if the result is the fault `Write`, one of the writers counted a failure
+  -- if the result is the fault `Write`, exactly one of the writers failed
   pub writers : BlamesWriter before after result
 
--- The given octets were read. Either the end of the input was reached, or a fault other than
--- `Write` occurred.
+-- The given octets were read, either up to the end of the input or up to a fault other than
+-- `Write`.
 abbrev pub ReadsAll : (left left' : Option (List ℕ))
     → Result (Vec ℕ Global) RunFault → List ℕ → Type 0
 ReadsAll left left' (Ok octets) bs = Consumes left left' bs × IsAtEnd left' × (octets.items ≡ bs)

@@ -1,5 +1,5 @@
--- Only contracts need this file. The effects of one step of a run. Each step writes a piece or
--- reads octets. (own)
+-- Only contracts need this file. Defines the steps of a run, each of which either writes a piece or
+-- reads octets (not part of FM 94 BUFR).
 use Rattle.std.specs.Prelude.{ℕ, Bool, true, false, ◌≡◌, ◌≢◌, ◌+◌, ◌<◌, ◌≤◌, ◌^◌, max, List, [], ◌∷◌, ◌++◌, length, map, count_by, option_to_list, Option, None, Result, Ok, Err}
 use Rattle.std.specs.Io.KnownBytes.{Consumes, IsAtEnd}
 use Rattle.bufr_frame.specs.declared.fault.RunFault.{RunFault}
@@ -16,8 +16,8 @@ use Rattle.bufr_cli.specs.declared.outcome.Verdict.TheVariants.{Accepted, Refuse
 use Rattle.bufr_cli.specs.declared.run_pieces.RunStep.{RunStep}
 use Rattle.bufr_cli.specs.declared.run_pieces.RunStep.TheVariants as step
 
--- the number that a verdict adds to the count of accepted pieces; `counted_refused` (below) returns
--- the number that it adds to the count of rejected pieces
+-- the number (0 or 1) that a verdict adds to the count of accepted pieces; `counted_refused`
+-- (below) returns the number for rejected pieces
 abbrev pub counted_accepted : Verdict → ℕ
 counted_accepted Accepted = 1
 counted_accepted Refused = 0
@@ -55,14 +55,14 @@ StopsPiece takes_memory (Err InputTooLong) = ⊥
 StopsPiece takes_memory (Err Memory) = takes_memory ≡ true
 StopsPiece takes_memory result = Unit {0}
 
--- At most 2^32 reads were made. If writing a piece does not allocate memory, memory can run out
--- only if fewer were made.
+-- At most 2^32 reads were made, and fewer than that if memory ran out (unless writing a piece may
+-- also allocate memory).
 abbrev pub RunReads : {X : Type 0} → (takes_memory : Bool) → (reads reads' : ℕ)
     → Result X RunFault → Type 0
 RunReads false reads reads' result = MakesReads reads reads' result
 RunReads true reads reads' result = ReadsAtMost reads reads' result
 
--- the progress of a run: its input, the remaining input, the octets read, and the pieces written
+-- the whole input of a run, its unread part, the octets read so far, and the pieces written so far
 pub record Progress : Type 0 where
   pub from : Option (List ℕ)
   pub left : Option (List ℕ)
@@ -83,7 +83,7 @@ abbrev pub with_octets : Progress → List ℕ → (left : Option (List ℕ)) �
 with_octets p bs left =
     record { from = p.from; left = left; octets = p.octets ++ bs; pieces = p.pieces }
 
--- All certain pieces for the octets read so far have been written.
+-- All pieces that can be determined from the octets read so far have been written.
 pub record IsOpen (pieces : RunPieces) (p : Progress) : Type 0 where
   pub read : Consumes p.from p.left p.octets
   pub certain : pieces.certain p.octets ≡ p.pieces
@@ -99,7 +99,7 @@ pub record IsDone (pieces : RunPieces) (p : Progress) : Type 0 where
   pub certain : read_pieces pieces ended p.octets ≡ p.pieces
   pub whole : (t : List ℕ) → (ended ≡ true → t ≡ []) → pieces.whole (p.octets ++ t) ≡ p.pieces
 
--- A prefix of the next piece was written, or memory ran out before the next piece was determined.
+-- A prefix of the next piece was written, or memory ran out before the next piece was known.
 pub record IsCut (pieces : RunPieces) (p : Progress) (before after : Writers) : Type 0 where
   pub ended : Bool
   pub read : Consumes p.from p.left p.octets
@@ -111,8 +111,8 @@ pub record IsCut (pieces : RunPieces) (p : Progress) (before after : Writers) : 
   pub accepted : IsUnrefused pieces p.pieces
   pub some : pieces.stops ≡ false → next ≢ None
 
--- The step wrote the next piece, found that a read is needed first or that no more pieces follow,
--- or stopped at a fault before it had written the next piece completely.
+-- The step wrote the next piece, requested a read, found that no pieces were left, or failed before
+-- the piece was complete.
 abbrev pub TakesStep : RunPieces → (reaches : Progress → Type 0) → Progress
     → (before after : Writers) → Result RunStep RunFault → Type 0
 TakesStep pieces reaches p before after (Ok (step.Piece verdict)) =
@@ -131,8 +131,7 @@ ReadsOctets reaches p left (Ok u) = (bs : List ℕ) × reaches (with_octets p bs
 ReadsOctets reaches p left (Err fault) =
     Consumes p.left left [] × (fault ≡ InputTooLong → max_reads ≤ length p.octets)
 
--- One more read was made, a read failed, 2^32 reads had already been made, or memory ran out after
--- fewer reads.
+-- A read succeeded, a read failed, 2^32 reads had already been made, or memory ran out earlier.
 abbrev pub CountsRead : (before after : ℕ) → Result (Unit {0}) RunFault → Type 0
 CountsRead before after (Ok u) = after ≡ before + 1
 CountsRead before after (Err Read) = Unit {0}
@@ -142,7 +141,7 @@ CountsRead before after (Err Memory) = after < max_reads
 
 -- ---- The progress of a finder and of a document reader.
 
--- The pieces for all the events that a finder has moved past have been written.
+-- The pieces for all events found so far have been written.
 pub record WritesEvents (piece : StreamEvent → Piece) (s : FinderModel) (so : Progress) : Type 0
   where
     pub events : List StreamEvent
@@ -152,15 +151,15 @@ pub record WritesEvents (piece : StreamEvent → Piece) (s : FinderModel) (so : 
     pub few : length so.pieces ≤ s.at
     pub near : s.at < 2 ^ 63
 
--- No event in a finder's remaining octets is certain yet.
+-- More octets must be read before the next event can be determined.
 pub record NeedsOctets (s : FinderModel) : Type 0 where
   pub sound : s.fault ≡ None
   pub going : s.ended ≡ false
   pub few : length s.rest < max 4096 s.longest
   pub none : (at : ℕ) → NoEventCertain at s.rest
 
--- The pieces for the documents that a reader has returned have been written, and none of those
--- documents was rejected. Before the end of the input, each read returned at least one octet.
+-- The pieces for all documents read so far have been written, and no document was rejected. Before
+-- the end of the input, each read returned at least one octet.
 pub record WritesDocuments (piece : ParseResult → Piece) (s : ReaderModel) (so : Progress) : Type 0
   where
     pub results : List ParseResult
@@ -171,14 +170,14 @@ pub record WritesDocuments (piece : ParseResult → Piece) (s : ReaderModel) (so
     pub most : s.reads ≤ max_reads
     pub each : s.ended ≡ false → s.reads ≤ length so.octets
 
--- The pieces for the documents returned so far have been written, or the last document was rejected
--- and the run is done.
+-- Either the pieces for all documents read so far have been written, or the last document was
+-- rejected and the run has stopped.
 abbrev pub EncodesDocuments : Form → List Row → List Sequence → (last : Verdict) → ReaderModel
     → Progress → Type 0
 EncodesDocuments form b d Accepted s so = WritesDocuments (result_piece form b d) s so
 EncodesDocuments form b d Refused s so = IsDone (document_pieces form b d) so
 
--- No document has been rejected, and no complete line is buffered.
+-- More text must be read, because no document was rejected and no complete line is buffered.
 pub record NeedsText (last : Verdict) (s : ReaderModel) : Type 0 where
   pub accepted : last ≡ Accepted
   pub sound : s.fault ≡ None

@@ -1,4 +1,4 @@
-//! A buffered writer that does not call its sink again after a failure.
+//! A buffered writer that stops calling its sink after the first failure.
 ghost use Rattle.std.specs.Prelude.{◌≡◌, ◌≤◌, ◌<◌, ◌+◌, ◌-◌, min, ℕ, List, [], length, drop, false, Ok, IfOk, IsErr, OnOk, vec_len, vec_capacity};
 ghost use Rattle.std.specs.Io.KnownBytes.{Keeps, WriteAppends};
 ghost use Rattle.bufr_bits.specs.Device.{all_flushed_after_flush, all_flushed_after_write, counted, empty_writes_after, failures_after, flushes_after, whole_writes_after};
@@ -8,11 +8,11 @@ ghost use Rattle.bufr_cli.specs.Prelude.{CallsAtMost, CountsCall, StaysBounded, 
 use bufr_bits::{Failed, Sink};
 use std::alloc::{AllocError, Global};
 
-/// The size of the program's read and write buffers, in octets. Buffers of this size let one system
-/// call serve many reads by the finder or many lines of output.
+/// The size of the program's read and write buffers, in octets. A buffer of this size combines many
+/// small reads or writes into a single system call.
 pub const BUFFERED: usize = 65_536;
 
-/// A buffered writer that does not call its sink again after a failure.
+/// A buffered writer that stops calling its sink after the first failure.
 ///
 /// Once a call has failed, every later call fails immediately. After a successful flush, nothing is
 /// buffered. Dropping the writer discards any octets that are still buffered.
@@ -59,8 +59,8 @@ impl<S: Sink> Buffered<S> {
     }
 }
 
-/// Writes `octets` to `sink`, stopping if a write fails or accepts nothing. Returns the number of
-/// octets that were not accepted.
+/// Writes `octets` to `sink`, stopping if a write fails or returns 0. Returns the number of octets
+/// that were not written.
 #[tactic(auto, using(bufr_text::proofs::PushLemmas::write_steps))]
 fn write_out<S: Sink>(octets: &[u8], sink: &mut S) -> usize
     ensures moved { (rest : List ℕ) × (result ≡ length rest)
@@ -69,8 +69,7 @@ fn write_out<S: Sink>(octets: &[u8], sink: &mut S) -> usize
         (S.empty_writes sink.old) (S.empty_writes sink.new) }
     ensures cut { 0 < result → Fails (S.failures sink.old) (S.failures sink.new)
         (S.empty_writes sink.old) (S.empty_writes sink.new) }
-    // Each write is passed all the remaining octets, so at most one write accepts everything that
-    // it is passed.
+    // Each write passes all remaining octets to the sink, so at most one write is accepted in full.
     ensures few { S.whole_writes sink.new ≤ counted (S.whole_writes sink.old) 1 }
     ensures flushes { S.flushes sink.new ≡ S.flushes sink.old }
     ensures unflushed { result < length octets.now → S.all_flushed sink.new ≡ false }
@@ -88,7 +87,7 @@ fn write_out<S: Sink>(octets: &[u8], sink: &mut S) -> usize
     0
 }
 
-/// Removes all but the last `left` octets.
+/// Removes all elements of `octets` except the last `left`.
 fn remove_front(octets: &mut Vec<u8>, left: usize)
     requires { left ≤ vec_len octets.old }
     ensures items { octets.new.items ≡ drop (vec_len octets.old - left) octets.old.items }
@@ -165,8 +164,8 @@ impl<S: Sink> Buffered<S> {
         self.sink.flush()
     }
 
-    /// Implements [`Buffered::write`] for octets that cannot be buffered, and for calls after a
-    /// failure.
+    /// The slow path of [`Buffered::write`], for octets that do not fit in the buffer. Fails if an
+    /// earlier call failed.
     #[inline(never)]
     fn write_or_fail(&mut self, buf: &[u8]) -> Result<usize, Failed>
         ensures bound { IfOk result (λ n. n ≤ length buf.now) }
@@ -214,14 +213,14 @@ impl<S: Sink> Sink for Buffered<S> {
             result buf.now }
         ensures failed { self.new.failures ≡ failures_after self.old.failures result }
         // Before the first failure, octets that fit in the buffer are buffered, and the sink is not
-        // called. A nonempty write accepts at least one octet or fails.
+        // called. A nonempty write either fails or returns at least 1.
         ensures takes { self.old.failures ≡ 0
             → vec_len self.old.held + length buf.now
             ≤ min self.old.capacity (vec_capacity self.old.held)
             → (result ≡ Ok (length buf.now)) × (self.new.sink ≡ self.old.sink) }
-        // If the octets do not fit, at most two writes to the sink accept everything that they are
-        // passed: the write of the buffered octets, and the write of `buf`. If the result is less
-        // than the length of `buf`, the sink was passed all of `buf` and accepted only part of it.
+        // If the octets do not fit, at most two writes to the sink are accepted in full: the write
+        // of the buffered octets, and the write of `buf`. If the result is less than the length of
+        // `buf`, the sink was passed all of `buf` and accepted only part of it.
         ensures calls { CallsAtMost S.Sink 2 0 self.old.sink self.new.sink }
         ensures full { IfOk result (λ n. n < length buf.now
             → CallsAtMost S.Sink 1 0 self.old.sink self.new.sink) }
@@ -230,8 +229,8 @@ impl<S: Sink> Sink for Buffered<S> {
         ensures handed { flushed_by S.all_flushed self.new
             ≡ all_flushed_after_write (flushed_by S.all_flushed self.old) result }
         ensures bounded { StaysBounded self.old self.new }
-        // Before the first failure, a call fails if and only if a call to the sink fails or accepts
-        // nothing. After the first failure, the sink is not called.
+        // Before the first failure, a call fails if and only if a call to the sink fails or a
+        // nonempty write returns 0. After the first failure, the sink is not called.
         ensures counts { self.old.failures ≡ 0
             → CountsCall S.Sink self.old.sink self.new.sink result }
         ensures again { 0 < self.old.failures → IsErr result × (self.new.sink ≡ self.old.sink)
@@ -254,11 +253,10 @@ impl<S: Sink> Sink for Buffered<S> {
         ensures handed { flushed_by S.all_flushed self.new
             ≡ all_flushed_after_flush (flushed_by S.all_flushed self.old) result }
         ensures bounded { StaysBounded self.old self.new }
-        // At most one write to the sink accepts everything that it is passed, and the sink is
-        // flushed at most once.
+        // At most one write to the sink is accepted in full, and the sink is flushed at most once.
         ensures calls { CallsAtMost S.Sink 1 1 self.old.sink self.new.sink }
-        // Before the first failure, a call fails if and only if a call to the sink fails or accepts
-        // nothing. After the first failure, the sink is not called.
+        // Before the first failure, a call fails if and only if a call to the sink fails or a
+        // nonempty write returns 0. After the first failure, the sink is not called.
         ensures counts { self.old.failures ≡ 0
             → CountsCall S.Sink self.old.sink self.new.sink result }
         ensures again { 0 < self.old.failures → IsErr result × (self.new.sink ≡ self.old.sink)

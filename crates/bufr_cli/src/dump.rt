@@ -26,13 +26,13 @@ fn set_descriptors(list: &mut Vec<Fxy>, message: &Message<'_>) -> Result<(), All
     Ok(())
 }
 
-/// State that is reused from one message to the next, because consecutive messages often have the
-/// same descriptors.
+/// State that is reused between messages, because consecutive messages often have the same
+/// descriptors.
 #[derive(Drop)]
 struct DumpRun<'a> {
     templates: TemplateCache<'a>,
     memory: DumpMemory<'a>,
-    /// The descriptors of the last message.
+    /// The descriptors of the most recent message.
     descriptors: Vec<Fxy>,
 }
 
@@ -42,8 +42,8 @@ struct Expanded<'a, 'o> {
     template: &'a Template,
 }
 
-/// Writes the dump of a message to `w`, using the selected template. If the message is rejected,
-/// writes a fault line to `e` instead.
+/// Dumps a message to `w`, using the template selected in `run`. If the message is rejected, writes
+/// a fault line to `e` instead.
 // rule: refused-messages-write-nothing
 fn dump_selected<W: Sink, E: Sink>(
     offset: u64,
@@ -130,7 +130,7 @@ impl<'a> MessageWriter for DumpRun<'a> {
 ///
 /// Messages are dumped in stream order, each as soon as enough input has been read to identify it.
 /// For each stray `BUFR` and each rejected message, a fault line is written to `e`, and nothing is
-/// written to `w`. At the end, `w` is flushed, and then `e`.
+/// written to `w`. At the end, both writers are flushed (`w` first).
 ///
 /// Only the first fault in a message is reported. Sections are checked first, then descriptors
 /// ([`TemplateFault`]), and then data ([`WalkFault`]).
@@ -147,10 +147,10 @@ impl<'a> MessageWriter for DumpRun<'a> {
 ///
 /// # Errors
 ///
-/// [`RunFault::Read`] or [`RunFault::InputTooLong`] if [`bufr_frame::Finder::next`] would fail with
-/// that fault. In both cases, the output for all earlier events has been written.
-/// [`RunFault::Write`] if a writer fails or accepts nothing, and [`RunFault::Memory`] if memory
-/// runs out. In both cases, a prefix of the output has been written.
+/// [`RunFault::Read`] if a read fails, and [`RunFault::InputTooLong`] if the end of input is not
+/// reached within 2^32 reads. In either case, the output for all messages and strays found so far
+/// has been written. [`RunFault::Write`] if a writer fails or accepts no octets, and
+/// [`RunFault::Memory`] if memory runs out. In either case, the output may be truncated.
 pub fn run_dump<R: Source, W: Sink, E: Sink>(
     alloc: Global,
     r: &mut R,

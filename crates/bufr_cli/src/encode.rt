@@ -1,4 +1,4 @@
-//! The command `bufr encode`, which encodes the documents in dump text as messages.
+//! The command `bufr encode`, which encodes the documents in a dump as messages.
 ghost use Rattle.std.specs.Prelude.{◌≡◌, true};
 ghost use Rattle.bufr_text.specs.Prelude.{Complete};
 ghost use Rattle.bufr_text.specs.declared.encode.Form.TheVariants.{AsWritten};
@@ -14,15 +14,15 @@ use bufr_text::{Document, DocumentFault, DumpReader, Form, ReadFault, encode_by,
 use bufr_walk::{Steps, TemplateCache};
 use std::alloc::Global;
 
-/// The state of a run: the reader of the documents, the form in which to encode them, and the
-/// templates that are reused from one document to the next.
+/// The state of a run, including the document reader, the form of the messages, and a template
+/// cache.
 #[derive(Drop)]
 struct EncodeRun<'a> {
     alloc: Global,
     reader: DumpReader,
     form: Form,
     templates: TemplateCache<'a>,
-    /// The verdict on the last document. If that document was rejected, the run stops.
+    /// The verdict on the most recent document. The run stops if this document was rejected.
     last: Verdict,
 }
 
@@ -113,13 +113,11 @@ impl<'a> PieceWriter for EncodeRun<'a> {
     }
 }
 
-/// Encodes the documents in `r` as messages in the given form, using the given tables, and writes
-/// the messages to `w`.
+/// Encodes the documents in `r` using the given tables and form, and writes the messages to `w`.
 ///
 /// Documents are encoded in input order. Each message is written to `w` as soon as the `end` line
-/// of its document has been read. The run stops at the first invalid document: a fault line is
-/// written to `e`, and nothing is written to `w` for that document. At the end, `w` is flushed, and
-/// then `e`.
+/// of its document has been read. At the first invalid document, a fault line is written to `e`
+/// instead of a message, and the run stops. At the end, both writers are flushed (`w` first).
 ///
 /// ```
 /// let table_b = TableB::read(rt.alloc(), b"fxy,name,unit,scale,reference,width\n")?;
@@ -134,10 +132,10 @@ impl<'a> PieceWriter for EncodeRun<'a> {
 ///
 /// # Errors
 ///
-/// [`RunFault::Read`] or [`RunFault::InputTooLong`] if [`DumpReader::next_document`] would fail
-/// with that fault. In both cases, the messages for all complete documents have been written.
-/// [`RunFault::Write`] if a writer fails or accepts nothing, and [`RunFault::Memory`] if memory
-/// runs out. In both cases, a prefix of the output has been written.
+/// [`RunFault::Read`] if a read fails, and [`RunFault::InputTooLong`] if the end of input is not
+/// reached within 2^32 reads. In either case, the messages for all complete documents have been
+/// written. [`RunFault::Write`] if a writer fails or accepts no octets, and [`RunFault::Memory`] if
+/// memory runs out. In either case, the output may be truncated.
 pub fn run_encode_form<R: Source, W: Sink, E: Sink>(
     alloc: Global,
     r: &mut R,
@@ -163,8 +161,8 @@ pub fn run_encode_form<R: Source, W: Sink, E: Sink>(
     run_pieces(&mut run, r, w, e)
 }
 
-/// Encodes each document in `r` as a message in the form that the document specifies, using the
-/// given tables, and writes the messages to `w`.
+/// Encodes each document in `r` in the form that the document specifies, using the given tables,
+/// and writes the messages to `w`.
 ///
 /// This function is equivalent to [`run_encode_form`] with [`Form::AsWritten`].
 ///

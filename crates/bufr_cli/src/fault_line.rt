@@ -1,4 +1,5 @@
-//! Fault lines for strays and messages in a stream, and for lines and documents in dump text.
+//! Writes fault lines for stray `BUFR` words and rejected messages in a stream, and for invalid
+//! lines and documents in a dump.
 ghost use Rattle.std.specs.Prelude.{◌≡◌, [], ◌∷◌, ◌++◌, IfErr, codes, decimal};
 ghost use Rattle.bufr_frame.specs.Prelude.{cause_report, section_report};
 ghost use Rattle.bufr_tables.specs.Prelude.{fxy_text, template_report};
@@ -19,8 +20,8 @@ use bufr_walk::{Spot, WalkFault};
 /// reports a data fault and is 107 octets long.
 const LINE: usize = 112;
 
-/// The size, in octets, of the block in which the fault line for a stray is assembled. The longest
-/// such line is 44 octets long.
+/// The size, in octets, of the block in which the fault line for a stray `BUFR` is assembled. Such
+/// a line is at most 44 octets long.
 const STRAY_LINE: usize = 48;
 
 /// The reason why a message in a stream is rejected.
@@ -42,8 +43,7 @@ fn push_number<E: Sink>(line: &mut LineWriter<'_, '_, E>, number: u8)
     line.push(b" ");
 }
 
-/// Pushes the beginning of a fault line: a word, a position, and the fault number. The word states
-/// what kind of position follows.
+/// Pushes the start of a fault line (a word such as `line`, a position, and the fault number).
 #[inline(always)]
 // rule: stream-fault-line
 fn push_prefix<E: Sink>(line: &mut LineWriter<'_, '_, E>, word: &[u8], position: u64, number: u8)
@@ -114,7 +114,7 @@ fn push_template_fault<E: Sink>(line: &mut LineWriter<'_, '_, E>, fault: &Templa
     }
 }
 
-/// Pushes the name of a data fault and its position in the data.
+/// Pushes the name of a data fault, followed by its location (subset, descriptor and bit).
 // rule: stream-fault-place
 fn push_spot<E: Sink>(line: &mut LineWriter<'_, '_, E>, name: &[u8], spot: Spot)
     ensures { Pushes line.old (concat (spot_text name.now spot)) line.new }
@@ -203,8 +203,7 @@ pub(crate) fn write_fault<E: Sink>(
     outcome
 }
 
-/// Pushes a fault line that gives a line number, counted from 1, and the number and description of
-/// the fault.
+/// Pushes a fault line with a line number (counted from 1), the fault number and the description.
 fn push_line<E: Sink>(line: &mut LineWriter<'_, '_, E>, position: u64, number: u8, text: &[u8])
     ensures { Pushes line.old (document_line position (number, text.now ∷ [])) line.new }
 {
@@ -224,8 +223,7 @@ fn push_expected<E: Sink>(line: &mut LineWriter<'_, '_, E>, expected: Expected)
     }
 }
 
-/// Pushes the number of the fault that stopped the walk over the template, and the descriptor at
-/// which the walk stopped.
+/// Pushes the fault number of a failed template walk and the descriptor at which the walk failed.
 // rule: fault-62
 fn push_walk<E: Sink>(line: &mut LineWriter<'_, '_, E>, refusal: &WalkRefusal)
     ensures { Pushes line.old (concat (item_report (ItemFault.Walk refusal.now)).1) line.new }
@@ -271,13 +269,13 @@ fn push_document_fault<E: Sink>(line: &mut LineWriter<'_, '_, E>, fault: Documen
     }
 }
 
-/// Writes the fault line for a document that cannot be encoded. [`DocumentFault::Memory`] has no
-/// fault line.
+/// Writes the fault line for a document that cannot be encoded. Nothing is written for
+/// [`DocumentFault::Memory`].
 ///
 /// # Errors
 ///
-/// [`RunFault::Write`] if the writer fails or accepts nothing. In that case, a prefix of the line
-/// has been written.
+/// [`RunFault::Write`] if the writer fails or accepts no octets. In that case, the line may be
+/// truncated.
 // rule: fault-lines-of-encoding
 pub fn write_document_fault<E: Sink>(fault: DocumentFault, e: &mut E) -> Result<(), RunFault>
     ensures writes { Writes (E.taken e.old) (E.taken e.new) (refusal_line fault) result }
@@ -292,7 +290,7 @@ pub fn write_document_fault<E: Sink>(fault: DocumentFault, e: &mut E) -> Result<
     outcome
 }
 
-/// Returns the description of a fault in a line of dump text.
+/// Returns the description of a fault in a dump line.
 fn text_of(fault: TextLineFault) -> &'static [u8]
     ensures { result.now ∷ [] ≡ (line_report fault).1 }
 {
@@ -312,12 +310,12 @@ fn push_read_fault<E: Sink>(line: &mut LineWriter<'_, '_, E>, fault: ReadFault)
     }
 }
 
-/// Writes the fault line for an invalid line in dump text. [`ReadFault::Run`] has no fault line.
+/// Writes the fault line for an invalid line in a dump. Nothing is written for [`ReadFault::Run`].
 ///
 /// # Errors
 ///
-/// [`RunFault::Write`] if the writer fails or accepts nothing. In that case, a prefix of the line
-/// has been written.
+/// [`RunFault::Write`] if the writer fails or accepts no octets. In that case, the line may be
+/// truncated.
 // rule: fault-lines-of-reading
 pub fn write_read_fault<E: Sink>(fault: ReadFault, e: &mut E) -> Result<(), RunFault>
     ensures writes { Writes (E.taken e.old) (E.taken e.new) (line_of_read_fault fault) result }

@@ -34,7 +34,7 @@ pub enum Subcommand<'a> {
     Encode(TableNames<'a>, Form),
 }
 
-/// The task that a command line specifies.
+/// The subcommand and the input file that a command line specifies.
 #[derive(Clone, Copy, Debug)]
 pub struct Job<'a> {
     /// The subcommand.
@@ -43,14 +43,14 @@ pub struct Job<'a> {
     pub file: Option<&'a str>,
 }
 
-/// The reason why a command line does not specify a job.
+/// The reason why [`parse_line`] did not return a job.
 #[derive(Debug, Drop, thiserror::Error)]
 pub enum LineFault {
-    /// The command line requests help or the version. The variant contains the text to print on
+    /// The command line requests help or the version. This variant contains the text to print on
     /// standard output.
     #[error("help was asked for")]
     Help(String),
-    /// The command line is invalid. The variant contains the text to print on standard error.
+    /// The command line is invalid. This variant contains the text to print on standard error.
     #[error("the command line is not understood")]
     Usage(String),
     /// Memory ran out.
@@ -178,8 +178,7 @@ impl From<AllocError> for LineFault {
     }
 }
 
-/// Creates a command with the given name and description, and with `notes` at the end of its help
-/// text.
+/// Creates a command with the given name and description. Its help text ends with `notes`.
 fn named_command<'a>(
     alloc: Global,
     name: &'a str,
@@ -215,7 +214,7 @@ fn table_option<'a>(alloc: Global, id: &'a str, letter: char, help: &'a str) -> 
         .help(help)
 }
 
-/// Creates a command that takes two tables and an optional input file: `-B FILE -D FILE [FILE]`.
+/// Creates a command with the options and arguments `-B FILE -D FILE [FILE]`.
 fn command_with_tables<'a>(
     alloc: Global,
     name: &'a str,
@@ -309,9 +308,9 @@ fn form_of(found: &ArgMatches<'_>) -> Option<Form>
     }
 }
 
-/// The reason why arguments that clap accepted do not specify a job. In practice, clap itself
-/// rejects the first two cases, but the code must cover every case. The third case can occur,
-/// because clap does not check the name of the form.
+/// The reason why `bufr` rejects arguments that clap accepted. In practice, clap catches the first
+/// two cases, but the code must still handle them. The third case can occur because clap does not
+/// check the name of the form.
 #[derive(Clone, Copy, Debug, PartialEq, Eq)]
 enum NoJob {
     /// No subcommand has the given name.
@@ -336,7 +335,7 @@ impl NoJob {
     }
 }
 
-/// Returns the subcommand with the given name, together with its tables and its form.
+/// Returns the subcommand with the given name, along with its table files and its form, if any.
 fn command_of<'a>(name: &str, found: &ArgMatches<'a>) -> Result<Subcommand<'a>, NoJob>
     ensures name { IfOk result (λ command. name.now ≡ name_of command) }
     ensures tables { IfOk result (HasTables (rows_of (found_of found.now))) }
@@ -374,7 +373,7 @@ fn command_of<'a>(name: &str, found: &ArgMatches<'a>) -> Result<Subcommand<'a>, 
 /// # Errors
 ///
 /// [`LineFault::Help`] if help or the version is requested. [`LineFault::Usage`] if clap rejects
-/// the words, if the subcommand or a table is missing, or if the form is unknown.
+/// the command line, if the subcommand or a table is missing, or if the form is unknown.
 /// [`LineFault::Memory`] if memory runs out.
 // rule: help, usage
 pub fn parse_line<'a, S: AsStr>(alloc: Global, words: &'a [S]) -> Result<Job<'a>, LineFault>

@@ -19,18 +19,17 @@ use std::alloc::Global;
 
 /// Law: dumps round-trip.
 ///
-/// For any stream of octets and any tables that can be read, `encode` accepts the whole output of
-/// `dump`. Reading a message that `encode` builds gives the same result as reading the original
-/// message. No message is longer than the original, except that an edition 3 message can grow by up
-/// to two octets if its section 3 or section 4 has an odd length. Dumping the new messages gives
+/// For any stream of octets and any valid tables, `encode` accepts the entire output of `dump`.
+/// Reading an encoded message gives the same result as reading the original message. No encoded
+/// message is longer than the original message, except that an edition 3 message can grow by up to
+/// two octets if its section 3 or section 4 has an odd length. Dumping the encoded messages gives
 /// the same text, octet for octet.
 ///
-/// If all accepted messages are canonical, `encode` rebuilds them from the dump, octet for octet. A
-/// canonical message is one that an encoder would write: reserved bits and octets are zero, nothing
-/// follows the descriptors, and no redefined reference value is written as minus zero. In
-/// compressed data, each item is packed as `encode` would pack it. The data occupy as few octets as
-/// possible (in edition 3, the fewest octets that make the length of section 4 even), and the
-/// unused bits at the end of the data are zero.
+/// If all accepted messages are canonical, `encode` rebuilds them from the dump, octet for octet.
+/// In a canonical message, all reserved bits and octets are zero, sections 3 and 4 are as short as
+/// possible (in edition 3, their lengths must also be even), and no redefined reference value is
+/// stored as minus zero. Compressed items are packed as `encode` would pack them. Any padding in
+/// section 3 and any unused bits at the end of section 4 are zero.
 // rule: encode-may-grow
 pub fn dumped_streams_are_built_again()
     ensures { (records : List Record) (table_b : List Row) (table_d : List Sequence)
@@ -40,13 +39,13 @@ pub fn dumped_streams_are_built_again()
         → rebuilt table_b table_d s ≡ concat (accepted_messages table_b table_d s)) }
 {}
 
-/// Law: three runs of the program complete a round trip.
+/// Law: after `dump` and `encode`, a second `dump` writes the same text as the first.
 ///
-/// Suppose that `dump`, `encode` and a second `dump` complete with the same tables, and that each
-/// run after the first reads the output of the previous one. Then the two dumps are identical, and
-/// only the first run can have rejected anything. Reading an encoded message gives the same result
-/// as reading the original message. If all the dumped messages are canonical, the encoded messages
-/// are identical to them, octet for octet.
+/// Suppose that `dump`, `encode` and a second `dump` run to completion with the same tables, and
+/// that each run after the first reads the output of the previous one. Then the two dumps are
+/// identical, and only the first run can have rejected anything. Reading an encoded message gives
+/// the same result as reading the original message. If all the dumped messages are canonical, the
+/// encoded messages are identical to them.
 pub fn runs_close_the_round()
     ensures { (records : List Record) (table_b : List Row) (table_d : List Sequence)
         (stream : List ℕ) (text messages again : Written) (e e' : Option (List ℕ))
@@ -60,26 +59,26 @@ pub fn runs_close_the_round()
         → IsWholeRound table_b table_d stream text messages again }
 {}
 
-/// Law: encoding dump text and dumping the result gives the same text in its normal spelling.
+/// Law: encoding a text and dumping the messages gives the same text in its normal spelling.
 ///
-/// For any text, any form, and any tables that can be read, the messages that `encode` builds can
-/// be dumped without a fault. The dump consists of the documents before the first rejected document
-/// or invalid line. Each dumped document is in its normal spelling, which is the spelling that
-/// `dump` uses. Encoding the dump gives the same messages again, octet for octet.
+/// For any text, any form and any valid tables, `dump` reports no faults in the output of `encode`.
+/// The dump consists of the documents before the first rejected document or invalid line, in their
+/// normal spelling (the one that `dump` uses). Encoding the dump gives the same messages again,
+/// octet for octet.
 pub fn encoded_texts_are_dumped_in_one_spelling()
     ensures { (form : Form) (records : List Record) (table_b : List Row) (table_d : List Sequence)
         (text : List ℕ) → AreRows records table_b
         → IsDumpedInOneSpelling form table_b table_d text }
 {}
 
-/// The output of an in-memory run, together with the counts for that run.
+/// The output and the counts of an in-memory run.
 #[derive(Drop)]
 pub struct RunInMemory {
-    /// The output.
+    /// The text or the messages that the run wrote.
     pub output: ScriptOut,
     /// The fault lines.
     pub errors: ScriptOut,
-    /// The number of pieces written to `output`, and the number written to `errors`.
+    /// The number of accepted messages or documents, and the number of fault lines.
     pub tally: Tally,
 }
 

@@ -1,7 +1,6 @@
-//! The program `bufr` as a library that works with any inputs and writers: the command line, the
-//! subcommands, and the last line, which reports why a run did not complete. The function [`run`]
-//! combines all parts of the library. The program `bufr` calls [`run`] with its own [`Inputs`] and
-//! with [`Buffered`] writers.
+//! The program `bufr` as a library that works with any inputs and writers. The function [`run`]
+//! parses the command line, runs the subcommand, and reports any error that stops the run. The
+//! program `bufr` calls [`run`] with its own [`Inputs`] and with [`Buffered`] writers.
 #![tactic(auto)]
 
 mod buffered;

@@ -11,7 +11,7 @@ use bufr_frame::{Message, RunFault};
 use bufr_text::write_ls;
 use std::alloc::Global;
 
-/// The message writer for `bufr ls`, which writes one line per message.
+/// A message writer that writes one line per message.
 #[derive(Drop)]
 struct LsRun;
 
@@ -44,12 +44,11 @@ impl MessageWriter for LsRun {
     }
 }
 
-/// Lists the messages in `r`, one per line.
+/// Lists the messages in `r`, writing one line to `w` for each message.
 ///
 /// Messages are listed in stream order, each as soon as enough input has been read to identify it.
-/// The line for a message is written to `w`. For each stray `BUFR`, and for each message that
-/// cannot be split into its sections, a fault line is written to `e` instead. At the end, `w` is
-/// flushed, and then `e`.
+/// For each stray `BUFR`, and for each message that cannot be split into its sections, a fault line
+/// is written to `e` instead. At the end, both writers are flushed (`w` first).
 ///
 /// ```
 /// let mut r = Device::new(b"BUFR".as_slice());
@@ -61,10 +60,10 @@ impl MessageWriter for LsRun {
 ///
 /// # Errors
 ///
-/// [`RunFault::Read`], [`RunFault::InputTooLong`] or [`RunFault::Memory`] if [`Finder::next`] would
-/// fail with that fault. In each case, the lines for all earlier events have been written.
-/// [`RunFault::Write`] if a writer fails or accepts nothing. In that case, a prefix of the output
-/// has been written.
+/// [`RunFault::Read`] if a read fails, [`RunFault::InputTooLong`] if the end of input is not
+/// reached within 2^32 reads, and [`RunFault::Memory`] if memory runs out. In each case, the lines
+/// for all messages and strays found so far have been written. [`RunFault::Write`] if a writer
+/// fails or accepts no octets. In that case, the output may be truncated.
 // rule: input-without-bufr
 pub fn run_ls<R: Source, W: Sink, E: Sink>(
     alloc: Global,

@@ -1,4 +1,4 @@
-//! The end of a run: the counts, the last line of the error output, and the exit status.
+//! The outcome of a run, including its counts, exit status and last line of error output.
 ghost use Rattle.std.specs.Prelude.{◌≡◌, ◌<◌, ◌-◌, ◌^◌, ◌∷◌, [], codes, decimal, ◌+◌};
 ghost use Rattle.std.specs.Io.KnownBytes.{Appends};
 ghost use Rattle.bufr_text.specs.Prelude.{Pushes, GrowsByPrefix};
@@ -10,8 +10,8 @@ use bufr_frame::RunFault;
 use bufr_tables::TableFault;
 use bufr_text::LineWriter;
 
-/// The size, in octets, of the block in which a line is assembled. A longer line needs several
-/// writes.
+/// The size, in octets, of the block in which a line is assembled. A longer line is written in
+/// several parts.
 const LINE: usize = 320;
 
 /// The outcome of running the program.
@@ -19,15 +19,15 @@ const LINE: usize = 320;
 pub enum Outcome<'a> {
     /// The run completed.
     Ran(Tally),
-    /// The command line is invalid. The variant contains the text that explains why.
+    /// The command line is invalid. This variant contains the error message.
     Usage(&'a str),
     /// The file with the given name cannot be opened.
     CannotOpen(&'a str),
-    /// Table B cannot be read.
+    /// Reading Table B failed with the given fault.
     TableB(TableFault),
-    /// Table D cannot be read.
+    /// Reading Table D failed with the given fault.
     TableD(TableFault),
-    /// The given fault stopped the run.
+    /// The run stopped because of the given fault.
     Run(RunFault),
 }
 
@@ -93,8 +93,7 @@ fn push_table_fault<E: Sink>(line: &mut LineWriter<'_, '_, E>, table: &[u8], fau
     }
 }
 
-/// Pushes the last line of the error output: the usage text, or the reason why the run did not
-/// complete. Pushes nothing if the run completed.
+/// Pushes the usage error or the reason why the run did not complete, or nothing if it completed.
 // rule: status-of-usage, status-of-open
 fn push_last<E: Sink>(line: &mut LineWriter<'_, '_, E>, outcome: &Outcome<'_>)
     ensures { Pushes line.old (last_line outcome.now) line.new }
@@ -115,14 +114,14 @@ fn push_last<E: Sink>(line: &mut LineWriter<'_, '_, E>, outcome: &Outcome<'_>)
 
 /// Writes the last line of the error output to `e`, and returns the exit status.
 ///
-/// The last line is the usage text or the reason why the run did not complete. If the run
-/// completed, nothing is written. The exit status is 0 if nothing was rejected, 1 if something was
+/// The last line is the usage error or the reason why the run did not complete. If the run
+/// completed, nothing is written. The exit status is 0 if nothing was rejected, 1 if anything was
 /// rejected, and 2 if the run did not complete. A failed write does not change the exit status.
 /// This function does not allocate.
 pub fn finish<E: Sink>(outcome: &Outcome<'_>, e: &mut E) -> u8
     ensures status { result ≡ status_of outcome.now }
-    // A prefix of the line is written. The whole line is written if no call to the writer fails or
-    // accepts nothing.
+    // A prefix of the line is written. The whole line is written if no call to the writer fails and
+    // no nonempty write returns 0.
     ensures prefix { GrowsByPrefix (E.taken e.old) (E.taken e.new) (last_line outcome.now) }
     ensures whole { E.failures e.old < 2 ^ 64 - 1 → E.empty_writes e.old < 2 ^ 64 - 1
         → HasNotFailed (writer_of E.Sink e.old) (writer_of E.Sink e.new)
@@ -142,19 +141,18 @@ pub fn finish<E: Sink>(outcome: &Outcome<'_>, e: &mut E) -> u8
 pub enum Verdict {
     /// The message or document was accepted, and the result was written to the output.
     Accepted,
-    /// The message, document or stray was rejected, and its fault line was written to the error
-    /// output.
+    /// The message, document or stray `BUFR` was rejected, and its fault line was written to the
+    /// error output.
     Refused,
 }
 
-/// The counts of a run: how many messages or documents were accepted, and how many strays, messages
-/// and documents were rejected.
+/// The number of messages or documents that a run accepted, and the number of fault lines that it
+/// wrote.
 #[derive(Clone, Copy, Debug, PartialEq, Eq)]
 pub struct Tally {
     /// The number of accepted messages or documents.
     pub accepted: u64,
-    /// The number of fault lines that were written to the error output, including the fault lines
-    /// for strays.
+    /// The number of fault lines that were written to the error output, including those for strays.
     pub refused: u64,
 }
 

@@ -1,5 +1,4 @@
-//! The program without its `main` function: [`run`] executes a command line with the given inputs
-//! and writers.
+//! Executes a command line with the given inputs and writers. The entry point is [`run`].
 ghost use Rattle.std.specs.Prelude.{◌≡◌, ◌⊎◌, ◌≤◌, ◌+◌, ◌*◌, ℕ, true, List, Option, None, [], ◌∷◌, Ok, IfOk, IfErr, IfSome, OnOk, length, map};
 ghost use Rattle.bufr_bits.specs.Prelude.{counted};
 ghost use Rattle.bufr_frame.specs.Prelude.{read_failures_after, MakesReads};
@@ -22,7 +21,7 @@ use std::alloc::{AllocError, Global};
 use std::convert::AsStr;
 use thiserror::Error;
 
-/// The reason why a file was not opened.
+/// The reason why opening a file failed.
 #[derive(Clone, Copy, Debug, PartialEq, Eq, Error)]
 pub enum OpenFault {
     /// The file cannot be opened.
@@ -33,7 +32,7 @@ pub enum OpenFault {
     Memory,
 }
 
-/// The inputs of the program. Each input counts its reads, so that contracts can state which read
+/// The inputs of the program. Each input counts its reads so that contracts can specify which read
 /// failed.
 pub trait Inputs {
     /// The type of the reader for standard input.
@@ -45,16 +44,15 @@ pub trait Inputs {
     /// The octets of standard input, if they are known.
     ghost standard_octets: { Self → Option (List ℕ) };
 
-    /// The octets of the file with the given name, if they are known. In that case, the file can be
-    /// opened.
+    /// The octets of the file with the given name, if they are known. If the octets of a file are
+    /// known, the file can be opened.
     ghost file_octets: { Self → List ℕ → Option (List ℕ) };
 
-    /// The inputs that have been opened so far, in order, if they are known. Failed attempts to
-    /// open an input are included.
+    /// The inputs that the program has opened or tried to open so far, in order, if they are known.
     ghost opened: { Self → Option (List InputName) } = { λ _. None };
 
-    /// Opens standard input. The program opens standard input after all files, so no clause states
-    /// what is known about files afterwards.
+    /// Opens standard input. After this call, the contract no longer covers files, because the
+    /// program opens standard input last.
     ///
     /// # Errors
     ///
@@ -104,10 +102,10 @@ pub fn read_all<R: Source>(alloc: Global, r: &mut R) -> Result<Vec<u8>, RunFault
 /// Executes a command line and returns the exit status. The first word of the command line is the
 /// name of the program.
 ///
-/// The exit status is 0 if help or the version was written to `w`. Otherwise, `status_of`
-/// (specs/Ending) defines the exit status. `dump` and `encode` open Table B first, then Table D if
-/// Table B is valid, and then the input if both tables are valid. `ls` opens only the input. Each
-/// table and each input is opened at most once.
+/// The exit status is 0 if nothing was rejected (or if help or the version was written to `w`), 1
+/// if anything was rejected, and 2 if the program could not complete its task. `dump` and `encode`
+/// open Table B first, then Table D if Table B is valid, and then the input if both tables are
+/// valid. `ls` opens only the input. Each table and each input is opened at most once.
 pub fn run<'a, S: AsStr, I: Inputs, W: Sink, E: Sink>(
     alloc: Global,
     words: &'a [S],
@@ -156,7 +154,7 @@ struct Call<'a> {
     file: Option<&'a str>,
 }
 
-/// Opens the inputs of a job, starting with the tables, and runs the job.
+/// Reads the tables that a job needs, opens its input, and then runs the job.
 // rule: tables-before-input
 fn run_job<'a, I: Inputs, W: Sink, E: Sink>(
     alloc: Global,
@@ -233,7 +231,7 @@ fn read_file<'a, I: Inputs>(
     }
 }
 
-/// The two tables, Table B and Table D, that a command uses.
+/// The tables (Table B and Table D) that a command uses.
 #[derive(Drop)]
 struct Tables {
     table_b: TableB,
@@ -285,7 +283,7 @@ fn outcome_of<'a>(ran: Result<Tally, RunFault>) -> Outcome<'a>
     }
 }
 
-/// A command, together with the tables that it needs.
+/// A command and the tables that it needs.
 #[derive(Drop)]
 enum Command<'t> {
     /// Lists the messages in an input.

@@ -1,4 +1,5 @@
-//! The loop over the events in a stream, for any message writer.
+//! The loop that passes each message in a stream to a message writer and reports stray `BUFR`
+//! words.
 ghost use Rattle.std.specs.Prelude.{◌≡◌, ◌≤◌, ℕ, Bool, length};
 ghost use Rattle.bufr_frame.specs.Prelude.{StreamEvent, FrameAt, StrayAt, cause_report};
 ghost use Rattle.bufr_frame.specs.declared.fault.Cause.{Cause};
@@ -11,26 +12,26 @@ use bufr_bits::{Sink, Source};
 use bufr_frame::{Event, Finder, RunFault};
 use std::alloc::Global;
 
-/// A type that writes the output for the messages in a stream. The run itself writes the fault
-/// lines for strays.
+/// A type that writes the output for the messages in a stream. The fault lines for stray `BUFR`
+/// words are written by `run_events`.
 pub trait MessageWriter {
-    /// The piece of output that is written for an event.
+    /// The output for a message or a stray `BUFR`.
     ghost piece: { Self → StreamEvent → Piece };
 
     /// Whether writing a message may allocate memory.
     ghost takes_memory: { Self → Bool };
 
-    /// The piece for a stray `BUFR` is its fault line.
+    /// The output for a stray `BUFR` is its fault line.
     ghost strays: { (s : Self) (offset : ℕ) (cause : Cause)
         → piece s (StrayAt offset cause) ≡ OnErrors (fault_line offset (cause_report cause)) };
 
-    /// Writes the piece for the message in `octets`, which begins at `offset` in the stream. The
-    /// returned verdict indicates which writer received the piece.
+    /// Writes the output for the message in `octets`, which begins at `offset` in the stream. The
+    /// verdict indicates whether the output was written to `w` (accepted) or to `e` (rejected).
     ///
     /// # Errors
     ///
-    /// [`RunFault::Write`] if a writer fails or accepts nothing, and [`RunFault::Memory`] if memory
-    /// runs out. In both cases, a prefix of the piece has been written.
+    /// [`RunFault::Write`] if a writer fails or accepts no octets, and [`RunFault::Memory`] if
+    /// memory runs out. In either case, the output for the message may be truncated.
     fn write_message<W: Sink, E: Sink>(
         &mut self,
         offset: u64,
@@ -51,7 +52,7 @@ pub trait MessageWriter {
         ensures errors_flushes { E.flushes e.new ≡ E.flushes e.old };
 }
 
-/// The state of a run over events: the event finder and the message writer.
+/// The finder and the message writer that a run uses.
 #[derive(Drop)]
 struct EventRun<T> {
     finder: Finder,
@@ -91,8 +92,8 @@ impl<T: MessageWriter> PieceWriter for EventRun<T> {
     }
 }
 
-/// Writes the piece for each event in `r` as soon as enough input has been read to determine that
-/// event.
+/// Writes the output for each message or stray `BUFR` in `r` as soon as enough input has been read
+/// to identify it.
 pub(crate) fn run_events<T: MessageWriter + Drop, R: Source, W: Sink, E: Sink>(
     alloc: Global,
     writer: T,

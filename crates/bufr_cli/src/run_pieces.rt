@@ -1,4 +1,4 @@
-//! The main loop of a run, which writes the output piece by piece.
+//! The main loop of a run, which writes the output one piece at a time.
 ghost use Rattle.std.specs.Prelude.{◌≡◌, ◌≢◌, ◌≤◌, ℕ, Bool, true, false, Ok, Err, OnOk, IfErr};
 ghost use Rattle.std.specs.Io.KnownBytes.{Keeps};
 ghost use Rattle.bufr_bits.specs.Prelude.{counted};
@@ -12,17 +12,17 @@ use bufr_frame::RunFault;
 /// The result of one step of a run.
 #[derive(Clone, Copy)]
 pub enum RunStep {
-    /// A piece was written.
+    /// A piece of output was written.
     Piece(Verdict),
     /// A read is needed before the next step.
     Read,
-    /// No more pieces follow.
+    /// There are no more pieces to write.
     End,
 }
 
 /// A type that writes the output for an input, one piece at a time.
 pub trait PieceWriter {
-    /// The pieces of output for an input.
+    /// The pieces of output to write for an input.
     ghost pieces: { Self → RunPieces };
 
     /// Whether writing a piece may allocate memory.
@@ -31,7 +31,7 @@ pub trait PieceWriter {
     /// The number of reads made so far.
     ghost reads: { Self → ℕ };
 
-    /// Whether the run has made the given progress.
+    /// Whether the given `Progress` describes the input read and the output written so far.
     ghost reaches: { Self → Progress → Type 0 };
 
     /// Whether a read is needed before the next piece can be written.
@@ -41,8 +41,8 @@ pub trait PieceWriter {
     ///
     /// # Errors
     ///
-    /// [`RunFault::Write`] if a writer fails or accepts nothing, and [`RunFault::Memory`] if memory
-    /// runs out. In both cases, a prefix of the piece has been written.
+    /// [`RunFault::Write`] if a writer fails or accepts no octets, and [`RunFault::Memory`] if
+    /// memory runs out. In either case, the piece may be truncated.
     fn write_next<W: Sink, E: Sink>(&mut self, w: &mut W, e: &mut E) -> Result<RunStep, RunFault>
         requires begun { (so : Progress) × reaches self.old so }
         ensures next { (so : Progress) → reaches self.old so
@@ -58,13 +58,14 @@ pub trait PieceWriter {
         ensures output_flushes { W.flushes w.new ≡ W.flushes w.old }
         ensures errors_flushes { E.flushes e.new ≡ E.flushes e.old };
 
-    /// Reads once from `r`, which must be the same input in every call. This function must be
-    /// called only if a read is needed.
+    /// Reads once from `r`, which must be the same input in every call. Call this function only if
+    /// a read is needed.
     ///
     /// # Errors
     ///
     /// [`RunFault::Read`] if the read fails, [`RunFault::InputTooLong`] if 2^32 reads have already
-    /// been made, and [`RunFault::Memory`] if memory runs out. In each case, no octets were read.
+    /// been made, and [`RunFault::Memory`] if memory runs out. If this function fails, it has read
+    /// no octets.
     fn read_more<R: Source>(&mut self, r: &mut R) -> Result<(), RunFault>
         requires { needs_read self.old }
         ensures reads_on { (so : Progress) → so.left ≡ R.left r.old → reaches self.old so
@@ -102,7 +103,7 @@ fn hand_on<W: Sink, E: Sink>(w: &mut W, e: &mut E) -> Result<(), RunFault>
     flush(e)
 }
 
-/// Records which writers the run has written to since their last flush, or since the run began.
+/// Records which writers still have unflushed output from this run.
 #[derive(Clone, Copy)]
 pub(crate) struct Unflushed {
     output: bool,
@@ -152,9 +153,9 @@ fn hand_on_before_read<R: Source, W: Sink, E: Sink>(
     Ok(())
 }
 
-/// Writes each piece for `r` as soon as enough input has been read to determine it. Before a read
-/// that may block, flushes each writer that has been written to since its last flush. At the end,
-/// flushes both writers.
+/// Writes each piece of output as soon as enough input has been read from `r` to determine it.
+/// Before a read that may block, flushes each writer that has been written to since its last flush.
+/// At the end, flushes both writers.
 // rule: output-in-order, fault-line-not-written, input-not-read, reader-gone
 pub(crate) fn run_pieces<P: PieceWriter, R: Source, W: Sink, E: Sink>(
     next: &mut P,

@@ -1,4 +1,4 @@
--- The items of a dump, the field contents that they specify, and the faults in them (own).
+-- The items of a dump, the contents of their fields, and the faults in items (our choice).
 -- Cited by public contracts.
 use Rattle.std.specs.Prelude.{ℕ, List, [], ◌∷◌, Bool, true, false, ◌-◌, ◌/◌, ◌^◌, ◌==◌, ◌&&◌, nat_lt, not, if◌then◌else◌, ◌++◌, length, replicate, ℤ, pos, negsuc, nat_abs, ◌+ℤ◌, ◌-ℤ◌, Result, Ok, Err, ◌≡◌, ◌≤◌, ◌<◌, unsigned_abs, map, slice_range, codes, decimal, Option, Some, None, IfSome}
 pub use Rattle.bufr_walk.specs.declared.spec.TurnRefusal.{TurnRefusal}
@@ -29,8 +29,8 @@ use Rattle.bufr_fill.specs.declared.draft.DraftValue as given
 use Rattle.bufr_fill.specs.declared.draft.DraftValue.TheVariants as item_value
 use Rattle.bufr_fill.specs.declared.draft.DraftItem.{DraftItem}
 
--- the value on an item's line: a number (digits, `-` and `.`), a string, `MISSING`, or a redefined
--- reference value; numbers and reference values are represented by their characters
+-- the value on an item's line, which is a number (digits, `-` and `.`), a string, `MISSING`, or a
+-- redefined reference value; numbers and reference values are stored as characters
 pub data DraftValue : Type 0 where
   number_token : (digits : List ℕ) → DraftValue
   text_form : (octets : List ℕ) → DraftValue
@@ -61,13 +61,13 @@ pub record Subset : Type 0 where
 abbrev pub subset : List Draft → ℕ → Subset
 subset items end_line = record { items = items; end_line = end_line }
 
--- the subsets after an item is inserted at the beginning of the first one; if there are no subsets,
--- the item is dropped, because it is not followed by the end of a subset
+-- the subsets, with an item added at the start of the first one; if there are no subsets, the item
+-- is dropped because its own subset is incomplete
 abbrev pub prepend_to_subset : Draft → List Subset → List Subset
 prepend_to_subset item [] = []
 prepend_to_subset item (s ∷ subsets) = record s { items = item ∷ s.items } ∷ subsets
 
--- the subsets formed by the entries of a document
+-- the subsets of the document that has the given entries
 abbrev pub subsets_of : List DraftEntry → List Subset
 subsets_of [] = []
 subsets_of (Holds item ∷ more) = prepend_to_subset item (subsets_of more)
@@ -76,20 +76,20 @@ subsets_of (Ends line ∷ more) = record { items = []; end_line = line } ∷ sub
 abbrev pub at_line : ℕ → ItemFault → DraftFault
 at_line line fault = draft_fault.Item line fault
 
--- the fault caused by an item after the last field of its subset
+-- the fault in an item that follows the last field of its subset
 abbrev pub item_too_many : ItemFault
 item_too_many = item_fault.WrongDescriptor expected.EndOfSubset
 
--- the fault caused by an item at which the walk refuses a step
+-- the fault that is reported if the walk rejects a descriptor
 abbrev pub walk_refused : TurnRefusal → ItemFault
 walk_refused (refusal.Width fxy) = item_fault.Walk (walk_refusal.Width fxy)
 walk_refused (refusal.Defining fxy) = item_fault.Walk (walk_refusal.Defining fxy)
 
--- the fault caused by an item that would give compressed data too many values
+-- the fault in an item that would exceed the maximum number of values in compressed data
 abbrev pub too_many_values : (fxy : ℕ) → ItemFault
 too_many_values fxy = item_fault.Walk (walk_refusal.TooManyValues fxy)
 
--- the fault number that `dump` reports for a refusal, and the rejected descriptor
+-- the fault number that `dump` would report for the same problem, and the rejected descriptor
 abbrev pub refusal_parts : WalkRefusal → ℕ × ℕ
 refusal_parts (walk_refusal.Width fxy) = (31, fxy)
 refusal_parts (walk_refusal.Defining fxy) = (32, fxy)
@@ -102,10 +102,10 @@ expected_text expected.EndOfSubset = codes "end of subset" ∷ []
 
 -- the number and the description of a fault in an item
 abbrev pub item_report : ItemFault → ℕ × List (List ℕ)
--- The item is not the expected one.
+-- An item is unexpected or missing.
 item_report (item_fault.WrongDescriptor e) = (51, codes "expected " ∷ expected_text e)
--- The value is not a decimal number, is not an integer when scaled, or is of the wrong kind for the
--- field.
+-- The value is not a decimal number, is not an integer after scaling, or does not match the field's
+-- kind.
 item_report item_fault.Number = (52, codes "number" ∷ [])
 -- The number does not fit in the field, or the value would be read as missing.
 item_report item_fault.OutOfRange = (53, codes "out of range" ∷ [])
@@ -118,13 +118,13 @@ item_report item_fault.UnequalFactor = (58, codes "unequal factor" ∷ [])
 -- A redefined reference value differs between subsets, or a string would need an increment of more
 -- than 63 octets.
 item_report item_fault.Increment = (59, codes "increment" ∷ [])
--- The walk refuses the item.
+-- The encoded message would have fault 31, 32 or 35 at the given descriptor.
 item_report (item_fault.Walk why) =
     let refused = refusal_parts why in
     (62, codes "walk " ∷ decimal refused.0 ∷ codes " descriptor " ∷ fxy_text refused.1 ∷ [])
 
--- the number of a fault: 73 if memory ran out, the number that `dump` reports if the walk refused
--- the item, or otherwise the number of the item's fault
+-- the number of a fault (73 if memory ran out); instead of 62, it is the number that `dump` would
+-- report (31, 32 or 35)
 abbrev pub number_of_draft_fault : DraftFault → ℕ
 number_of_draft_fault (draft_fault.Item line (item_fault.Walk why)) = (refusal_parts why).0
 number_of_draft_fault (draft_fault.Item line fault) = (item_report fault).0
@@ -135,15 +135,15 @@ abbrev pub is_marked : DraftValue → Bool
 is_marked (reference_token digits) = true
 is_marked _ = false
 
--- the fault caused by digits that do not represent a number at the field's scale; the reason
--- `Large` means that the number is out of range
+-- the fault in a value that cannot be read as a number at the field's scale, which is `OutOfRange`
+-- if the number is too large, and `Number` otherwise
 -- rule: fault-52
 abbrev pub number_fault : NumberFault → ItemFault
 number_fault Large = item_fault.OutOfRange
 number_fault _ = item_fault.Number
 
--- one more than the greatest number that can be written in `width` bits; if the field may be
--- missing, the number with all bits set is excluded, because it means missing
+-- the exclusive upper limit for numbers in a field of `width` bits; if the field may be missing,
+-- the number with all bits set is excluded because it represents a missing value
 -- rule: packs-class-31
 abbrev pub raw_limit : (may_be_missing : Bool) (width : ℕ) → ℕ
 raw_limit m width = if m then ones width else 2 ^ width
@@ -178,8 +178,8 @@ text_within count octets =
     else let whole = octets ++ replicate (count - length octets) 32 in
     if list_all (λ octet. octet == 255) whole then Err item_fault.OutOfRange else Ok (text whole)
 
--- The content of a field, given the value of its item. The fault `Number` is also reported for a
--- number in a character field and for a string in any other field.
+-- The content of a field, given the value of its item. A number in a character field causes the
+-- fault `Number`, and so does a string in any other field.
 -- rule: fault-52, fault-55, fault-order-of-an-item
 abbrev pub content_by_form : DraftValue → FieldSpec → Result Content ItemFault
 content_by_form (number_token digits) spec =
@@ -191,15 +191,15 @@ content_by_form missing_form spec =
     if spec.may_be_missing then Ok missing else Err item_fault.MissingForbidden
 content_by_form (reference_token digits) spec = reference_of spec (decimal_value_of digits (pos 0))
 
--- whether an item has the field's descriptor, and is marked with `R` if and only if the field
--- redefines a reference value
+-- whether an item has the field's descriptor and the correct mark (`R` if the field redefines a
+-- reference value, and none otherwise)
 -- rule: fault-51
 abbrev pub is_of : FieldSpec → Draft → Bool
 is_of spec d =
     (d.fxy == spec.fxy)
     && (if is_reference spec.role then is_marked d.form else not (is_marked d.form))
 
--- the fault caused by an item that does not belong to the field
+-- the fault in an item that does not belong to the field
 abbrev pub wrong_for : FieldSpec → ItemFault
 wrong_for spec = item_fault.WrongDescriptor
     (if is_reference spec.role then expected.Reference spec.fxy else expected.Item spec.fxy)
@@ -210,7 +210,7 @@ wrong_for spec = item_fault.WrongDescriptor
 abbrev pub content_of : FieldSpec → Draft → Result Content ItemFault
 content_of spec d = if is_of spec d then content_by_form d.form spec else Err (wrong_for spec)
 
--- the content of a field as a dump shows it
+-- the value that a dump writes for the content of a field
 abbrev pub draft_value_of : FieldSpec → Content → DraftValue
 draft_value_of spec (number raw) = number_token
     (decimal_text_of (pos raw +ℤ spec.reference) spec.scale)
@@ -236,8 +236,8 @@ padded_content count (field_content.Text octets) = text (spaced count octets.now
 padded_content count field_content.Missing = missing
 padded_content count (field_content.Reference value) = reference value
 
--- The field can have the given content. If the content is a string, it fits in the field and would
--- not be read as missing.
+-- The content is valid for the field. If it is a string, it fits in the field and would not be read
+-- as missing.
 abbrev pub IsContentOf : FieldSpec → FieldContent → Type 0
 IsContentOf spec (field_content.Number raw) =
     (is_character spec.kind ≡ false) × (is_reference spec.role ≡ false)
@@ -251,22 +251,22 @@ IsContentOf spec field_content.Missing =
 IsContentOf spec (field_content.Reference value) =
     (is_reference spec.role ≡ true) × (unsigned_abs value < 2 ^ (spec.width - 1))
 
--- The bits represent a redefined reference value of minus zero, with only the sign bit set. Minus
--- zero is never written (own).
+-- The bits represent minus zero as a redefined reference value (only the sign bit is set). Minus
+-- zero is never written (our choice).
 abbrev pub IsMinusZero : Role → List Bool → Type 0
 IsMinusZero role.Reference bits = bits ≡ true ∷ replicate (length bits - 1) false
 IsMinusZero _ bits = ⊥
 
--- ---- The normal form of an item, as a dump writes it. (own)
+-- ---- The normal form of an item, as a dump writes it. (our own definitions)
 
--- the characters that a dump writes for a number at the given scale; digits that do not represent a
+-- the digits of a number as a dump writes them at the given scale; digits that cannot be read as a
 -- number at that scale are left unchanged
 abbrev pub decimal_again : List ℕ → ℤ → Result ℤ NumberFault → List ℕ
 decimal_again digits scale (Ok value) = decimal_text_of value scale
 decimal_again digits scale (Err why) = digits
 
--- The normal form of a value. A number is spelled in decimal at the field's scale, and a string is
--- padded with spaces to the field's length.
+-- The normal form of a value. A number is written as a decimal at the field's scale, and a string
+-- is padded with spaces to the field's length.
 abbrev pub normal_form : FieldSpec → DraftValue → DraftValue
 normal_form spec (number_token digits) =
     number_token (decimal_again digits spec.scale (decimal_value_of digits spec.scale))
@@ -290,11 +290,11 @@ abbrev pub entry_by : Option ValueKind → (line fxy digits : ℕ) → List ℕ 
 entry_by None line fxy digits octets = Ends line
 entry_by (Some k) line fxy digits octets = Holds (draft line fxy (value_by k digits octets))
 
--- the entry that a stored entry and its octets represent
+-- the entry of a document, given the stored entry and its octets
 abbrev pub entry_with : StoredEntry → List ℕ → DraftEntry
 entry_with e octets = entry_by e.kind e.line e.fxy e.start octets
 
--- the entries that stored entries represent, with their octets taken from a block
+-- the entries of a document, given the stored entries and the block that contains their octets
 abbrev pub entries_stored : List ℕ → List StoredEntry → List DraftEntry
 entries_stored block kept = map (λ e. entry_with e (slice_range block e.start e.end)) kept
 
@@ -303,18 +303,17 @@ abbrev pub is_end : DraftEntry → Bool
 is_end (Holds d) = false
 is_end (Ends line) = true
 
--- whether values of the given kind have octets in the shared block
+-- whether values of the given kind are stored in the shared block
 abbrev pub has_octets_of_kind : ValueKind → Bool
 has_octets_of_kind (value_kind.Decimal places negative) = false
 has_octets_of_kind value_kind.Missing = false
 has_octets_of_kind _ = true
 
--- whether a stored entry has octets in the shared block
+-- whether the value of a stored entry is in the shared block
 abbrev pub has_octets : StoredEntry → Bool
 has_octets e = option_map_or has_octets_of_kind e.kind false
 
--- If values of the given kind have octets, `start..end` is a valid range in a block of the given
--- size.
+-- `start..end` is a valid range in a block of the given size, unless the value is a short decimal.
 abbrev pub AreOctetsInside : ValueKind → (size start end : ℕ) → Type 0
 AreOctetsInside (value_kind.Decimal places negative) size start end = Unit {0}
 AreOctetsInside _ size start end = (start ≤ end) × (end ≤ size)
@@ -327,17 +326,17 @@ IsEntryInside size e = IfSome e.kind (λ k. AreOctetsInside k size e.start e.end
 abbrev pub AreInside : ℕ → List StoredEntry → Type 0
 AreInside size kept = AllByRecursion (IsEntryInside size) kept
 
--- the total number of octets that stored entries occupy in a block
+-- the total length of the stored entries' ranges in the shared block
 abbrev pub octets_stored : List StoredEntry → ℕ
 octets_stored kept = sum_by (λ e. e.end - e.start) kept
 
--- the model of an item's value
+-- the mathematical model of an item's value
 abbrev pub form_in : given.DraftValue → DraftValue
 form_in (item_value.Number digits) = number_token digits.now
 form_in (item_value.Text octets) = text_form octets.now
 form_in item_value.Missing = missing_form
 form_in (item_value.Reference digits) = reference_token digits.now
 
--- the model of an item
+-- the mathematical model of an item
 abbrev pub draft_in : DraftItem → Draft
 draft_in item = draft item.line item.fxy (form_in item.form)

@@ -1,6 +1,6 @@
--- The data bits of a document, and how its items are written as plain or compressed data (WMO-No.
--- 306, Volume I.2, FM 94: section 4). The order of the faults, the base, and the least k (the size
--- of an increment) are our choices.
+-- The data bits of a document, and how its items are written as plain or compressed data (FM 94
+-- BUFR, section 4). We chose the order of the faults, the base of each item, and its k (the size of
+-- an increment).
 -- Cited by public contracts.
 use Rattle.std.specs.Prelude.{Bool, List, [], ◌∷◌, ◌++◌, Result, Ok, Err, ℕ, zero, suc, ◌+◌, ◌-◌, ◌==◌, ◌&&◌, nat_lt, nat_le, min, not, true, false, if◌then◌else◌, take, replicate, length, Option, Some, None, unwrap_or, ◌≡◌, ◌≤◌, drop, max, map, slice_get}
 pub use Rattle.bufr_walk.specs.declared.spec.Taken.{Taken}
@@ -15,7 +15,7 @@ use Rattle.bufr_walk.specs.declared.spec.Role.TheVariants as role
 use Rattle.bufr_fill.specs.Draft.{TurnRefusal, Draft, Subset, DraftFault, at_line, item_too_many, walk_refused, too_many_values, Role, content_of, wrong_for, raw_limit}
 use Rattle.bufr_fill.specs.declared.fault.ItemFault.TheVariants as item_fault
 
--- a written item, with its content and its bits
+-- an item that was written, with its content and its bits
 pub record WrittenItem (C : Type 0) : Type 0 where
   pub content : C
   pub bits : List Bool
@@ -23,9 +23,9 @@ pub record WrittenItem (C : Type 0) : Type 0 where
 abbrev pub written_item : {C : Type 0} → C → List Bool → WrittenItem C
 written_item content bits = record { content = content; bits = bits }
 
--- How items are written, one for each field. D is the type of the input for one field: an item or,
--- in compressed data, a row with the items of all subsets. C is the type of the field's content,
--- and E is the type of a fault.
+-- How a list of items is written, with one item for each field. D is the type of the input for one
+-- field, which is an item or, in compressed data, a row with the items of all subsets. C is the
+-- type of the field's content, and E is the type of a fault.
 pub record Filler (D C E : Type 0) : Type 0 where
   -- the result of writing an item as a field
   pub fills : FieldSpec → D → Result (WrittenItem C) E
@@ -35,27 +35,27 @@ pub record Filler (D C E : Type 0) : Type 0 where
   pub none_left : FieldSpec → E
   -- the fault if the template ends before the given item
   pub left_over : D → E
-  -- the fault if the walk refuses a step before the given item
+  -- the fault if the walk rejects a descriptor before it reaches the given item
   pub refused_at : D → TurnRefusal → E
-  -- the fault if the walk refuses a step after the last item
+  -- the fault if the walk rejects a descriptor after the last item
   pub refused_at_end : TurnRefusal → E
   -- a fault that never occurs (see `Passing`)
   pub lost : E
 
 module _ {D C E : Type 0} (filler : Filler D C E) where
-  -- the given bits followed by the bits in a result, or the fault if the result is a fault
+  -- the given bits followed by the bits of the result or, if the result is a fault, that fault
   abbrev pub with_bits_before : List Bool → Result (List Bool) E → Result (List Bool) E
   with_bits_before bits (Err why) = Err why
   with_bits_before bits (Ok suffix) = Ok (bits ++ suffix)
 
-  -- the step at a field, which writes the next item as that field
+  -- the step that writes the next item as the given field
   abbrev pub write_first : FieldSpec → List D → Result (Step (List D) (WrittenItem C)) E
   write_first spec [] = Err (filler.none_left spec)
   write_first spec (d ∷ left) = do
     w ← filler.fills spec d
     Ok (record { content = w; returned = filler.gives spec w.content; state = left })
 
-  -- the fault if the walk refuses a step before the next item or after the last item
+  -- the fault if the walk rejects a descriptor before the next item or after the last item
   abbrev pub refused_first : TurnRefusal → List D → E
   refused_first why [] = filler.refused_at_end why
   refused_first why (d ∷ left) = filler.refused_at d why
@@ -65,7 +65,7 @@ module _ {D C E : Type 0} (filler : Filler D C E) where
   none_over [] = None
   none_over (d ∷ left) = Some (filler.left_over d)
 
-  -- how a pass writes items; its state is the list of remaining items
+  -- how a pass over the template writes items; its state is the list of remaining items
   -- rule: fault-62-first
   abbrev pub filling : Passing (List D) (WrittenItem C) E
   filling = record {
@@ -75,15 +75,15 @@ module _ {D C E : Type 0} (filler : Filler D C E) where
     lost = filler.lost;
   }
 
-  -- the pass that writes items; its bound, `suc (length drafts)`, is large enough because each
-  -- field uses one item
+  -- the pass that writes the given items; the bound `suc (length drafts)` is large enough because
+  -- each field uses one item
   abbrev pub fill_pass : Course → List D → Pass (List D) (WrittenItem C) E
   fill_pass course drafts = pass filling (suc (length drafts)) course drafts
 
 abbrev pub bits_written : {C : Type 0} → List (Item (WrittenItem C)) → List Bool
 bits_written {C} items = flat_map (λ (i : Item (WrittenItem C)). i.content.bits) items
 
--- the pass with the given items inserted before its own items
+-- a pass, with the given items added before its own items
 abbrev pub with_items : {S C E : Type 0} → List (Item C) → Pass S C E → Pass S C E
 with_items items p = record p { items = items ++ p.items }
 
@@ -91,11 +91,11 @@ with_items items p = record p { items = items ++ p.items }
 abbrev pub bits_of_pass : {S C E : Type 0} → Pass S (WrittenItem C) E → Result (List Bool) E
 bits_of_pass p = option_map_or (λ why. Err why) p.stop (Ok (bits_written p.items))
 
--- the bits written for drafts, or the fault that stopped the pass
+-- the bits written for the given items, or the fault that stopped writing
 abbrev pub fill : {D C E : Type 0} → Filler D C E → Course → List D → Result (List Bool) E
 fill filler course drafts = bits_of_pass (fill_pass filler course drafts)
 
--- the least number among the contents of a field, if any of them is a number
+-- the least number in a field over all subsets, or `None` if the field contains no numbers
 -- rule: packs-numbers
 abbrev pub lowest : List Content → Option ℕ
 lowest [] = None
@@ -103,10 +103,10 @@ lowest (number n ∷ cs) = Some (option_map_or (min n) (lowest cs) n)
 lowest (_ ∷ cs) = lowest cs
 
 -- Whether the content of a field can be read back from an increment with the given k. The increment
--- of a number must fit in k bits and, if the field may be missing, must not have all bits set.
--- After its first k octets, which must not all be 255, a string must contain only spaces. A missing
--- value always has an increment, in which all bits are set. The definition assumes that no number
--- is less than `base` and that no string is shorter than k octets.
+-- of a number must fit in k bits and, if the field may be missing, must not have all bits set. The
+-- first k octets of a string must not all be 255, and all later octets must be spaces. A missing
+-- value can always be represented by an increment with all bits set. The definition assumes that no
+-- number is less than `base` and that no string is shorter than k octets.
 -- rule: packs-numbers, packs-texts-not-missing
 abbrev pub has_increment : Coding → (base k : ℕ) → Content → Bool
 has_increment (numbers width m) base k (number n) = nat_lt (n - base) (raw_limit m k)
@@ -115,7 +115,7 @@ has_increment (texts count) base k (text octets) =
     && not (list_all (λ octet. octet == 255) (take k octets))
 has_increment c base k _ = true
 
--- the first of the `fuel` numbers from k on that passes a test, or k + `fuel` if none of them does
+-- the first number from k to k + `fuel` - 1 that passes the test, or k + `fuel` if none does
 abbrev pub first_from : (ℕ → Bool) → ℕ → ℕ → ℕ
 first_from p zero k = k
 first_from p (suc fuel) k = if p k then k else first_from p fuel (k + 1)
@@ -137,8 +137,8 @@ increment_for c base k _ = replicate (step_of c k) true
 abbrev pub packed_bits : (base : List Bool) (k : ℕ) (more : List Bool) → List Bool
 packed_bits base k more = base ++ (bits_in k 6 ++ more)
 
--- The bits of an item whose contents differ between subsets. The base is the least number, or 0 for
--- strings. A string for which k would exceed 63 causes fault 59.
+-- The bits of an item whose content differs between subsets. The base is the least number, or 0 for
+-- strings. If a string would need a k greater than 63, the result is fault 59.
 -- rule: packs-numbers, packs-texts, fault-59
 abbrev pub packed_over : FieldSpec → List Content → Result (List Bool) FieldFault
 packed_over spec cs =
@@ -156,8 +156,8 @@ packed_unlike role.Factor spec cs = Err unequal_factor
 packed_unlike role.Reference spec cs = Err increment
 packed_unlike _ spec cs = packed_over spec cs
 
--- the bits of one item, given its contents in all subsets; if the contents are equal, the base
--- represents the common value and k is 0
+-- the bits of one item, given its content in each subset; if the content is the same in every
+-- subset, it is written as the base, and k is 0
 -- rule: packs-equal, packs-all-missing
 abbrev pub packing : FieldSpec → List Content → Result (List Bool) FieldFault
 packing spec [] = Ok []
@@ -169,8 +169,8 @@ packing spec (c ∷ cs) =
 abbrev pub k_of : FieldSpec → List Bool → ℕ
 k_of spec bits = number_of (take 6 (drop spec.width bits))
 
--- The contents of an item are packed into bits that are read back as the same contents. No other
--- bits that are read as those contents have a smaller k or are shorter.
+-- The contents of an item can be packed into bits, which are read back as the same contents. No
+-- other bits that are read as these contents have a smaller k or are shorter.
 pub record HasLeastK (n : ℕ) (spec : FieldSpec) (contents : List Content) : Type 0 where
   pub out : List Bool
   pub is : packing spec contents ≡ Ok out
@@ -202,7 +202,7 @@ plain_filler end_line = record {
 }
 
 -- The bits of plain data, or the first fault. The subsets are written one after another, and the
--- template starts again for each subset.
+-- template is processed again for each subset.
 abbrev pub plain_data : Course → List Subset → Result (List Bool) DraftFault
 plain_data course [] = Ok []
 plain_data course (s ∷ subsets) = do
@@ -210,15 +210,15 @@ plain_data course (s ∷ subsets) = do
   rest ← plain_data course subsets
   Ok (first ++ rest)
 
--- ---- Compressed data.
+-- ---- How compressed data are written.
 
--- one subset's cell in a row, with its item (`None` if the subset has no more items) and the number
--- of the line that ends the subset
+-- a cell of a row, which contains the item of one subset (`None` if the subset has no more items)
+-- and the number of the line that ends the subset
 pub record RowCell : Type 0 where
   pub draft : Option Draft
   pub end_line : ℕ
 
--- the items of all subsets at one index (counted from 0), which are written as one item of
+-- the items with the same index (counted from 0) in all subsets, which are written as one item of
 -- compressed data
 pub record ItemRow : Type 0 where
   pub index : ℕ
@@ -229,7 +229,7 @@ pub record ItemRow : Type 0 where
 abbrev pub cell_line : RowCell → ℕ
 cell_line c = option_map_or (λ (d : Draft). d.line) c.draft c.end_line
 
--- the cells of all subsets at one index
+-- the cells of the row at the given index
 abbrev pub cells_at : ℕ → List Subset → List RowCell
 cells_at index subsets =
     map (λ (s : Subset). record { draft = slice_get s.items index; end_line = s.end_line }) subsets
@@ -237,7 +237,7 @@ cells_at index subsets =
 abbrev pub item_row : ℕ → List Subset → ItemRow
 item_row index subsets = record { index = index; cells = cells_at index subsets }
 
--- the `count` rows from index `from` on
+-- `count` rows, starting with the row at index `from`
 abbrev pub rows : (count from : ℕ) → List Subset → List ItemRow
 rows zero from subsets = []
 rows (suc n) from subsets = item_row from subsets ∷ rows n (from + 1) subsets
@@ -247,7 +247,7 @@ abbrev pub most_items : List Subset → ℕ
 most_items [] = 0
 most_items (s ∷ subsets) = max (length s.items) (most_items subsets)
 
--- the line number of the first subset's cell, or 0 if there are no subsets
+-- the line number of the first cell in a row, or 0 if there are no subsets
 abbrev pub first_line : List RowCell → ℕ
 first_line [] = 0
 first_line (c ∷ cs) = cell_line c
@@ -257,7 +257,7 @@ abbrev pub first_there : List RowCell → ℕ
 first_there [] = 0
 first_there (c ∷ cs) = option_map_or (λ (d : Draft). d.line) c.draft (first_there cs)
 
--- the contents that the cells of a row specify, or the first fault
+-- the contents that the cells of a row specify, or the fault in the first invalid cell
 abbrev pub contents_here : FieldSpec → List RowCell → Result (List Content) DraftFault
 contents_here spec [] = Ok []
 contents_here spec (c ∷ cs) = do
@@ -278,7 +278,7 @@ abbrev pub unlike_line : List Content → List RowCell → ℕ
 unlike_line [] cells = 0
 unlike_line (c ∷ cs) cells = first_unlike c (c ∷ cs) cells
 
--- the fault caused by a row that cannot be packed
+-- the fault in a row that cannot be packed
 -- rule: fault-58
 abbrev pub packing_fault : List Content → List RowCell → FieldFault → DraftFault
 packing_fault cs cells unequal_factor = at_line (unlike_line cs cells) item_fault.UnequalFactor
@@ -296,10 +296,10 @@ pack_across spec a =
       cs ← contents_here spec a.cells
       result_map_both (written_item cs) (packing_fault cs a.cells) (packing spec cs)
 
--- How the rows of compressed data are written. `many` is true if the data would have too many
--- values with one more row. If `many` is true and another field follows the last row, the fault
--- reports too many values instead of a missing item. Faults after the last row are reported for the
--- line that ends the first subset (`end_line`).
+-- How the rows of compressed data are written. `many` is true if one more row would exceed the
+-- maximum number of values. If `many` is true, a field after the last row is reported as too many
+-- values, not as a missing item. Faults after the last row are reported for the line that ends the
+-- first subset (`end_line`).
 -- rule: fault-62
 abbrev pub packed_filler : (end_line : ℕ) (many : Bool) → Filler ItemRow (List Content) DraftFault
 packed_filler end_line many = record {
@@ -313,8 +313,8 @@ packed_filler end_line many = record {
   lost = at_line end_line item_too_many;
 }
 
--- The bits of compressed data, or the first fault. One pass writes the rows of all subsets. If
--- there are no subsets, nothing is written.
+-- The bits of compressed data, or the first fault. A single pass over the template writes the rows
+-- of all subsets. If there are no subsets, nothing is written.
 abbrev pub packed_data : Course → List Subset → Result (List Bool) DraftFault
 packed_data course [] = Ok []
 packed_data course (s ∷ subsets) =

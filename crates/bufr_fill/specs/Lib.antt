@@ -1,4 +1,4 @@
--- the items of a dump, the field contents that they specify, and the faults in them
+-- the items of a dump, the contents of their fields, and the faults that items can have
 pub mod Draft
 -- the data bits of a document, and how one item is packed in compressed data
 pub mod Encoding

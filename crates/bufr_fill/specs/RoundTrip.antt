@@ -1,6 +1,5 @@
--- Only contracts need this file. Field contents are written as data bits that are read back as the
--- same contents, whether the contents come from a message (plain or compressed) or from drafts
--- (WMO-No. 306, Volume I.2, FM 94: section 4).
+-- Only contracts need this file. Written data are read back as the same contents, whether the
+-- contents came from a message or from a document (FM 94 BUFR, section 4).
 use Rattle.std.specs.Prelude.{ℕ, ◌≡◌, ◌<◌, ◌-◌, ◌/◌, ◌^◌, ◌==◌, Bool, true, false, List, length, nat_abs, ◌≤◌, ◌++◌, Ok, ◌⊎◌, Err, drop, None}
 use Rattle.std.specs.List.{list_all, AllByRecursion, AllZip}
 use Rattle.bufr_walk.specs.declared.spec.Role.TheVariants as role
@@ -15,14 +14,14 @@ use Rattle.bufr_tables.specs.declared.table_b.Kind.TheVariants as kind
 abbrev pub AreOctets : List ℕ → Type 0
 AreOctets xs = AllByRecursion (λ (x : ℕ). x < 256) xs
 
--- The content is a number that fits in the data width and is not read as missing, or it is missing
--- and m (the field may be missing) is true.
+-- The content is a number that fits in the data width and is not read as missing, or a missing
+-- value if the field may be missing (m).
 abbrev pub FitsNumber : Bool → ℕ → Content → Type 0
 FitsNumber m width (number raw) = raw < raw_limit m width
 FitsNumber m width missing = m ≡ true
 FitsNumber m width _ = ⊥
 
--- The content is a string that is `count` octets long and not read as missing, or it is missing.
+-- The content is a missing value, or a string of `count` octets that is not read as missing.
 abbrev pub FitsText : ℕ → Content → Type 0
 FitsText count (text octets) =
     (length octets ≡ count) × AreOctets octets × (list_all (λ octet. octet == 255) octets ≡ false)
@@ -45,35 +44,36 @@ abbrev pub FitsRole : Role → FieldSpec → Content → Type 0
 FitsRole role.Reference spec c = FitsReference spec.width c
 FitsRole _ spec c = FitsKind spec.kind spec.may_be_missing spec.width c
 
--- The field can have the given content.
+-- The content is valid for the field.
 abbrev pub Fits : FieldSpec → Content → Type 0
 Fits spec c = FitsRole spec.role spec c
 
--- The field can have each of the given contents.
+-- All of the contents are valid for the field.
 abbrev pub AllFit : FieldSpec → List Content → Type 0
 AllFit spec cs = AllByRecursion (λ (c : Content). Fits spec c) cs
 
--- The draft is what a dump writes for the item, except that the line number may differ.
+-- The draft is the item as a dump writes it, except that the line number may differ.
 abbrev pub IsDumped : Item Content → Draft → Type 0
 IsDumped i d = (d.fxy ≡ i.spec.fxy) × (d.form ≡ draft_value_of i.spec i.content)
 
--- `of_item` relates each item to the draft at the same index, and both lists have the same length.
+-- Both lists have the same length, and `of_item` holds for each item and the draft at the same
+-- index.
 abbrev pub AreDrafts : {C D : Type 0} → (Item C → D → Type 0) → List (Item C) → List D → Type 0
 AreDrafts of_item items ds = AllZip of_item items ds
 
--- The drafts of each subset are what a dump writes for the items of that subset.
+-- The drafts of each subset are the subset's items as a dump writes them.
 abbrev pub AreDumped : List (List (Item Content)) → List Subset → Type 0
 AreDumped = AllZip (λ (items : List (Item Content)) (s : Subset). AreDrafts IsDumped items s.items)
 
--- Reading the data succeeds and gives the values, which occupy the first `used` bits.
+-- The data can be read, and their first `used` bits contain the given values.
 pub record HasReading (course : Course) (d : Data) (values : Values) (used : ℕ) : Type 0 where
   pub none : (reading_of course d).stop ≡ None
   pub values_are : (reading_of course d).values ≡ values
   pub left : (reading_of course d).left ≡ drop used d.bits
   pub within : used ≤ length d.bits
 
--- The drafts are written as bits that are read back as the given values of n subsets, whatever bits
--- follow.
+-- Encoding the drafts gives bits that are read back as the given values for n subsets, even if
+-- other bits follow.
 pub record IsWritten (course : Course) (compressed : Bool) (n : ℕ) (values : Values)
     (drafts : List Subset) : Type 0 where
   pub out : List Bool
@@ -81,8 +81,7 @@ pub record IsWritten (course : Course) (compressed : Bool) (n : ℕ) (values : V
   pub again : (more : List Bool) → HasReading course
       (record { compressed = compressed; subsets = n; bits = out ++ more }) values (length out)
 
--- The drafts are written as bits that are read back as the given values, which originally occupied
--- at least as many bits.
+-- Encoding the drafts gives at most `used` bits, which are read back as the given values.
 abbrev pub IsWrittenAgain : Course → Data → Values → (used : ℕ) → List Subset → Type 0
 IsWrittenAgain course d values used drafts =
     (w : IsWritten course d.compressed d.subsets values drafts) × (length w.out ≤ used)
@@ -93,8 +92,8 @@ IsUnlike item_fault.UnequalFactor = Unit {0}
 IsUnlike item_fault.Increment = Unit {0}
 IsUnlike _ = ⊥
 
--- The drafts are written as compressed data that are read back as the items of the given subsets,
--- or writing fails because compressed data cannot represent the items.
+-- Encoding the drafts as compressed data gives bits that are read back as the items of the given
+-- subsets, or it fails because compressed data cannot represent these items.
 abbrev pub IsTogetherOrNot : Course → List (List (Item Content)) → List Subset → Type 0
 IsTogetherOrNot course subsets drafts =
     ((items : List (Item (List Content))) × (subsets_from (length subsets) 0 items ≡ subsets)
@@ -102,16 +101,16 @@ IsTogetherOrNot course subsets drafts =
     ⊎ ((line : ℕ) × (why : ItemFault) × (packed_data course drafts ≡ Err (at_line line why))
     × IsUnlike why)
 
--- ---- Reading data that were written from drafts. (own)
+-- ---- Reading data that were written from drafts. (our own definitions)
 
--- If the value is a string, it consists of octets.
+-- If the value is a string, each of its octets is less than 256.
 abbrev pub HasOctets : DraftValue → Type 0
 HasOctets (number_token digits) = Unit {0}
 HasOctets (text_form octets) = AreOctets octets
 HasOctets missing_form = Unit {0}
 HasOctets (reference_token digits) = Unit {0}
 
--- Each string in the drafts of the subsets consists of octets.
+-- Every octet of every string in the drafts is less than 256.
 abbrev pub AllHaveOctets : List Subset → Type 0
 AllHaveOctets ss =
     AllByRecursion (λ (s : Subset). AllByRecursion (λ (d : Draft). HasOctets d.form) s.items) ss
@@ -120,11 +119,11 @@ AllHaveOctets ss =
 abbrev pub IsSaid : Item Content → Draft → Type 0
 IsSaid i d = content_of i.spec d ≡ Ok i.content
 
--- Each item has the content that the draft at the same index of its subset specifies.
+-- Each item has the content that is specified by the draft at the same index in the same subset.
 abbrev pub AreSaid : List (List (Item Content)) → List Subset → Type 0
 AreSaid = AllZip (λ (items : List (Item Content)) (s : Subset). AreDrafts IsSaid items s.items)
 
--- The bits are read back as the contents that the drafts specify, whatever bits follow.
+-- The bits are read back as the contents that the drafts specify, even if other bits follow.
 pub record IsReadBack (course : Course) (compressed : Bool) (drafts : List Subset)
     (bits : List Bool) : Type 0 where
   pub values : Values
@@ -133,28 +132,28 @@ pub record IsReadBack (course : Course) (compressed : Bool) (drafts : List Subse
       (record { compressed = compressed; subsets = length drafts; bits = bits ++ suffix }) values
       (length bits)
 
--- ---- Drafts that specify the same contents, even if they are spelled differently. (own)
+-- ---- Drafts that specify the same contents, even if they are spelled differently. (our own
+-- definitions)
 
 -- Both drafts specify the same content, or have the same fault, for every field.
 abbrev pub IsAlike : Draft → Draft → Type 0
 IsAlike a b = (spec : FieldSpec) → content_of spec a ≡ content_of spec b
 
--- Drafts at the same index of the same subset specify the same content, or have the same fault, for
--- every field. The line numbers may differ.
+-- Drafts at corresponding positions specify the same content, or have the same fault, for every
+-- field. The line numbers may differ.
 abbrev pub AllAlike : List Subset → List Subset → Type 0
 AllAlike ss ts = AllZip (λ (s t : Subset). AllZip IsAlike s.items t.items) ss ts
 
 -- ---- Definitions shared by the laws about writing.
 
--- The law holds for the course of every template that consists of legal nodes, with any readable
--- Table B.
+-- The statement `law` holds for the walk over any template of legal nodes with any valid Table B.
 abbrev pub OfTemplates : (Course → Type 0) → Type 0
 OfTemplates law =
     (records : List Record) (table : List Row) (template : Tree) → AreRows records table
     → IsLegal template → law (next_item table template)
 
--- A walk wrote the bits of all drafts except those in `left`. The pass over all drafts begins with
--- items that give the same answers as the walk, and continues as the pass over `left`.
+-- A walk wrote the bits of all drafts except those in `left`. By definition, the pass over all
+-- drafts writes the same items and then continues with the drafts in `left`.
 pub record WritesDrafts {D C E : Type 0} (filler : Filler D C E) (course : Course)
     (walked : List TakenField) (old new : List Bool) (drafts left : List D) : Type 0 where
   pub items : List (Item (WrittenItem C))

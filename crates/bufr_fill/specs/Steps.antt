@@ -1,5 +1,5 @@
 -- Only contracts need this file. The bits written and the number of steps taken up to the first
--- fault (own).
+-- fault (our choice).
 use Rattle.std.specs.Prelude.{Bool, List, [], ◌∷◌, ◌++◌, Result, Ok, Err, ℕ, ◌+◌, true, false, length, Option, Some, None}
 use Rattle.bufr_walk.specs.Prelude.{CountedCourse, uncounted, answers_in, would_be_many}
 use Rattle.std.specs.Option.{option_map_or}
@@ -23,13 +23,13 @@ pass_writing filler course drafts =
       turns = (course (answers_in (λ spec w. filler.gives spec w.content) p.items)).turns;
     }
 
--- the result w, followed by `rest` unless w contains a fault; the second argument is `w.stop`
+-- the result w or, if w contains no fault, w followed by `rest`; the second argument is `w.stop`
 abbrev pub writing_then : {E : Type 0} → Writing E → Option E → Writing E → Writing E
 writing_then w (Some why) rest = w
 writing_then w None rest =
     record { bits = w.bits ++ rest.bits; stop = rest.stop; turns = w.turns + rest.turns }
 
--- the bits written, or the fault
+-- the bits that were written, or the fault that stopped writing
 abbrev pub bits_of_writing : {E : Type 0} → Writing E → Result (List Bool) E
 bits_of_writing w = option_map_or (λ why. Err why) w.stop (Ok w.bits)
 

@@ -1,5 +1,5 @@
 -- Only contracts need this file. How the code writes plain and compressed data, and how it finds
--- the least k (own).
+-- the least k (our choice).
 use Rattle.std.specs.Prelude.{ℕ, ◌≡◌, ◌≤◌, ◌<◌, ◌*◌, ◌^◌, Bool, List, [], ◌∷◌, ◌++◌, length, Option, Some, None, Result, Ok, Err, ◌+◌, ◌-◌, suc, ◌==◌, ◌&&◌, nat_lt, max, min, if◌then◌else◌, take, slice_get, ◌%◌, false}
 use Rattle.bufr_walk.specs.declared.spec.Taken.{Taken}
 use Rattle.bufr_walk.specs.Prelude.{FieldSpec, Content, answer_of, bits_for, Next, take_next, at_end, astray, refused, FieldFault, answer_first, max_values}
@@ -47,13 +47,13 @@ IsFaultOf spec (Ends line ∷ more) f = f ≡ at_line line (wrong_for spec)
 IsFaultOf spec (Holds d ∷ more) f =
     (why : ItemFault) × (content_of spec d ≡ Err why) × (f ≡ at_line d.line why)
 
--- The fault has property p, or memory ran out.
+-- The fault has the property p, or it reports that memory ran out.
 abbrev pub IfDraftFault : DraftFault → (DraftFault → Type 0) → Type 0
 IfDraftFault (draft_fault.Item line fault) p = p (at_line line fault)
 IfDraftFault draft_fault.Memory p = Unit {0}
 
--- A call wrote the next item, or it failed because the item is invalid or memory ran out. A failed
--- call changed nothing.
+-- A call wrote the next item, or it failed because the item is invalid or memory ran out. If the
+-- call failed, the writer is unchanged.
 abbrev pub PlainFills : PlainOutModel → FieldSpec → Result Taken DraftFault → PlainOutModel → Type 0
 PlainFills s spec (Ok t) s' = IsFilled s spec t s'
 PlainFills s spec (Err e) s' = IfDraftFault e (IsFaultOf spec s.left) × (s' ≡ s)
@@ -71,15 +71,14 @@ after_end (Holds d ∷ more) = Err (at_line d.line item_too_many)
 after_end (Ends line ∷ more) = Ok more
 
 -- A call moved past the end of a subset, or it failed because the next entry does not end a subset.
--- A failed call changed nothing.
+-- If the call failed, the writer is unchanged.
 abbrev pub EndsSubset : PlainOutModel → Result (Unit {0}) DraftFault → PlainOutModel → Type 0
 EndsSubset s (Ok _) s' = (after_end s.left ≡ Ok s'.left) × (s'.bits ≡ s.bits)
 EndsSubset s (Err e) s' =
     (after_end s.left ≡ Err e) × (s' ≡ s)
 
--- The fault occurs because the next item is invalid, the walk refuses a step, or an item remains at
--- the end of the template. If the walk refuses a step, the fault is reported for the line of the
--- next entry.
+-- The next item is invalid, the walk rejects a descriptor, or an item follows the end of the
+-- template. A rejected descriptor is reported for the line of the next entry.
 abbrev pub IsFaultNext : Next → List DraftEntry → DraftFault → Type 0
 IsFaultNext (take_next spec) left f = IsFaultOf spec left f
 IsFaultNext (refused why) left f = f ≡ at_line (line_at left) (walk_refused why)
@@ -120,22 +119,21 @@ ends_of from [] = []
 ends_of from (Holds d ∷ more) = ends_of (from + 1) more
 ends_of from (Ends line ∷ more) = from ∷ ends_of (from + 1) more
 
--- a subset's entry in a row: an item or the end of the subset
+-- a subset's entry in a row, which is an item or the end of the subset
 abbrev pub entry_or_end : Option Draft → (end_line : ℕ) → DraftEntry
 entry_or_end (Some d) end_line = Holds d
 entry_or_end None end_line = Ends end_line
 
--- The entries of the eight rows from index `from` on were copied so that the entries of each row
--- are contiguous. A copy that has no octets equals the original entry.
+-- The eight rows starting at index `from` were copied so that the entries of each row are
+-- contiguous. Each copy equals the original entry, unless the value is stored in the shared block.
 abbrev pub AreTransposed : List DraftEntry → (from count : ℕ) → (copies : List StoredEntry) → Type 0
 AreTransposed entries from count copies = (ahead s : ℕ) (e : StoredEntry) (c : RowCell)
     → ahead < 8 → slice_get copies (ahead * count + s) ≡ Some e
     → slice_get (cells_at (from + ahead) (subsets_of entries)) s ≡ Some c → has_octets e ≡ false
     → (octets : List ℕ) → entry_with e octets ≡ entry_or_end c.draft c.end_line
 
--- A writer of compressed data knows where its subsets end. The writer has transposed the entries of
--- the current group of eight rows if any row of that group has been written, and the numbers of
--- bits and values are bounded.
+-- A writer of compressed data stores where subsets end, and limits the numbers of bits and values.
+-- If any row of the current group of eight was written, the group has been transposed.
 pub record IsPackedOut (entries : List DraftEntry) (ends : List ℕ) (copies : List StoredEntry)
     (index bits : ℕ) : Type 0 where
   pub transposed : 0 < index % 8 → AreTransposed entries (index - index % 8) (length ends) copies
@@ -163,7 +161,7 @@ pub record IsPacked (s : PackedOutModel) (spec : FieldSpec) (t : Taken)
   pub subsets : s'.subsets ≡ s.subsets
 
 -- A call wrote the next row as one item, or it failed because the row is invalid or memory ran out.
--- A failed call changed nothing.
+-- If the call failed, the writer is unchanged.
 abbrev pub PackedFills : PackedOutModel → FieldSpec → Result Taken DraftFault → PackedOutModel
     → Type 0
 PackedFills s spec (Ok t) s' = IsPacked s spec t s'
@@ -171,25 +169,24 @@ PackedFills s spec (Err e) s' =
     IfDraftFault e (λ f. pack_across spec (item_row s.index s.subsets) ≡ Err f)
     × (s' ≡ s)
 
--- the fault caused by a subset's remaining item or, if no item remains, the result for the other
+-- the fault in a subset's extra item or, if the subset has no extra item, the result for the other
 -- subsets
 abbrev pub and_end : Option Draft → Result (Unit {0}) DraftFault → Result (Unit {0}) DraftFault
 and_end None rest = rest
 and_end (Some d) rest = Err (at_line d.line item_too_many)
 
--- success if no subset has a remaining item; otherwise, the fault caused by the first remaining
--- item
+-- success if no subset has an extra item; otherwise, the fault in the first extra item
 abbrev pub all_at_end : List RowCell → Result (Unit {0}) DraftFault
 all_at_end [] = Ok tt
 all_at_end (c ∷ cells) = and_end c.draft (all_at_end cells)
 
--- A call succeeded if all subsets end at the given index; otherwise, it returned the fault caused
--- by the first remaining item.
+-- A call succeeded if no subset has an item at the given index; otherwise, it returned the fault in
+-- the first such item.
 abbrev pub EndsAllSubsets : (index : ℕ) → List Subset → Result (Unit {0}) DraftFault → Type 0
 EndsAllSubsets index subsets (Ok _) = all_at_end (cells_at index subsets) ≡ Ok tt
 EndsAllSubsets index subsets (Err e) = all_at_end (cells_at index subsets) ≡ Err e
 
--- the number of the line that contains the next item of the first subset or ends that subset
+-- the line number of the next item in the first subset or, if none remains, of the subset's end
 abbrev pub first_line_at : (index : ℕ) → List Subset → ℕ
 first_line_at index subsets = first_line (cells_at index subsets)
 
@@ -197,9 +194,8 @@ first_line_at index subsets = first_line (cells_at index subsets)
 abbrev pub rows_left : PackedOutModel → List ItemRow
 rows_left s = rows (most_items s.subsets - s.index) s.index s.subsets
 
--- The fault occurs because the next row is invalid, the walk refuses a step, or an item remains at
--- the end of the template. If the walk refuses a step, the fault is reported for the line that
--- contains the next item of the first subset or ends that subset.
+-- The next row is invalid, the walk rejects a descriptor, or an item follows the end of the
+-- template. A rejected descriptor is reported for the line that `first_line_at` returns.
 abbrev pub IsFaultHere : Next → PackedOutModel → DraftFault → Type 0
 IsFaultHere (take_next spec) s f = pack_across spec (item_row s.index s.subsets) ≡ Err f
 IsFaultHere (refused why) s f = f ≡ at_line (first_line_at s.index s.subsets) (walk_refused why)
@@ -218,7 +214,7 @@ abbrev pub over_of : (base : ℕ) → FieldContent → ℕ
 over_of base (field_content.Number n) = n - base
 over_of base _ = 0
 
--- the greatest difference between a number in the given fields and the base
+-- the greatest difference between the base and any number in the given fields
 abbrev pub spread : (base : ℕ) → List FieldContent → ℕ
 spread base [] = 0
 spread base (d ∷ ds) = max (over_of base d) (spread base ds)
@@ -238,8 +234,8 @@ abbrev pub trimmed : List ℕ → ℕ
 trimmed [] = 0
 trimmed (o ∷ os) = if (trimmed os == 0) && (o == 32) then 0 else suc (trimmed os)
 
--- the number of octets needed to represent a string; trailing spaces are not counted, except for
--- one if all octets before them are 255
+-- the number of octets needed to represent a string; trailing spaces are not needed, except for one
+-- if all octets before them are 255
 abbrev pub need : List ℕ → ℕ
 need os =
     if list_all (λ octet. octet == 255) (take (trimmed os) os) then suc (trimmed os) else trimmed os
@@ -273,14 +269,14 @@ FitsIncrement base k _ = Unit {0}
 abbrev pub AreShort : (base k : ℕ) → List FieldContent → Type 0
 AreShort base k ds = AllByRecursion (λ (d : FieldContent). FitsIncrement base k d) ds
 
--- The row was written as one item, which takes at most `most` bits.
+-- The row was written as one item of at most `most` bits.
 pub record IsPutWithin (old new : List Bool) (spec : FieldSpec) (a : ItemRow) (most : ℕ)
     (t : Taken) : Type 0 where
   pub put : IsPutAcross old new spec a t
   pub few : length put.item ≤ most
 
--- A call wrote the row as one item, or it failed because the row is invalid or memory ran out. A
--- failed call changed nothing.
+-- A call wrote the row as one item, or it failed because the row is invalid or memory ran out. If
+-- the call failed, no bits were written.
 abbrev pub PutAcross : (old new : List Bool) → FieldSpec → ItemRow → (most : ℕ)
     → Result Taken DraftFault → Type 0
 PutAcross old new spec a most (Ok t) = IsPutWithin old new spec a most t
@@ -294,7 +290,7 @@ abbrev pub entry_here : FieldSpec → DraftEntry → Result Content DraftFault
 entry_here spec (Holds d) = content_here spec (Some d) d.line
 entry_here spec (Ends line) = content_here spec None line
 
--- The field can have each of the given contents.
+-- All of the contents are valid for the field.
 abbrev pub AreContentsOf : FieldSpec → List FieldContent → Type 0
 AreContentsOf spec ds = AllByRecursion (λ (d : FieldContent). IsContentOf spec d) ds
 
@@ -304,13 +300,13 @@ padded_contents count [] = []
 padded_contents count (d ∷ ds) = padded_content count d ∷ padded_contents count ds
 
 -- The range extends from the least number among the contents to the greatest. If there are no
--- numbers, its bounds are 2^64 - 1 and 0.
+-- numbers, the bounds of the range are 2^64 - 1 and 0.
 pub record IsRangeOf (range : NumberRange) (contents : List FieldContent) : Type 0 where
   pub least : range.least ≡ least_number contents
   pub greatest : range.greatest ≡ spread 0 contents
 
--- A call converted all cells and returned the range of their numbers, or it failed with the fault
--- in the first invalid cell or because memory ran out.
+-- A call converted all cells and returned the range of their numbers, or it failed because of the
+-- first invalid cell or because memory ran out.
 abbrev pub ReturnsRow : (count : ℕ) → FieldSpec → List RowCell → List FieldContent
     → Result NumberRange DraftFault → Type 0
 ReturnsRow count spec cells contents (Ok range) =

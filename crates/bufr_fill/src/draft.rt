@@ -14,12 +14,12 @@ use std::marker::Model;
 pub enum DraftValue<'a> {
     /// A number in decimal notation, whose syntax is checked later.
     Number(&'a [u8]),
-    /// A string without its quotes, with its escape sequences decoded.
+    /// A string without its quotes, whose escape sequences have been decoded.
     Text(&'a [u8]),
     /// The word `MISSING`.
     Missing,
-    /// A redefined reference value, which is the number after the mark `R`. The syntax of the
-    /// number is checked later.
+    /// A redefined reference value (the number after the mark `R`). The syntax of the number is
+    /// checked later.
     Reference(&'a [u8]),
 }
 
@@ -30,7 +30,7 @@ pub struct DraftItem<'a> {
     pub line: u64,
     /// The descriptor of the item.
     pub fxy: Fxy,
-    /// The value that follows the descriptor.
+    /// The value of the item.
     pub form: DraftValue<'a>,
 }
 
@@ -39,17 +39,17 @@ pub struct DraftItem<'a> {
 pub(crate) enum ValueKind {
     /// A short decimal number, whose digits are stored as an integer.
     Decimal { places: u8, negative: bool },
-    /// Any other number. The number is stored as octets, and its syntax is checked later.
+    /// Any other number, which is stored as octets and whose syntax is checked later.
     Number,
-    /// A string, whose octets are stored.
+    /// A string, which is stored as octets.
     Text,
     /// A missing value.
     Missing,
-    /// A redefined reference value, whose octets are stored.
+    /// A redefined reference value, which is stored as octets.
     Reference,
 }
 
-/// A stored entry. `start` and `end` locate the entry's octets in the block. If the value is a
+/// A stored entry. `start..end` is the range of the entry's octets in the block. If the value is a
 /// short decimal number, `start` contains its digits.
 #[derive(Clone, Copy)]
 pub(crate) struct StoredEntry {
@@ -98,7 +98,7 @@ fn parts_of<'a>(form: DraftValue<'a>) -> (ValueKind, &'a [u8])
 /// The entries of a dump, in order. Each entry is an item or a line that ends a subset.
 ///
 /// Short decimal numbers are stored in their entries. All other numbers and all strings are stored
-/// in one block of memory. An entry occupies 32 octets, plus any octets that it has in the block.
+/// in one block of memory. Each entry occupies 32 octets, not counting any octets in the block.
 /// Contracts describe this type as a list of entries.
 ///
 /// ```
@@ -202,7 +202,8 @@ impl Entries {
         Ok(())
     }
 
-    /// Appends the end of a subset. `line` is the number of the line that ends the subset.
+    /// Appends an entry that marks the end of a subset. `line` is the number of the line that ends
+    /// the subset.
     ///
     /// # Errors
     ///
@@ -229,8 +230,8 @@ impl Entries {
         self.kept.len()
     }
 
-    /// Returns the entry at an index (counted from 0) and its octets, or `None` if the index is out
-    /// of range.
+    /// Returns the entry at the given index (counted from 0) and its octets, or `None` if the index
+    /// is out of range.
     #[inline(always)]
     pub(crate) fn get(&self, index: usize) -> Option<(StoredEntry, &[u8])>
         ensures { option_map (λ found. entry_with found.0 found.1.now) result
@@ -242,7 +243,7 @@ impl Entries {
         Some(self.entry_at(index))
     }
 
-    /// Returns the entry at an index and its octets. The index must be in range.
+    /// Returns the entry at the given index and its octets. The index must be in range.
     #[inline(always)]
     pub(crate) fn entry_at(&self, index: usize) -> (StoredEntry, &[u8])
         requires { index < length self.now }
@@ -256,7 +257,7 @@ impl Entries {
         }
     }
 
-    /// Returns whether the entry at an index marks the end of a subset.
+    /// Returns whether the entry at the given index marks the end of a subset.
     pub(crate) fn is_end(&self, index: usize) -> bool
         requires { index < length self.now }
         ensures { Some result ≡ option_map is_end (slice_get self.now index) }

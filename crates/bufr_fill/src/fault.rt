@@ -46,8 +46,8 @@ pub enum WalkRefusal {
 }
 
 impl WalkRefusal {
-    /// Returns the fault number (31, 32 or 35). The same fault in the data of a message has the
-    /// same number.
+    /// Returns the fault number (31, 32 or 35). Faults in the data of a message use the same
+    /// numbers.
     pub fn number(self) -> u8
         ensures { result ≡ (refusal_parts self).0 }
     {
@@ -73,7 +73,7 @@ impl WalkRefusal {
 /// The reason why an item cannot be written.
 #[derive(Clone, Copy, Debug, PartialEq, Eq, Error)]
 pub enum ItemFault {
-    /// The document contains an item that was not expected, or no further item.
+    /// The document contains an unexpected item, or an expected item is missing.
     #[error("expected {0}")]
     WrongDescriptor(Expected),
     /// The value is not a decimal number, is not an integer after scaling, or does not match the
@@ -89,7 +89,7 @@ pub enum ItemFault {
     /// The value is missing, but the field does not allow missing values.
     #[error("missing forbidden")]
     MissingForbidden,
-    /// A replication factor in compressed data differs from that of the first subset.
+    /// A replication factor in compressed data is not the same as in the first subset.
     #[error("unequal factor")]
     UnequalFactor,
     /// In compressed data, the strings differ and need more octets than an increment can contain,
@@ -102,7 +102,7 @@ pub enum ItemFault {
 }
 
 impl ItemFault {
-    /// Returns the number that this fault has in a document (51 to 55, 58, 59 or 62).
+    /// Returns the number of this fault (51 to 55, 58, 59 or 62).
     pub fn number(self) -> u8
         ensures { result ≡ (item_report self).0 }
     {
@@ -122,8 +122,8 @@ impl ItemFault {
 /// The reason why the items of a document cannot be written.
 #[derive(Clone, Copy, Debug, PartialEq, Eq, Error)]
 pub enum DraftFault {
-    /// The line number of an item, and the reason why it cannot be written. If an expected item is
-    /// missing, the number is that of the line that ends the subset.
+    /// The line number of an item, and the reason why the item cannot be written. If an expected
+    /// item is missing, the number of the line that ends the subset is used instead.
     #[error("{1}")]
     Item(u64, ItemFault),
     /// Memory ran out.

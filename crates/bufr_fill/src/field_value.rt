@@ -1,4 +1,4 @@
-//! Functions that convert an item of a document to the content of its field and encode that content
+//! Functions that convert an item of a document to the content of its field, and encode the content
 //! as bits.
 ghost use Rattle.std.specs.Prelude.{◌≡◌, ℕ, List, ◌≤◌, ◌<◌, ◌-◌, ◌/◌, ◌^◌, ◌==◌, ◌++◌, false, length, replicate, unsigned_abs, Some, IfOk, ◌+◌, ◌*◌, true, OnOk, OnErr};
 ghost use Rattle.std.specs.List.{list_all};
@@ -16,19 +16,18 @@ use std::alloc::AllocError;
 /// The content of a field, converted from an item of a document.
 #[derive(Clone, Copy)]
 pub(crate) enum FieldContent<'a> {
-    /// The number that is encoded in the field's bits. The reference value has already been
-    /// subtracted.
+    /// The number to store in the field, after the reference value has been subtracted.
     Number(u64),
-    /// The octets of a string. In the field, the string is padded with spaces to the field's width.
+    /// The octets of a string, which is padded with spaces when it is written.
     Text(&'a [u8]),
-    /// A missing value. All bits of the field are ones.
+    /// A missing value, which is encoded as all ones.
     Missing,
     /// A redefined reference value.
     Reference(i64),
 }
 
 /// Returns the exclusive upper limit for the numbers in a field that is `width` bits wide. If the
-/// field can be missing, the limit excludes the number whose bits are all ones.
+/// field's value can be missing, the limit also excludes the number whose bits are all ones.
 pub(crate) fn raw_limit(may_be_missing: bool, width: u32) -> u64
     requires narrow { width ≤ 63 }
     ensures { result ≡ raw_limit may_be_missing width }
@@ -40,9 +39,9 @@ pub(crate) fn raw_limit(may_be_missing: bool, width: u32) -> u64
     }
 }
 
-/// Returns the number that encodes a decimal value in a field. `read` is the result of reading the
-/// value with the field's scale. Returns a fault if the value cannot be read or if the number does
-/// not fit in the field.
+/// Subtracts the field's reference value from a decimal value. `read` is the result of parsing the
+/// decimal value with the field's scale. Returns a fault if the value cannot be parsed or if the
+/// result does not fit in the field.
 #[inline(always)]
 // rule: fault-52, fault-53
 fn raw_of_read(read: Result<i128, NumberFault>, spec: &Spec) -> Result<u64, ItemFault>

@@ -1,25 +1,24 @@
-//! Laws about writing data. A walk writes the data that the definition specifies for the given
-//! items. If the items of a dump are written again, reading the resulting bits gives the same
-//! result as reading the original data, and the number of bits does not increase. Each item of
-//! compressed data has the least possible `k`.
+//! Laws about writing data. A walk writes the bits that the definition specifies for the given
+//! items. If a dump is encoded in the form of the original data, the new data contain the same
+//! values and are never longer. Each item of compressed data has the smallest possible `k`.
 ghost use Rattle.std.specs.Prelude.{◌≡◌, ◌≤◌, ℕ, List, [], Bool, false, length, Ok, Err};
 ghost use Rattle.bufr_walk.specs.Prelude.{FieldSpec, IsSpec, Content, found, packed_field, Course, at_end, TakenField, Takes, oks, answers_of, max_values, Item, Data, Values, apart, together, each_subset, subsets_from};
 ghost use Rattle.bufr_fill.specs.Prelude.{AllAlike, OfTemplates, WritesDrafts, AllFit, AllHaveOctets, AreSaid, HasReading, IsReadBack, IsWritten, IsTogetherOrNot, AreDumped, IsWrittenAgain, plain_filler, fill, cells_at, packed_filler, packed_data, data_bits, HasLeastK, packing, DraftEntry, Subset, DraftFault, PackedOutModel, new_packed_out, PackedFills, all_at_end, rows_left, IsFaultHere, PlainOutModel, PlainFills, IsFaultNext, items_left, end_left};
 
-/// Law: if data can be read, the items of their dump can be written as data in the same form
-/// (compressed or plain). Reading the written bits gives the same result as reading the original
-/// data, and the number of bits does not increase. (WMO-No. 306, Volume I.2, FM 94: section 4)
+/// Law: if data can be read, the items of the dump can be written as data in the same form
+/// (compressed or plain). Reading the written bits gives the same values as reading the original
+/// data, and the number of bits does not increase. (FM 94 BUFR, section 4)
 pub fn data_round_trip()
     ensures { OfTemplates (λ course. (d : Data) (values : Values) (used : ℕ) (drafts : List Subset)
         → HasReading course d values used → AreDumped (each_subset d.subsets values) drafts
         → IsWrittenAgain course d values used drafts) }
 {}
 
-/// Law: an item of compressed data is written with the least `k` that allows its field contents to
-/// be read back. Therefore, if an item is read and written again, neither its `k` nor its number of
-/// bits increases. Items whose field contents come from any other source also have the least `k`,
-/// provided that the contents fit in the field. (WMO-No. 306, Volume I.2, FM 94: section 4,
-/// compression. Using the least `k` is our choice.)
+/// Law: an item of compressed data is written with the smallest `k` that allows its contents to be
+/// read back. Therefore, if an item is read and written again, neither its `k` nor its number of
+/// bits increases. The law also applies to contents that were not read from data, provided that
+/// they fit in the field. Using the smallest `k` is our choice. (FM 94 BUFR, section 4,
+/// compression)
 pub fn items_are_packed_with_the_least_k()
     ensures read { (n : ℕ) (spec : FieldSpec) (contents : List Content) (bits suffix : List Bool)
         → 1 ≤ n → IsSpec spec
@@ -29,18 +28,18 @@ pub fn items_are_packed_with_the_least_k()
         → packing spec contents ≡ Ok out → HasLeastK n spec contents }
 {}
 
-/// Law: if the items of a document can be written as compressed or plain data, their field contents
-/// can be read back from the written bits, even if other bits follow. (WMO-No. 306, Volume I.2, FM
-/// 94: section 4)
+/// Law: if the items of a document can be written as compressed or plain data, the contents of
+/// their fields can be read back from the written bits, even if other bits follow. (FM 94 BUFR,
+/// section 4)
 pub fn written_data_are_read()
     ensures { OfTemplates (λ course. (compressed : Bool) (drafts : List Subset) (bits : List Bool)
         → AllHaveOctets drafts → data_bits compressed course drafts ≡ Ok bits
         → IsReadBack course compressed drafts bits) }
 {}
 
-/// Law: if the items read from a message are written in the form in which they were read
-/// (compressed or plain), the written bits depend only on those items. Two documents whose items
-/// have the same field contents produce the same bits.
+/// Law: if the items read from a message are written in the form of that message (compressed or
+/// plain), the written bits depend only on the items. Two documents that specify the same contents
+/// for all fields produce the same bits.
 pub fn data_are_fixed_by_what_is_said()
     ensures { OfTemplates (λ course. (d : Data) (values : Values) (used : ℕ)
         (drafts others : List Subset) → HasReading course d values used
@@ -50,7 +49,7 @@ pub fn data_are_fixed_by_what_is_said()
 {}
 
 /// Law: if the items of a document can be written (as compressed or plain data), any other document
-/// whose items have the same field contents produces the same bits.
+/// that specifies the same contents for all fields produces the same bits.
 pub fn alike_drafts_have_the_same_data()
     ensures { OfTemplates (λ course. (compressed : Bool) (drafts others : List Subset)
         (bits : List Bool) → AllHaveOctets drafts → AllAlike drafts others
@@ -58,12 +57,11 @@ pub fn alike_drafts_have_the_same_data()
         → data_bits compressed course others ≡ Ok bits) }
 {}
 
-/// Law: if compressed data can be read, the items of their dump can always be written as plain
-/// data. If plain data of at most 134,217,728 bits can be read, the items of their dump can be
-/// written as compressed data, unless replication factors differ between subsets or increments
-/// cannot represent the field contents. No other fault is possible. In both cases, the items of
-/// each subset can be read back from the written bits. (WMO-No. 306, Volume I.2, FM 94: section 4,
-/// compression)
+/// Law: if compressed data can be read, the items of the dump can always be written as plain data.
+/// If plain data of at most 134,217,728 bits can be read, the items of the dump can be written as
+/// compressed data, unless replication factors differ between subsets or the contents of a field do
+/// not fit in increments. No other fault is possible. In both cases, the items of each subset can
+/// be read back from the written bits. (FM 94 BUFR, section 4, compression)
 pub fn data_are_written_in_the_other_form()
     ensures apart { OfTemplates (λ course. (d : Data) (items : List (Item (List Content)))
         (used : ℕ) (drafts : List Subset) → HasReading course d (together items) used
@@ -99,10 +97,10 @@ pub fn walks_write_as_defined()
 {}
 
 /// Law: if a walk over the items of one subset (plain data) or of all subsets (compressed data)
-/// fails, it reports the fault that the definition specifies. The fault concerns an item, the first
-/// remaining item after the end of the template, or an invalid width or descriptor. An invalid
-/// width or descriptor is reported with the line number of the next entry (in compressed data, the
-/// next entry of the first subset).
+/// fails, it reports the fault that the definition specifies. The fault is caused by an item, by
+/// the first item that remains after the end of the template, or by an invalid width or descriptor.
+/// An invalid width or descriptor is reported with the line number of the next entry (in compressed
+/// data, the next entry of the first subset).
 #[tactic(auto, using(crate::proofs::WalkLemmas::fault_as_defined, crate::proofs::PackedWalks::fault_as_defined))]
 pub fn faults_are_as_defined()
     ensures plain { (course : Course) (left : List DraftEntry) (f : DraftFault)

@@ -2,8 +2,8 @@
 //!
 //! An encoder passes the items of a document ([`Entries`]) to a writer. [`PlainOut`] writes plain
 //! data, one subset after another, and [`PackedOut`] writes compressed data, in which each item is
-//! stored once for all subsets. Both writers are used with the walk from `bufr_walk`. After the
-//! walk, the encoder takes the written octets from the writer.
+//! stored once for all subsets. Both writers are used with the `walk` function from `bufr_walk`.
+//! After the walk, the encoder takes the written octets from the writer.
 #![tactic(auto)]
 
 mod draft;

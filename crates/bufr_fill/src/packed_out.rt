@@ -23,21 +23,21 @@ use std::marker::Model;
 /// stored once for all subsets.
 ///
 /// An item consists of a base, a 6-bit number `k` and, if `k` is greater than 0, an increment for
-/// each subset. A single walk processes the items of all subsets. (WMO-No. 306, Volume I.2, FM 94:
-/// section 4, compression)
+/// each subset. A single walk processes the items of all subsets. (FM 94 BUFR, section 4,
+/// compression)
 ///
 /// Contracts describe a writer in terms of its subsets, the number of items taken from each subset,
-/// and the bits written for those items. A fault, including [`DraftFault::Memory`], leaves the
-/// writer unchanged.
+/// and the bits written for those items. If a call returns a fault, even [`DraftFault::Memory`],
+/// the writer is left unchanged.
 #[derive(Drop)]
 pub struct PackedOut<'s> {
     entries: &'s Entries,
     ends: Vec<usize>,
     index: usize,
-    /// Copies of the entries in the current group of rows, row by row.
+    /// Copies of the entries in the current block of [`ROWS`] rows, row by row.
     transposed: Vec<StoredEntry>,
-    /// The field contents of the current row, one for each subset. The memory is reused for each
-    /// row.
+    /// The contents of the fields in the current row, which contains one field for each subset. The
+    /// memory is reused for each row.
     contents: Vec<FieldContent<'s>>,
     out: BitWriter,
 }
@@ -59,8 +59,8 @@ impl<'s> Model for PackedOut<'s> {
         (length s.out.bits) };
 }
 
-/// Writes the field contents of all subsets as one item. If the contents are numbers, the base is
-/// the least number. The value of `k` is as small as possible.
+/// Writes the contents of one field in all subsets as one item. If the contents are numbers, the
+/// base is the smallest number. The value of `k` is as small as possible.
 #[tactic(auto, using(crate::proofs::RowLemmas::is_content_at))]
 // rule: packs-factors-and-references, fault-59, packs-equal, packs-all-missing
 fn pack_row(
@@ -140,8 +140,8 @@ impl<'s> PackedOut<'s> {
         }))
     }
 
-    /// Returns the line number of the next item in the first subset. If that subset has no items
-    /// left, the result is the number of the line that ends it.
+    /// Returns the line number of the next item in the first subset. If the first subset has no
+    /// items left, the result is the number of the line that ends it.
     pub fn line(&self) -> u64
         ensures { result ≡ first_line_at self.now.index self.now.subsets }
     {
@@ -248,8 +248,8 @@ impl<'a, 'b> Row<'a, 'b> {
             .entry_at(self.ends[subset].min(start + self.index))
     }
 
-    /// Finds a subset's entry as [`Row::find`] does, but uses a copy from `transposed` if one
-    /// exists and the entry has no octets.
+    /// Like [`Row::find`], but uses the copy in `transposed` if there is one and the entry has no
+    /// octets.
     #[inline(always)]
     fn find_transposed(self, transposed: &[StoredEntry], subset: usize) -> (StoredEntry, &'a [u8])
         requires within { subset < length self.ends.now }
@@ -265,7 +265,7 @@ impl<'a, 'b> Row<'a, 'b> {
         }
     }
 
-    /// Returns the line number of a subset's entry.
+    /// Returns the line number of a subset's entry in this row.
     fn line_of(self, subset: usize) -> u64
         requires { subset < length self.ends.now }
         ensures { (c : RowCell)
@@ -276,7 +276,7 @@ impl<'a, 'b> Row<'a, 'b> {
         entry.line
     }
 
-    /// Returns the line number of the first subset's entry.
+    /// Returns the line number of the first subset's entry in this row.
     fn first_line(self) -> u64
         ensures { result ≡ first_line_at self.entry.index (subsets_of self.entry.entries.now) }
     {
@@ -284,7 +284,7 @@ impl<'a, 'b> Row<'a, 'b> {
     }
 }
 
-/// The number of rows whose entries are copied in one step.
+/// The number of rows whose entries are copied at once.
 const ROWS: usize = 8;
 
 /// The minimum number of entries in a document that counts as large. The entries of a large
@@ -321,8 +321,7 @@ fn transpose(row: Row<'_, '_>, transposed: &mut Vec<StoredEntry>) -> Result<(), 
     Ok(())
 }
 
-/// Converts the entries of a row to field contents, and returns the range of the numbers among
-/// those contents.
+/// Converts the entries of a row to the contents of fields, and returns the range of the numbers.
 fn read_row<'a>(
     row: Row<'a, '_>,
     transposed: &[StoredEntry],
@@ -349,8 +348,8 @@ fn read_row<'a>(
     Ok(range)
 }
 
-/// Searches a row for the first item whose field content differs from that of the first subset, and
-/// returns the item's line number.
+/// Returns the line number of the first item in a row whose content differs from that in the first
+/// subset, or 0 if all items have the same content.
 // rule: fault-58
 fn unlike_line(row: Row<'_, '_>, spec: &Spec, contents: &[FieldContent<'_>]) -> u64
     requires all { AreContentsOf spec.now contents.now }
@@ -366,8 +365,8 @@ fn unlike_line(row: Row<'_, '_>, spec: &Spec, contents: &[FieldContent<'_>]) -> 
     0
 }
 
-/// Checks that no subset has an item in this row. If a subset has one, the fault contains the line
-/// number of the first such item.
+/// Checks that no subset has an item in this row. If there are any items, the fault contains the
+/// line number of the first one.
 fn all_at_end(row: Row<'_, '_>) -> Result<(), DraftFault>
     ensures { EndsAllSubsets row.entry.index (subsets_of row.entry.entries.now) result }
 {
@@ -398,7 +397,7 @@ fn is_spaced(text: &[u8], longer: &[u8]) -> bool
     start == text && are_spaces(rest)
 }
 
-/// Returns whether two field contents are equal. Trailing spaces are ignored.
+/// Returns whether the contents of two fields are equal. Trailing spaces are ignored.
 #[tactic(auto, using(crate::proofs::RowLemmas::same_references, crate::proofs::RowLemmas::other_references, crate::proofs::RowLemmas::same_spaced, crate::proofs::RowLemmas::spaced_other))]
 #[inline(always)]
 fn is_same(one: FieldContent<'_>, other: FieldContent<'_>, spec: &Spec) -> bool
@@ -418,7 +417,7 @@ fn is_same(one: FieldContent<'_>, other: FieldContent<'_>, spec: &Spec) -> bool
     }
 }
 
-/// Returns whether all field contents are equal to `first`.
+/// Returns whether all fields have the same content as `first`.
 #[tactic(auto, using(crate::proofs::RowLemmas::is_content_at, crate::proofs::RowLemmas::alike_more, crate::proofs::RowLemmas::alike_not, crate::proofs::RowLemmas::alike_done))]
 fn are_alike(
     first: FieldContent<'_>,
@@ -454,7 +453,7 @@ fn number_or(other: u64, content: FieldContent<'_>) -> u64
     }
 }
 
-/// The least and greatest numbers among the field contents of an item. If there are no numbers,
+/// The smallest number and the greatest number in the fields of a row. If there are no numbers,
 /// `least` is 2^64 - 1 and `greatest` is 0.
 #[derive(Clone, Copy)]
 pub(crate) struct NumberRange {
@@ -486,7 +485,7 @@ impl NumberRange {
         }
     }
 
-    /// Returns the least number in the range, or 0 if the range contains no numbers.
+    /// Returns the smallest number in the range, or 0 if the range contains no numbers.
     fn base(self) -> u64
         ensures { (count : ℕ) (contents : List FieldContent) → IsRangeOf self contents
             → result ≡ unwrap_or (lowest (padded_contents count contents)) 0 }
@@ -499,8 +498,8 @@ impl NumberRange {
     }
 }
 
-/// Returns the least `k` in the range 1 to 63 for which a `k`-bit increment can represent `spread`
-/// without being read as missing. Returns 64 if no such `k` exists.
+/// Returns the smallest `k` from 1 to 63 for which `spread` fits in a `k`-bit increment without
+/// being read as missing. Returns 64 if no such `k` exists.
 #[tactic(auto, using(crate::proofs::RowLemmas::least_here, crate::proofs::RowLemmas::least_later, crate::proofs::RowLemmas::least_end))]
 // rule: packs-class-31
 fn least_bits(spread: u64, may_be_missing: bool) -> u32
@@ -514,8 +513,8 @@ fn least_bits(spread: u64, may_be_missing: bool) -> u32
     64
 }
 
-/// Returns the increment that yields a field's number when added to the base. If the content of the
-/// field is not a number, the increment consists of `k` ones.
+/// Returns the increment for a field, which is the difference between its number and the base. If
+/// the content of the field is not a number, the increment consists of `k` ones.
 #[tactic(auto, using(crate::proofs::FieldLemmas::ones_bits))]
 fn increment_of(content: FieldContent<'_>, base: u64, k: u32) -> u64
     requires narrow { k ≤ 63 }
@@ -532,7 +531,7 @@ fn increment_of(content: FieldContent<'_>, base: u64, k: u32) -> u64
     }
 }
 
-/// Writes a `k`-bit increment for each field content, relative to the base.
+/// Writes a `k`-bit increment for each subset.
 #[tactic(auto, using(crate::proofs::RowLemmas::short_at, crate::proofs::RowLemmas::flat_done))]
 fn put_increments(out: &mut BitWriter, contents: &[FieldContent<'_>], base: u64, k: u32)
     requires narrow { k ≤ 63 }
@@ -547,8 +546,8 @@ fn put_increments(out: &mut BitWriter, contents: &[FieldContent<'_>], base: u64,
     }
 }
 
-/// Writes an item whose numbers differ. The base is the least number and is followed by `k` and the
-/// increments.
+/// Writes a numeric item whose values are not all equal. The base (the smallest number) is followed
+/// by `k` and the increments.
 // rule: packs-numbers
 fn pack_numbers(
     out: &mut BitWriter,
@@ -589,8 +588,8 @@ fn trimmed_len(octets: &[u8]) -> usize
     0
 }
 
-/// Returns the least number of octets that an increment needs so that all strings can be restored
-/// and no increment is read as missing.
+/// Returns the smallest `k` greater than 0 for which every string, without its trailing spaces,
+/// fits in `k` octets and is not read as missing.
 #[tactic(auto, using(crate::proofs::RowLemmas::eighth_most, crate::proofs::RowLemmas::need_more, crate::proofs::RowLemmas::need_done, crate::proofs::RowLemmas::is_content_at))]
 // rule: packs-texts-not-missing
 fn octets_needed(contents: &[FieldContent<'_>], spec: &Spec) -> usize
@@ -651,8 +650,8 @@ fn put_prefixes(out: &mut BitWriter, contents: &[FieldContent<'_>], k: usize, sp
     }
 }
 
-/// Writes an item whose strings differ. The base consists of zero bits and is followed by `k` and
-/// the first `k` octets of each string.
+/// Writes a text item whose values are not all equal. The base consists of zero bits and is
+/// followed by `k` and the first `k` octets of each string.
 #[tactic(auto, using(crate::proofs::RowLemmas::zero_bits))]
 // rule: packs-texts
 fn pack_texts(

@@ -14,8 +14,7 @@ use std::alloc::Global;
 use std::marker::Model;
 
 /// A writer that converts the items of a document to plain data, one subset after another. Each
-/// walk processes the items of one subset, and each item is written as the next field of the walk.
-/// (WMO-No. 306, Volume I.2, FM 94: section 4)
+/// walk writes the items of one subset. (FM 94 BUFR, section 4)
 ///
 /// Contracts describe a writer in terms of the remaining entries and the bits written so far.
 ///

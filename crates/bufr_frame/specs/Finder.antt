@@ -1,5 +1,4 @@
--- Only contracts need this file. The model of a finder, its search, and the effects of its
--- functions.
+-- Only contracts need this file. A mathematical model of `Finder` and its functions.
 use Rattle.std.specs.Prelude.{◌≡◌, ◌≢◌, ℕ, ◌+◌, ◌*◌, ◌<◌, ◌≤◌, max, Bool, true, false, List, [], ◌∷◌, ◌++◌, Option, Some, None, length, drop, ◌-◌, Result, Ok, Err, take, ◌⊎◌, ◌^◌, codes, IfSome}
 use Rattle.std.specs.List.{concat}
 use Rattle.std.specs.Io.KnownBytes.{Consumes, IsAtEnd}
@@ -22,13 +21,13 @@ abbrev pub min_held : ℕ
 min_held = 4096
 
 pub record FinderModel : Type 0 where
-  -- the buffered octets that the search has passed
+  -- the buffered octets that have already been searched
   pub before : List ℕ
-  -- the remaining octets, which have been read but not yet passed by the search
+  -- the remaining octets, which have been read but not yet searched
   pub rest : List ℕ
   -- the stream offset of the first remaining octet
   pub at : ℕ
-  -- whether a read has found the end of the stream
+  -- whether the end of the stream has been reached
   pub ended : Bool
   -- the fault that stopped the finder, if any
   pub fault : Option RunFault
@@ -38,7 +37,7 @@ pub record FinderModel : Type 0 where
   pub longest : ℕ
   -- the buffer's capacity, in octets
   pub room : ℕ
-  -- the free space after the buffered octets, in octets
+  -- the number of free octets after the buffered ones
   pub free : ℕ
 
 -- the number of buffered octets
@@ -67,8 +66,8 @@ pub record Follows (at : ℕ) (s : List ℕ) (at' : ℕ) (rest : List ℕ) : Typ
   pub offset : at' ≡ at + passed
   pub left : rest ≡ drop passed s
 
--- A call read the octets bs, and the search passed the events. If the end of the stream had already
--- been found, the call read nothing.
+-- A call read the octets bs and found the given events. If the end of the stream had already been
+-- reached, the call read nothing.
 pub record ReadsAndPasses (left left' : Option (List ℕ)) (old new : FinderModel) (bs : List ℕ)
     (events : List StreamEvent) : Type 0 where
   pub read : Consumes left left' bs
@@ -77,24 +76,24 @@ pub record ReadsAndPasses (left left' : Option (List ℕ)) (old new : FinderMode
   pub kept : old.ended ≡ true → (new.ended ≡ true) × (bs ≡ []) × (new.reads ≡ old.reads)
   pub end : (old.ended ≡ true → IsAtEnd left) → new.ended ≡ true → IsAtEnd left'
 
--- The greatest declared length was updated with the lengths declared at the events in `seen`.
+-- `longest` is now the maximum of its old value and the declared lengths of the events in `seen`.
 abbrev pub RaisesLongest : FinderModel → FinderModel → List ℕ → List StreamEvent → Type 0
 RaisesLongest old new bs seen = new.longest
     ≡ max old.longest (longest_of old.at (old.rest ++ bs) seen)
 
--- The end of the stream has been found, and no event begins in the remaining octets.
+-- The end of the stream has been reached, and no event begins in the remaining octets.
 abbrev pub HasNoMoreEvents : FinderModel → Type 0
 HasNoMoreEvents s = (s.ended ≡ true) × ((at : ℕ) → scan_from 0 at s.rest ≡ [])
 
--- The finder stopped with the given fault before finding the end of the stream, and no event in the
--- remaining octets is certain.
+-- The given fault stopped the finder before it reached the end of the stream, and the remaining
+-- octets do not determine the next event.
 abbrev pub IsUndecided : FinderModel → RunFault → Type 0
 IsUndecided s fault = (s.fault ≡ Some fault) × (s.ended ≡ false)
     × ((at : ℕ) → NoEventCertain at s.rest)
 
--- The finder stopped with a fault other than `Write`. `InputTooLong` occurs only after 2^32 reads,
--- each of which returned at least one octet. `Memory` occurs only after fewer than 2^32 reads, and
--- only if the buffer's capacity is less than twice the number of octets that may be buffered.
+-- The finder stopped with a fault other than `Write`. If the fault is `InputTooLong`, 2^32 reads
+-- were made, and each returned at least one octet. If the fault is `Memory`, fewer reads were made,
+-- and the old capacity was less than twice the number of octets that the finder may buffer.
 abbrev pub StopsFinder : (old new : FinderModel) → RunFault → Type 0
 StopsFinder old new Read = IsUndecided new Read
 StopsFinder old new Write = ⊥
@@ -104,23 +103,22 @@ StopsFinder old new Memory =
     IsUndecided new Memory × (new.reads < max_reads) × (old.room < 2 * max min_held new.longest)
 
 -- Consecutive reads returned the lists of octets in `given`, and no read returned more than `most`
--- octets. Before each read, no event in the octets available by then was certain.
+-- octets. Before each read, more octets were needed to determine the next event.
 abbrev pub EachReadIsNeeded : (most at : ℕ) (left : List ℕ) (given : List (List ℕ)) → Type 0
 EachReadIsNeeded most at left [] = Unit {0}
 EachReadIsNeeded most at left (octets ∷ more) =
     NoEventCertain at left × (length octets ≤ most) × EachReadIsNeeded most at (left ++ octets) more
 
--- The reads made by a call returned the octets bs. Each read was needed and returned no more octets
--- than the finder may buffer.
+-- Together, the reads in a call returned the octets bs. Each read was needed and returned no more
+-- octets than the finder may buffer.
 pub record CallReadsAreNeeded (old new : FinderModel) (bs : List ℕ) : Type 0 where
   pub given : List (List ℕ)
   pub octets : bs ≡ concat given
   pub made : new.reads ≡ old.reads + length given
   pub waited : EachReadIsNeeded (max min_held new.longest) old.at old.rest given
 
--- A call read octets, and the search passed the events. Each read was needed. Unless a fault had
--- occurred earlier, the greatest declared length was updated with the lengths declared at the
--- events in `seen`.
+-- A call read octets only as needed and found the given events. Unless a fault had occurred
+-- earlier, `longest` was updated with the declared lengths of the events in `seen`.
 abbrev pub ReadsOn : (left left' : Option (List ℕ)) → (old new : FinderModel)
     → (events seen : List StreamEvent) → Type 0
 ReadsOn left left' old new events seen =
@@ -129,12 +127,12 @@ ReadsOn left left' old new events seen =
 
 -- ---- The result of searching the remaining octets. More octets may follow.
 
--- the first event in the remaining octets, if any; after a failed call, the length that it declares
--- counts towards the greatest declared length
+-- the first event in the remaining octets, if any; after a fault, its declared length counts toward
+-- `longest`
 abbrev pub first_left : FinderModel → List StreamEvent
 first_left s = first_event (scan_from 0 s.at s.rest)
 
--- the finder after passing n more octets and updating the greatest declared length
+-- the finder after it has searched n more octets and updated `longest`
 abbrev pub gone_to : FinderModel → (n stated_length : ℕ) → FinderModel
 gone_to s n stated_length =
     record s {
@@ -156,7 +154,7 @@ passed_by s (Found place here stated_length) =
 passed_by s (NeedsMore place stated_length) = gone_to s place stated_length
 passed_by s End = s
 
--- The event is the last one that the finder passed.
+-- The event matches the candidate and ends where the remaining octets begin.
 abbrev pub IsEventAt : FinderModel → Candidate → (stated_length : ℕ) → Event → Type 0
 IsEventAt s (Stray cause) n (Frame offset octets) = ⊥
 IsEventAt s (Stray cause) n (Stray offset why) = (offset + 4 ≡ s.at) × (why ≡ cause)
@@ -183,8 +181,8 @@ pub record IsNextEvent (ended : Bool) (rest : List ℕ) (place : ℕ)
       (at + place + candidate_len (drop place rest) here)
       (drop (place + candidate_len (drop place rest) here) rest)
 
--- No event begins before index `place`, and no event is certain yet. Either `BUFR` begins at index
--- `place`, or fewer than four octets remain from that index on.
+-- No event begins before index `place`, and more octets are needed to determine the next event. If
+-- at least four octets are left from index `place` on, they begin with `BUFR`.
 pub record IsIncomplete (rest : List ℕ) (place stated_length : ℕ) : Type 0 where
   pub within : place ≤ length rest
   pub first : StartsWithBufr rest → place ≡ 0
@@ -203,8 +201,7 @@ pub record HasNoFurtherEvent (rest : List ℕ) : Type 0 where
 abbrev pub IsStatedLength : List ℕ → ℕ → Type 0
 IsStatedLength m stated_length = (stated_length ≡ length_here m) × (stated_length < 2 ^ 24)
 
--- Searching the octets in `rest` yields the given result. More octets may follow unless `ended` is
--- true.
+-- Searching `rest` yields the given result. More octets may follow unless `ended` is true.
 abbrev pub IsSearchResult : Bool → List ℕ → SearchResult → Type 0
 IsSearchResult ended rest (Found place here stated_length) =
     IsNextEvent ended rest place (Some here) × IsStatedLength (drop place rest) stated_length
@@ -213,11 +210,11 @@ IsSearchResult ended rest (NeedsMore place stated_length) =
     × IsStatedLength (drop place rest) stated_length
 IsSearchResult ended rest End = (ended ≡ true) × HasNoFurtherEvent rest
 
--- ---- The buffer of a finder, in which the passed octets precede the remaining ones.
+-- ---- The buffer of a finder, which contains searched octets followed by the remaining octets.
 
--- The counts of a finder do not overflow, and the finder buffers no more octets than allowed. A
--- finder that has found the end of the stream has no fault. Each read before a fault or the end of
--- the stream returned at least one octet.
+-- The counters of a finder do not overflow, and the finder does not buffer more octets than
+-- allowed. A finder that has reached the end of the stream has no fault. Each read before a fault
+-- or the end of the stream returned at least one octet.
 abbrev pub IsFinder : Inside → Type 0
 IsFinder f =
     (f.passed ≤ length f.input.held)
@@ -248,7 +245,7 @@ LeavesFinder old new (Ok Done) = (new.fault ≡ None) × HasNoMoreEvents new
 LeavesFinder old new (Err fault) =
     (old.ended ≡ false) × (old.fault ≡ None → StopsFinder old new fault)
 
--- A call read octets only while no event was certain, and returned the next event or a fault.
+-- A call read only until the next event could be determined, and returned this event or a fault.
 pub record ReturnsNextEvent (left left' : Option (List ℕ)) (reads reads' : ℕ)
     (old new : FinderModel)
     (result : Result Event RunFault) : Type 0 where
@@ -257,7 +254,7 @@ pub record ReturnsNextEvent (left left' : Option (List ℕ)) (reads reads' : ℕ
   pub ends : LeavesFinder old new result
   -- The reader and the finder counted the same number of reads.
   pub counts : AddsReads reads reads' old.reads new.reads
-  -- The call made a read only if no event in the remaining octets was certain.
+  -- The call made a read only if it could not determine the next event without one.
   pub waits : old.reads ≢ new.reads → NoEventCertain old.at old.rest
   pub near : new.at < 2 ^ 63
   -- The number of buffered octets is at most 4,096 or the greatest message length declared so far,
@@ -266,8 +263,8 @@ pub record ReturnsNextEvent (left left' : Option (List ℕ)) (reads reads' : ℕ
   -- If a fault had occurred earlier, the call changed nothing.
   pub again : IfSome old.fault (λ _. new ≡ old)
 
--- No event was passed, and no event in the remaining octets is certain yet. The greatest declared
--- length was updated with the length declared at the start of the remaining octets.
+-- No event was returned, because more octets are needed to determine the next one. The length
+-- declared in the remaining octets became the new `longest` if it was greater.
 pub record NeedsRead (old new : FinderModel) : Type 0 where
   pub sound : old.fault ≡ None
   pub passes : (left : Option (List ℕ)) → ReadsAndPasses left left old new [] []
@@ -279,8 +276,8 @@ pub record NeedsRead (old new : FinderModel) : Type 0 where
   pub few : length new.rest < max min_held new.longest
   pub longest : new.longest ≡ max old.longest (length_here new.rest)
 
--- The call returned the next event because the buffered octets make it certain, or `None` because a
--- read is needed first. If a fault had occurred earlier, the call returned it again.
+-- The call returned the next event without reading, or `None` if it needs to read first. If a fault
+-- had occurred earlier, the call returned this fault again.
 abbrev pub GivesHeldEvent : FinderModel → FinderModel → Option (Result Event RunFault) → Type 0
 GivesHeldEvent old new (Some (Ok event)) =
     (old.fault ≡ None) × ((left : Option (List ℕ)) (reads : ℕ)
@@ -288,7 +285,7 @@ GivesHeldEvent old new (Some (Ok event)) =
 GivesHeldEvent old new (Some (Err fault)) = (old.fault ≡ Some fault) × (new ≡ old)
 GivesHeldEvent old new None = NeedsRead old new
 
--- the input buffer of a finder, reduced to the remaining octets (with no gap before them)
+-- the input buffer of a finder, without the searched octets; for simplicity, `gap` is 0
 abbrev pub input_left : FinderModel → InputModel
 input_left s =
     record {
@@ -300,7 +297,7 @@ input_left s =
       gap = 0;
     }
 
--- A read appended octets to the remaining ones or found the end of the stream, or a fault stopped
+-- A read appended octets to the remaining ones or reached the end of the stream, or a fault stopped
 -- the finder.
 pub record ReadsMore (left left' : Option (List ℕ)) (old new : FinderModel)
     (result : Result (Unit {0}) RunFault) (bs : List ℕ) : Type 0 where
@@ -311,8 +308,8 @@ pub record ReadsMore (left left' : Option (List ℕ)) (old new : FinderModel)
   pub long : result ≡ Err InputTooLong → max_reads ≤ new.at + length new.rest
   pub longest : new.longest ≡ old.longest
 
--- The offset of the returned frame (or of the first octet after the returned stray `BUFR`) plus the
--- number of buffered octets is at least `end`.
+-- The number of buffered octets is at least `end` minus the offset at which the returned message
+-- begins or the returned stray `BUFR` ends.
 abbrev pub HoldsUnread : (end : ℕ) → FinderModel → Result Event RunFault → Type 0
 HoldsUnread end new (Ok (Frame offset octets)) = end ≤ offset + held new
 HoldsUnread end new (Ok (Stray offset cause)) = end ≤ offset + 4 + held new

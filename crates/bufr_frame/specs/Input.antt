@@ -1,4 +1,4 @@
--- The maximum number of reads from an input, and how failed reads are counted (own).
+-- How an input is read and buffered, with at most 2^32 reads (our choice).
 -- Cited by public contracts.
 use Rattle.std.specs.Prelude.{◌≡◌, ℕ, ◌-◌, ◌*◌, min, ◌<◌, ◌≤◌, ◌^◌, nat_lt, nat_le, ◌&&◌, if◌then◌else◌, Result, Ok, Err, ◌+◌, Bool, true, false, List, [], ◌++◌, length, Option, MatchResult}
 use Rattle.bufr_bits.specs.Prelude.{counted}
@@ -6,9 +6,9 @@ use Rattle.bufr_frame.specs.declared.fault.RunFault.{RunFault}
 use Rattle.bufr_frame.specs.declared.fault.RunFault.TheVariants.{Read, Write, InputTooLong, Memory}
 use Rattle.std.specs.Io.KnownBytes.{Consumes, IsAtEnd}
 
--- ---- The counts of a reader after a call. (own)
+-- ---- The counters of a reader after a call (not part of FM 94 BUFR).
 
--- the number of failed reads after a call; only the result `Err Read` adds one
+-- the number of failed reads after a call, which grows by one only if the result is `Err Read`
 abbrev pub read_failures_after : {X : Type 0} → ℕ → Result X RunFault → ℕ
 read_failures_after count (Err Read) = counted count 1
 read_failures_after count _ = count
@@ -33,18 +33,18 @@ MakesReads reads reads' result =
 pub record InputModel : Type 0 where
   -- the buffered octets, which have been read but not yet skipped
   pub held : List ℕ
-  -- whether a read has found the end of the input
+  -- whether the end of the input has been reached
   pub ended : Bool
   -- the number of reads made so far
   pub reads : ℕ
   -- the buffer's capacity, in octets
   pub room : ℕ
-  -- the free space after the buffered octets, in octets
+  -- the number of free octets after the buffered ones
   pub free : ℕ
   -- the number of skipped octets that precede the buffered ones in memory
   pub gap : ℕ
 
--- the buffer of an input that has not been read yet
+-- an input buffer before the first read
 abbrev pub new_input : InputModel
 new_input = record { held = []; ended = false; reads = 0; room = 0; free = 0; gap = 0 }
 
@@ -56,7 +56,7 @@ FillFails refused old new Write = ⊥
 FillFails refused old new InputTooLong = (new.reads ≡ old.reads) × (new.reads ≡ max_reads)
 FillFails refused old new Memory = (new.reads ≡ old.reads) × (new.reads < max_reads) × refused
 
--- A read returned octets or found the end of the input, or a fault occurred.
+-- A read returned octets or reached the end of the input, or a fault occurred.
 abbrev pub FillEnds : (refused : Type 0) → InputModel → InputModel → List ℕ
     → Result (Unit {0}) RunFault → Type 0
 FillEnds refused old new bs (Ok u) =
@@ -72,17 +72,17 @@ SlidesOver old new =
     new.gap ≡ (if nat_lt old.reads new.reads && nat_le (length old.held) old.gap then 0
     else old.gap)
 
--- The number of octets that a call requested. If the call made no read, it requested none;
--- otherwise, it requested as many as fit after the buffered octets, but at most `most`.
+-- The number of octets that a call requested from the reader, which is 0 if the call made no read.
+-- Otherwise, the call requested enough octets to fill the buffer, but at most `most`.
 abbrev pub asked_by : (most : ℕ) → InputModel → InputModel → ℕ
 asked_by most old new =
     (new.reads - old.reads) * min most (new.free + length new.held - length old.held)
 
--- At most `most` more octets were requested.
+-- The number of requested octets has grown by at most `most`.
 abbrev pub AsksAtMost : (asked asked' most : ℕ) → Type 0
 AsksAtMost asked asked' most = asked' ≤ counted asked most
 
--- A read appended octets to the buffered ones or found the end of the input, or a fault occurred.
+-- A read appended octets to the buffered ones or reached the end of the input, or a fault occurred.
 -- Memory can run out only if `refused` is true.
 pub record FillsInput (left left' : Option (List ℕ)) (old new : InputModel) (refused : Type 0)
     (result : Result (Unit {0}) RunFault) (bs : List ℕ) : Type 0 where
@@ -93,7 +93,7 @@ pub record FillsInput (left left' : Option (List ℕ)) (old new : InputModel) (r
   pub ends : FillEnds refused old new bs result
 
 -- A read appended octets to those read earlier. If the read succeeded but returned no octets, it
--- found the end of the input.
+-- reached the end of the input.
 pub record ReadsOnce (left left' : Option (List ℕ)) (old new : List ℕ) (result : Result ℕ RunFault)
     (bs : List ℕ) : Type 0 where
   pub read : Consumes left left' bs
@@ -101,8 +101,8 @@ pub record ReadsOnce (left left' : Option (List ℕ)) (old new : List ℕ) (resu
   pub outcome : MatchResult result (λ n. (n ≡ length bs) × (n ≡ 0 → IsAtEnd left'))
       (λ fault. (fault ≡ Read) × (bs ≡ []))
 
--- Reading stopped at the end of the input or because of a fault. `InputTooLong` occurs only after
--- 2^32 reads, and `Memory` only after fewer reads.
+-- Reading stopped at the end of the input or because of a fault. If the fault is `InputTooLong`,
+-- 2^32 reads were made; if it is `Memory`, fewer were made.
 abbrev pub InputEnds : {X : Type 0} → (left : Option (List ℕ)) → (reads : ℕ)
     → Result X RunFault → Type 0
 InputEnds left reads (Ok x) = IsAtEnd left
@@ -111,8 +111,8 @@ InputEnds left reads (Err Write) = ⊥
 InputEnds left reads (Err InputTooLong) = reads ≡ max_reads
 InputEnds left reads (Err Memory) = reads < max_reads
 
--- Reads appended octets to those read earlier. Unless a fault occurred, the reads reached the end
--- of the input.
+-- The call appended the octets that it read to those read earlier. Unless a fault occurred, the
+-- call read the input to its end.
 pub record ReadsInput {X : Type 0} (left left' : Option (List ℕ)) (old new : List ℕ) (reads : ℕ)
     (result : Result X RunFault) (bs : List ℕ) : Type 0 where
   pub read : Consumes left left' bs

@@ -1,5 +1,5 @@
--- The octets of an edition 3 or 4 message (WMO-No. 306, Volume I.2, FM 94: sections 0 to 5). Each
--- section is as short as its content allows, and reserved bits are 0; these are our choices.
+-- The octets of an edition 3 or 4 message (FM 94 BUFR, sections 0 to 5). Each section is as short
+-- as its content allows, and reserved bits are 0; these are our choices.
 -- Cited by public contracts.
 use Rattle.std.specs.Prelude.{◌≡◌, ℕ, ◌≤◌, ◌+◌, ◌*◌, ◌==◌, nat_le, ◌&&◌, ◌||◌, Bool, true, List, [], ◌∷◌, ◌++◌, Option, Some, None, length, codes, is_some, slice_index, if◌then◌else◌}
 use Rattle.bufr_frame.specs.Octets.{three_octets, two_octets, octets_of_words}
@@ -7,7 +7,7 @@ use Rattle.bufr_frame.specs.Section1.{is_edition, min_section_1, octets_3, octet
 use Rattle.bufr_frame.specs.Sections.{Sections, is_padded}
 use Rattle.bufr_frame.specs.declared.section1.Head.{Head}
 
--- the parts of a message other than its head
+-- the parts of a message other than its head (the edition and the values of section 1)
 pub record MessageParts : Type 0 where
   pub local1 : List ℕ
   pub section2 : Option (List ℕ)
@@ -17,7 +17,7 @@ pub record MessageParts : Type 0 where
   pub compressed : Bool
   pub payload : List ℕ
 
--- the parts that the arguments of `write_message` specify
+-- the parts of a message that are passed to `write_message` as arguments
 abbrev pub parts_of : List ℕ → Option (List ℕ) → List ℕ → ℕ
     → (observed compressed : Bool) → List ℕ → MessageParts
 parts_of local1 section2 descriptors subsets observed compressed payload =
@@ -31,8 +31,8 @@ parts_of local1 section2 descriptors subsets observed compressed payload =
       payload = payload;
     }
 
--- the content that follows the first `prefix` octets of section 3 or 4, with a zero octet appended
--- in edition 3 if the section's length would otherwise be odd
+-- The content of section 3 or 4 after the first `prefix` octets. In edition 3, a zero octet is
+-- appended if the section's length would otherwise be odd.
 -- rule: least-lengths, writes-no-pad-octet, writes-even-sections
 abbrev pub with_even_length : (edition prefix : ℕ) → List ℕ → List ℕ
 with_even_length edition prefix octets =
@@ -43,8 +43,8 @@ with_even_length edition prefix octets =
 abbrev pub max_octets : ℕ
 max_octets = 16777215
 
--- the maximum number of octets by which a message can grow when it is rewritten, which is 2 in
--- edition 3 (for padding) and 0 in edition 4
+-- the maximum number of padding octets that rewriting can add to a message, which is 2 in edition 3
+-- and 0 in edition 4
 -- rule: becomes-canonical, encode-may-grow
 abbrev pub max_extra_octets : (edition : ℕ) → ℕ
 max_extra_octets edition = if edition == 3 then 2 else 0
@@ -75,7 +75,7 @@ head_octets h optional =
     let flags = if optional then 128 else 0 in
     if h.edition == 3 then octets_3 h flags else octets_4 h flags
 
--- section 1, which consists of its length, the values, and the octets for local use
+-- section 1, which consists of its length, its fixed fields, and the octets for local use
 -- rule: sections-1-and-2-as-given
 abbrev pub section1_octets : Head → List ℕ → (optional : Bool) → List ℕ
 section1_octets h local1 optional =
@@ -86,7 +86,7 @@ section1_octets h local1 optional =
 abbrev pub section4_octets : List ℕ → List ℕ
 section4_octets payload = three_octets (4 + length payload) ++ 0 ∷ payload
 
--- section 2, which has the same layout as section 4, or no octets if section 2 is absent
+-- section 2, which has the same layout as section 4, or an empty list if section 2 is absent
 -- rule: section-2, sections-1-and-2-as-given
 abbrev pub section2_octets : Option (List ℕ) → List ℕ
 section2_octets None = []
@@ -105,7 +105,7 @@ abbrev pub section3_octets : List ℕ → (subsets flags : ℕ) → List ℕ
 section3_octets content subsets flags =
     three_octets (7 + length content) ++ 0 ∷ two_octets subsets ++ flags ∷ content
 
--- the length of a message with the given parts, from section 0 to section 5
+-- the length of a message with the given parts, including sections 0 and 5
 abbrev pub message_size : (edition : ℕ) → MessageParts → ℕ
 message_size edition p =
     8 + (min_section_1 edition + length p.local1) + length (section2_octets p.section2)
@@ -137,19 +137,18 @@ sections_from h p = record {
   size = message_size h.edition p;
 }
 
--- the parts from which a message with the given sections is written
+-- the parts of a message, taken from its sections
 abbrev pub parts_in : Sections → MessageParts
 parts_in s = parts_of s.local1 s.section2 s.descriptors s.subsets s.observed s.compressed s.payload
 
--- ---- The length of a message that has not been written yet. Only private functions need this
--- length.
+-- ---- The computed length of a message. Only private functions and `laws.rt` use this length.
 
 -- the length of section 3 or 4, including its padding
 -- rule: least-lengths
 abbrev pub even_size : (edition size : ℕ) → ℕ
 even_size edition size = if is_padded edition size then size + 1 else size
 
--- the octets, followed by a zero octet if `pads` is true
+-- the given octets, followed by a zero octet if `pads` is true
 abbrev pub with_pad_octet : (pads : Bool) → List ℕ → List ℕ
 with_pad_octet pads octets = if pads then octets ++ 0 ∷ [] else octets
 

@@ -1,4 +1,4 @@
--- The definitions of this crate. The first lines of each file say what it contains.
+-- The definitions of this crate. Each file begins with a summary of its contents.
 pub mod Events
 pub mod Finder
 pub mod Input

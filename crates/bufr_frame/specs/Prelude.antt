@@ -1,4 +1,4 @@
--- Re-exports the names that proofs and other crates use, and declares nothing.
+-- This file only re-exports the names that proofs and other crates use.
 pub use Rattle.bufr_frame.specs.Events.{events_of, IsEvent}
 pub use Rattle.bufr_frame.specs.Finder.{NeedsRead, min_held, GivesHeldEvent, ReadsMore, input_left, len_at, passed_by, IsEventAt, IsNextEvent, IsIncomplete, gone_to, FinderModel, ReadsAndPasses, Follows, new_finder, IsStatedLength, RaisesLongest, HasNoMoreEvents, held, EachReadIsNeeded, CallReadsAreNeeded, ReturnsNextEvent, LeavesFinder, events_returned, StartsWithBufr, HasNoFurtherEvent, HoldsUnread, StopsFinder, IsUndecided}
 pub use Rattle.bufr_frame.specs.Input.{AddsReads, asked_by, AsksAtMost, max_reads, ReadsOnce, ReadsInput, InputEnds, FillFails, FillEnds, InputModel, FillsInput, SlidesOver, read_failures_after, MakesReads}

@@ -1,5 +1,5 @@
--- The values in section 1, and the octets in which each edition stores them (WMO-No. 306, Volume
--- I.2, FM 94: section 1).
+-- The values in section 1, and the octets in which each edition stores them (FM 94 BUFR, section
+-- 1).
 -- Cited by public contracts.
 use Rattle.std.specs.Prelude.{ℕ, ◌+◌, ◌==◌, ◌||◌, Bool, List, [], ◌∷◌, ◌++◌, slice_index, if◌then◌else◌}
 use Rattle.bufr_frame.specs.Octets.{u16_at, two_octets}
@@ -14,7 +14,7 @@ is_edition edition = (edition == 3) || (edition == 4)
 abbrev pub edition_of : List ℕ → ℕ
 edition_of m = slice_index m 7
 
--- octet n of section 1 (counted from 1), which follows the 8 octets of section 0
+-- octet n (counted from 1) of section 1, which follows the 8 octets of section 0
 abbrev pub octet_at : List ℕ → (n : ℕ) → ℕ
 octet_at m n = slice_index m (7 + n)
 
@@ -27,18 +27,18 @@ min_section_1 edition = if edition == 3 then 17 else 22
 abbrev pub flags_of : List ℕ → ℕ
 flags_of m = octet_at m (if edition_of m == 3 then 8 else 10)
 
--- whether section 1 stores a value in octet n, in octets n and n + 1, or not at all
+-- where section 1 stores a value (in octet n, in octets n and n + 1, or nowhere)
 pub data HeadOctets : Type 0 where
   OneOctet : (n : ℕ) → HeadOctets
   TwoOctets : (n : ℕ) → HeadOctets
   NoOctets : HeadOctets
 
--- The head with the given edition; `value key in_4 in_3` gives each of its other values. `key` is
--- the index of the value's line among the header lines of a dump (the edition has index 0), and
--- `in_4` and `in_3` are the octets that store the value in editions 4 and 3. This definition is
--- used for the values in a message (`head_of`), for the values in a dump (`header_in`), and for the
--- maximum values (`greatest_values`). In edition 3, the year is the year of the century, as in the
--- message (own).
+-- The head of a message in the given edition; `value key in_4 in_3` computes every other value. The
+-- number `key` is the index of the value's line in the header of a dump (the edition has index 0).
+-- The value is stored in the octets `in_4` in edition 4 and in the octets `in_3` in edition 3. This
+-- definition is used for the values in a message (`head_of`), for the values in a dump
+-- (`header_in`), and for the maximum values (`greatest_values`). In edition 3, the year is the year
+-- of the century, as in the message (our choice).
 -- rule: section-1-of-edition-3, section-1-of-edition-4, year-of-the-century, edition-3-lacks
 -- rule: listing-of-edition-3, odd-values-kept
 abbrev pub head_by : (edition : ℕ) → (value : (key : ℕ) → (in_4 in_3 : HeadOctets) → ℕ) → Head
@@ -93,7 +93,7 @@ octets_4 h flags =
     ∷ h.subcategory ∷ h.local_subcategory ∷ h.master_version ∷ h.local_version ∷ two_octets h.year
     ++ h.month ∷ h.day ∷ h.hour ∷ h.minute ∷ h.second ∷ []
 
--- the values of a head, except the edition, in the order of their keys
+-- the values of section 1 in a head, in the order of their keys
 abbrev pub values_of : Head → List ℕ
 values_of h =
     h.master ∷ h.centre ∷ h.subcentre ∷ h.update ∷ h.category ∷ h.subcategory

@@ -1,7 +1,7 @@
--- The sections of a message, or the first fault (WMO-No. 306, Volume I.2, FM 94: sections 0 to 5).
--- Indices in a message are counted from 0, and octets in a section from 1. Reserved bits are
--- ignored, the bits after the data remain at the end of `payload` and are not read, and edition 3
--- messages may have sections of odd length; these are our choices.
+-- The sections of a message, or the first fault (FM 94 BUFR, sections 0 to 5). Indices in a message
+-- are counted from 0, and octets in a section from 1. Our choices are to ignore reserved bits, to
+-- ignore the bits after the data (which remain in `payload`), and to accept sections of odd length
+-- in edition 3.
 -- Cited by public contracts.
 use Rattle.std.specs.Prelude.{ℕ, ◌+◌, ◌-◌, ◌%◌, ◌==◌, ◌&&◌, ◌||◌, Bool, not, nat_lt, nat_le, List, Option, Some, None, Result, Ok, Err, length, slice_index, slice_range, if◌then◌else◌, ◌≡◌, ◌<◌, true, All, take, drop, codes}
 use Rattle.bufr_bits.specs.Prelude.{◌>>=◌}
@@ -14,7 +14,7 @@ use Rattle.bufr_frame.specs.declared.fault.SectionFault.TheVariants.{Edition, Se
 -- the parts of a message
 pub record Sections : Type 0 where
   pub head : Head
-  -- the section 1 octets for local use
+  -- the octets for local use in section 1
   pub local1 : List ℕ
   -- section 2 from octet 5 on, if it is present
   pub section2 : Option (List ℕ)
@@ -28,10 +28,9 @@ pub record Sections : Type 0 where
   -- the length of the message, in octets
   pub size : ℕ
 
--- The index after section k, which begins at index p, or the first fault in that section. The three
--- length octets of the section must precede section 5 (the last four octets), the length must be at
--- least `least`, and the section must not extend into section 5. The requirements are checked in
--- this order.
+-- The index just after section k, or the first fault in that section. Section k begins at index p.
+-- The three length octets must precede section 5 (the last four octets), the length must be at
+-- least `least`, and the section must not extend into section 5. The checks are made in order.
 -- rule: odd-sections-read, length-past-end, length-under-least, section-past-end
 -- rule: order-of-sections
 unfoldable pub section_end : List ℕ → (k least p : ℕ) → Result ℕ SectionFault
@@ -41,10 +40,10 @@ section_end m k least p =
     else if nat_lt (length m - 4) (p + u24_at m p) then Err (SectionPast k)
     else Ok (p + u24_at m p)
 
--- Whether section 3 or 4 gets a padding octet (zero) when a message is written, given the section's
--- length without padding. In edition 3, FM 94 requires even lengths. Sections 1 and 2 are not
--- padded (own), because a padding octet would be read back as an octet for local use. Therefore, an
--- edition 3 message does not conform to FM 94 if section 1 or 2 has an odd length.
+-- Whether section 3 or 4 is padded with a zero octet when it is written, given its unpadded length.
+-- FM 94 requires even section lengths in edition 3. Sections 1 and 2 are not padded (our choice),
+-- because a padding octet would be read back as an octet for local use. Therefore, an edition 3
+-- message does not conform to FM 94 if section 1 or 2 has an odd length.
 abbrev pub is_padded : (edition size : ℕ) → Bool
 is_padded edition size = (edition == 3) && (size % 2 == 1)
 
@@ -69,18 +68,18 @@ parts m p1 p2 p3 p4 = record {
   size = length m;
 }
 
--- Whether an edition 3 message is rejected (own) because encoding its dump might result in more
--- than 2^24 - 1 octets. Encoding adds a padding octet to section 3 or 4 if its length is odd, and
--- lengthens nothing else. For simplicity, the limit is 2^24 - 1 - 2 even if only one of the two
--- sections has an odd length.
+-- Whether an edition 3 message is rejected (our choice) because encoding its dump might result in
+-- more than 2^24 - 1 octets. Encoding adds a padding octet to section 3 or 4 if its length is odd,
+-- but does not make the message longer in any other way. For simplicity, the limit is 2^24 - 3
+-- octets even if only one of the two sections has an odd length.
 -- rule: edition-3-length
 abbrev pub is_long_edition_3 : List ℕ → (p2 p3 p4 : ℕ) → Bool
 is_long_edition_3 m p2 p3 p4 =
     nat_lt 16777213 (length m)
     && (is_padded (edition_of m) (p3 - p2) || is_padded (edition_of m) (p4 - p3))
 
--- the parts of a message, or a fault if section 4 does not end where section 5 (the last four
--- octets) begins or if the message is too long for edition 3
+-- the parts of a message, or a fault if section 4 does not end directly before the last four octets
+-- or if the message is too long for edition 3
 -- rule: section-4-end, order-of-sections
 abbrev pub parts_if_end_matches : List ℕ → (p1 p2 p3 p4 : ℕ) → Result Sections SectionFault
 parts_if_end_matches m p1 p2 p3 p4 =
@@ -89,8 +88,8 @@ parts_if_end_matches m p1 p2 p3 p4 =
     else Ok (parts m p1 p2 p3 p4)
 
 -- The sections of a message, or the first fault. The edition is checked first, then sections 1 to 4
--- in order, then the end of section 4, and finally the length of an edition 3 message. Section 2
--- has at least 4 octets, section 3 at least 7, and section 4 at least 4.
+-- in order, then the end of section 4, and finally the length of an edition 3 message. Sections 2
+-- and 4 must have at least 4 octets, and section 3 at least 7.
 -- rule: edition-first, sections-in-order, order-of-sections
 unfoldable pub sections_of : List ℕ → Result Sections SectionFault
 sections_of m = if not (is_edition (edition_of m)) then Err (Edition (edition_of m)) else do
@@ -115,9 +114,9 @@ section3_begins m =
 abbrev pub section4_begins : List ℕ → ℕ
 section4_begins m = section3_begins m + u24_at m (section3_begins m)
 
--- A finder can return the message, whose reserved octets and bits are zero. In edition 4, section
--- 3 has no padding octet. In edition 3, the lengths of sections 3 and 4 are even, and the padding
--- octet of section 3 is zero.
+-- The octets m form a message that a finder can return, with all reserved octets and bits set to
+-- zero. In edition 4, section 3 has no padding octet. In edition 3, the lengths of sections 3 and 4
+-- are even, and the padding octet of section 3 is zero.
 -- rule: canonical
 pub record IsPlain (m : List ℕ) : Type 0 where
   pub octets : All (λ octet. octet < 256) m

@@ -1,5 +1,5 @@
-//! Faults in streams, messages, runs and writes. Each fault has a number and a description, which
-//! are reported together.
+//! Faults in streams and messages, and faults that prevent reading or writing. Each fault has a
+//! number and a description, which are reported together.
 
 ghost use Rattle.std.specs.Prelude.{◌≡◌};
 ghost use Rattle.bufr_frame.specs.Numbers.{cause_report, section_report, run_report, number_of_write_fault};
@@ -7,7 +7,7 @@ ghost use Rattle.bufr_frame.specs.Numbers.{cause_report, section_report, run_rep
 use std::alloc::AllocError;
 use thiserror::Error;
 
-/// The reason why no message begins at an occurrence of `BUFR`.
+/// The reason why an occurrence of `BUFR` is not the start of a message.
 #[derive(Clone, Copy, Debug, PartialEq, Eq, Error)]
 pub enum Cause {
     /// The stream ends before the 8 octets of section 0 are complete, or before the declared length
@@ -17,35 +17,34 @@ pub enum Cause {
     /// The declared length is less than 12 octets.
     #[error("short length")]
     ShortLength,
-    /// The octets within the declared length do not end with `7777`.
+    /// A message of the declared length would not end with `7777`.
     #[error("no end")]
     NoEnd,
 }
 
-/// The reason why a message cannot be split into its sections.
+/// A fault that prevents a message from being split into its sections.
 #[derive(Clone, Copy, Debug, PartialEq, Eq, Error)]
 pub enum SectionFault {
     /// The edition is neither 3 nor 4.
     #[error("edition {0}")]
     Edition(u8),
-    /// This section is shorter than its fixed part.
+    /// The section with this number is shorter than its minimum length.
     #[error("section {0} short")]
     SectionShort(u8),
-    /// This section, or the three octets that declare its length, would extend past the start of
-    /// section 5.
+    /// The section with this number, or its length field, extends into section 5.
     #[error("section {0} past the end")]
     SectionPast(u8),
     /// Section 4 does not end where section 5 begins.
     #[error("sections do not meet the end")]
     SectionsEnd,
-    /// An edition 3 message is longer than 16,777,213 octets, and the length of section 3 or 4 is
-    /// odd. If the message were written again, both lengths would become even, and the length of
-    /// the message might no longer fit in three octets.
+    /// An edition 3 message is longer than 16,777,213 octets, and its section 3 or 4 has an odd
+    /// length. Writing the message again would pad the section to an even length, which could make
+    /// the message too long.
     #[error("edition 3 length")]
     Edition3Long,
 }
 
-/// The reason why a run stops early.
+/// A fault that stops a run early.
 #[derive(Clone, Copy, Debug, PartialEq, Eq, Error)]
 pub enum RunFault {
     /// A read failed.
@@ -62,7 +61,7 @@ pub enum RunFault {
     Memory,
 }
 
-/// The reason why a message cannot be written.
+/// A fault that prevents a message from being written.
 #[derive(Clone, Copy, Debug, PartialEq, Eq, Error)]
 pub enum WriteFault {
     /// The message would have more than 16,777,215 octets.
@@ -74,7 +73,7 @@ pub enum WriteFault {
 }
 
 impl Cause {
-    /// Returns the number of this fault (1 to 3).
+    /// Returns the fault number (1 to 3).
     pub fn number(self) -> u8
         ensures { result ≡ (cause_report self).0 }
     {
@@ -87,7 +86,7 @@ impl Cause {
 }
 
 impl SectionFault {
-    /// Returns the number of this fault (10 to 14).
+    /// Returns the fault number (10 to 14).
     pub fn number(self) -> u8
         ensures { result ≡ (section_report self).0 }
     {
@@ -102,7 +101,7 @@ impl SectionFault {
 }
 
 impl RunFault {
-    /// Returns the number of this fault (70 to 73).
+    /// Returns the fault number (70 to 73).
     pub fn number(self) -> u8
         ensures { result ≡ (run_report self).0 }
     {
@@ -116,7 +115,7 @@ impl RunFault {
 }
 
 impl WriteFault {
-    /// Returns the number of this fault (60 or 73).
+    /// Returns the fault number (60 or 73).
     pub fn number(self) -> u8
         ensures { result ≡ number_of_write_fault self }
     {

@@ -1,4 +1,4 @@
-//! The finder, which searches a stream for `BUFR` and returns the messages in order.
+//! The finder, which searches a stream for messages and returns them in order.
 ghost use Rattle.std.specs.Prelude.{◌≡◌, ◌≢◌, ◌⊎◌, ◌≤◌, false, List, ℕ, ◌<◌, ◌+◌, ◌-◌, ◌*◌, ◌^◌, length, take, drop, codes, IfSome, Some, None, Option, max, Err};
 ghost use Rattle.memchr.specs.Find.{FindsNeedle};
 ghost use Rattle.bufr_frame.specs.Scan.{classify, stated_length};
@@ -17,29 +17,30 @@ use memchr::memmem;
 use std::alloc::Global;
 use std::marker::Model;
 
-/// The maximum number of buffered octets if no greater length has been declared.
+/// The maximum number of octets to buffer, unless a greater message length has been declared.
 const MIN_HELD: usize = 4096;
 
 /// An event that a finder returns. Offsets are in octets and are counted from 0 at the start of the
 /// stream.
 #[derive(Clone, Copy, Debug)]
 pub enum Event<'a> {
-    /// A message. The fields are the offset of the message and its octets, from `BUFR` to `7777`.
+    /// A message. The fields are the message's offset and its octets, from `BUFR` to `7777`.
     Frame(u64, &'a [u8]),
-    /// A stray, which is an occurrence of `BUFR` at which no message begins. The fields are the
-    /// offset of the stray and the cause.
+    /// An occurrence of `BUFR` at which no message begins (a stray). The fields are the offset of
+    /// the stray and the reason why no message begins there.
     Stray(u64, Cause),
     /// The end of the stream.
     Done,
 }
 
-/// A finder searches a stream for messages, which are also called frames. Each `BUFR` outside a
-/// frame either begins a frame or is a stray. The search then continues after the frame or after
-/// the four octets of the stray.
+/// A finder searches a stream for messages, which are also called frames. Each `BUFR` that the
+/// search finds either begins a frame or is a stray. The search then continues after the frame or
+/// after the four octets of the stray.
 ///
-/// The finder reads only until the next event is certain, so it returns the first message before it
-/// reads the second. The finder buffers at most 4,096 octets or the greatest length declared so
-/// far, whichever is greater. The finder allocates about twice as many octets as it may buffer.
+/// The finder stops reading as soon as it can determine the next event, so it returns a message
+/// without waiting for the next one. The finder buffers at most 4,096 octets or the greatest
+/// message length declared so far, whichever is greater. The buffer's capacity is at most twice
+/// this limit.
 ///
 /// ```
 /// let mut finder = Finder::new(rt.alloc());
@@ -52,19 +53,19 @@ pub enum Event<'a> {
 /// }
 /// ```
 ///
-/// (WMO-No. 306, Volume I.2, FM 94: section 0. The treatment of strays is our choice.)
+/// (FM 94 BUFR, section 0, except for the treatment of strays, which is our choice)
 #[derive(Drop)]
 pub struct Finder {
-    /// The searcher that finds `BUFR`.
+    /// A substring searcher for `BUFR`.
     word: memmem::Finder<'static>,
-    /// The buffered octets. The search has already passed the first `passed` octets.
+    /// The buffered octets. The first `passed` octets have already been searched.
     input: InputBuffer,
     passed: usize,
-    /// The offset in the stream at which the search continues.
+    /// The stream offset at which the search continues.
     offset: u64,
     /// The fault that stopped the finder, if any.
     fault: Option<RunFault>,
-    /// The greatest length declared so far, in octets.
+    /// The greatest message length declared so far, in octets.
     longest: usize,
 }
 
@@ -103,9 +104,9 @@ impl Finder {
         }
     }
 
-    /// Returns the number of buffered octets. The buffer contains the octets that the search has
-    /// passed since the last read, such as a returned frame, followed by the octets that are still
-    /// to be searched. The number is at most 4,096 or [`Finder::longest`], whichever is greater.
+    /// Returns the number of buffered octets. The buffer contains the octets searched since the
+    /// last read, including any returned frame, followed by the octets that have not been searched
+    /// yet. The number is at most 4,096 or [`Finder::longest`], whichever is greater.
     pub fn held(&self) -> usize
         ensures value { result ≡ held self.now }
         ensures bound { result ≤ max min_held self.now.longest }
@@ -113,18 +114,17 @@ impl Finder {
         self.input.held().len()
     }
 
-    /// Returns the greatest length declared so far after a `BUFR`, in octets. At the start, the
-    /// result is 0. After an event has been returned, the result takes into account all events
-    /// returned so far. After a fault, the result also takes into account the first `BUFR` whose
-    /// event is not certain, if the length declared there has been read.
+    /// Returns the greatest length, in octets, declared by any message or stray returned so far, or
+    /// 0 if none has been returned. After a fault, or after [`Finder::next_held`] has returned
+    /// `None`, the length declared after the next `BUFR` also counts if it has already been read.
     pub fn longest(&self) -> usize
         ensures { result ≡ self.now.longest }
     {
         self.longest
     }
 
-    /// Moves the search forward by `n` octets. If `stated_length` is greater than `longest`,
-    /// `longest` is set to `stated_length`.
+    /// Moves the search forward by `n` octets. Also raises `longest` to `stated_length` if
+    /// `longest` is smaller.
     #[inline(always)]
     fn advance_to(&mut self, n: usize, stated_length: usize)
         requires within { n ≤ length self.old.rest }
@@ -138,9 +138,8 @@ impl Finder {
         self.longest = self.longest.max(stated_length);
     }
 
-    /// Moves the search past the next event if the buffered octets make that event certain.
-    /// Otherwise, moves the search past the octets in which no event begins. Returns what the
-    /// search found.
+    /// Moves the search past the next event, if any, and returns the result of the search. If more
+    /// octets are needed to identify the next event, the search stops where that event may begin.
     #[inline(always)]
     fn pass(&mut self) -> SearchResult
         ensures shows { IsSearchResult self.old.ended self.old.rest result }
@@ -166,7 +165,7 @@ impl Finder {
         shown
     }
 
-    /// Returns the event that the search has just passed.
+    /// Returns the event that the search has just moved past.
     #[inline(always)]
     fn passed_event(&self, here: Candidate, stated_length: usize) -> Event<'_>
         requires within { here ≡ Candidate.Frame → stated_length ≤ length self.now.before }
@@ -184,11 +183,9 @@ impl Finder {
         }
     }
 
-    /// Returns the next event, as [`Finder::next`] does, if the buffered octets make that event
-    /// certain. This function never reads. A returned frame is borrowed until the next call.
-    /// Returns `None` if more octets must be read first (see [`Finder::read_more`]), that is, if no
-    /// event in the remaining octets is certain and the end of the stream has not been found. After
-    /// a fault, every call returns the same fault.
+    /// Like [`Finder::next`], but never reads from the stream. Returns `None` if the next event
+    /// cannot be determined without reading more octets (see [`Finder::read_more`]). A returned
+    /// frame is borrowed until the next call. After a fault, every call returns the same fault.
     #[inline(always)]
     pub fn next_held(&mut self) -> Option<Result<Event<'_>, RunFault>>
         ensures* next { sem 𝓛 (Rests the_row self.entry
@@ -208,8 +205,8 @@ impl Finder {
         }
     }
 
-    /// Makes one read from the stream `r`. Call this function if [`Finder::next_held`] returned
-    /// `None`. The stream must be the same in every call.
+    /// Performs a single read from the stream `r`. Call this function if [`Finder::next_held`]
+    /// returned `None`. Every call must use the same stream.
     ///
     /// # Errors
     ///
@@ -246,7 +243,7 @@ impl Finder {
         if let Some(fault) = self.fault {
             return Err(fault);
         }
-        // The octets that the search has passed are dropped to make space.
+        // The octets that have already been searched are dropped to make space.
         self.input.skip(self.passed);
         self.passed = 0;
         let limit = self.longest.max(MIN_HELD);
@@ -258,16 +255,16 @@ impl Finder {
         read
     }
 
-    /// Returns the next event in the stream `r`. The stream must be the same in every call. A
-    /// returned frame is borrowed until the next call. Once a call has returned [`Event::Done`],
-    /// every further call returns `Done` again.
+    /// Returns the next event in the stream `r`. Every call must use the same stream. A returned
+    /// frame is borrowed until the next call. Once a call has returned [`Event::Done`], every later
+    /// call also returns `Done`.
     ///
     /// # Errors
     ///
     /// [`RunFault::Read`] if a read in this call fails. [`RunFault::InputTooLong`] if the end of
-    /// the stream is not found within 2^32 reads. [`RunFault::Memory`] if the buffer cannot grow.
-    /// All events that are certain at the time of a fault have already been returned. After a
-    /// fault, every call returns the same fault and reads nothing.
+    /// the stream is not reached within 2^32 reads. [`RunFault::Memory`] if the buffer cannot grow.
+    /// The finder returns a fault only when it cannot determine the next event from the octets that
+    /// it has read. After a fault, every call returns the same fault and reads nothing.
     pub fn next<R: Source>(&mut self, r: &mut R) -> Result<Event<'_>, RunFault>
         ensures failed { self.old.fault ≡ None
             → R.failures r.new ≡ read_failures_after (R.failures r.old) result }
@@ -294,11 +291,10 @@ impl Finder {
     }
 }
 
-/// The index of the three octets that declare the length of a message (octets 5 to 7).
+/// The index of a message's length field, which consists of octets 5 to 7.
 const LENGTH: usize = 4;
 
-/// The number of indices that are checked one by one before a full search, which is expensive to
-/// start.
+/// The number of indices to check one by one before a full search, which is expensive to start.
 const NEAR: usize = 16;
 
 /// The message or stray that begins at an occurrence of `BUFR` in a stream.
@@ -310,8 +306,8 @@ pub(crate) enum Candidate {
     Frame,
 }
 
-/// Returns the length of a candidate in octets. A message has its declared length, and a stray is 4
-/// octets long.
+/// Returns the length of a candidate in octets, which is the declared length for a message and 4
+/// for a stray.
 fn candidate_len(here: Candidate, stated_length: usize) -> usize
     ensures { result ≡ len_at here stated_length }
 {
@@ -321,30 +317,29 @@ fn candidate_len(here: Candidate, stated_length: usize) -> usize
     }
 }
 
-/// The result of a search in the remaining octets. `place` is an index in the remaining octets,
-/// counted from 0. `stated_length` is the length declared at `place`, or 0 if fewer than eight
-/// octets remain from `place` on.
+/// The result of searching the remaining octets. `place` is an index into the remaining octets,
+/// counted from 0. `stated_length` is the length declared after the `BUFR` at `place`, or 0 if
+/// there are fewer than eight octets from `place` on.
 #[derive(Clone, Copy)]
 pub(crate) enum SearchResult {
-    /// The next event. The event's `BUFR` is at `place`, and `here` is the message or stray that
-    /// begins there.
+    /// The next event begins at `place`, and `here` specifies whether it is a message or a stray.
     Found {
         place: usize,
         here: Candidate,
         stated_length: usize,
     },
-    /// No event begins before `place`, and more octets are needed to decide what begins at `place`.
+    /// No event begins before `place`, and more octets are needed to determine what begins there.
     NeedsMore {
         place: usize,
         stated_length: usize,
     },
-    /// No further events follow.
+    /// There are no further events.
     End,
 }
 
-/// Returns whether `m` begins with a message or a stray, assuming that no octets follow `m`. `m`
-/// must begin with `BUFR`. If a stray has several causes, the one that is checked first is
-/// returned.
+/// Determines whether the `BUFR` at the start of `m` begins a message or is a stray, assuming that
+/// no octets follow `m`. `m` must begin with `BUFR`. If a stray has several causes, the one with
+/// the lowest fault number is returned.
 #[inline(always)]
 // rule: stray-cut, stray-short-length, stray-no-end, input-ends-early, order-of-causes
 pub(crate) fn classify(m: &[u8]) -> Candidate
@@ -368,8 +363,7 @@ pub(crate) fn classify(m: &[u8]) -> Candidate
 }
 
 /// Returns the index of the first `BUFR` in `rest`, or `None` if `rest` contains no `BUFR`. `word`
-/// must be a searcher for `BUFR`. This function is not inlined, so that its callers, which often
-/// find a nearby `BUFR` themselves, stay small.
+/// must search for `BUFR`. This function is not inlined so that its callers stay small.
 #[inline(never)]
 fn find_far(word: &memmem::Finder<'_>, rest: &[u8]) -> Option<usize>
     requires { word.now ≡ codes "BUFR" }
@@ -378,8 +372,7 @@ fn find_far(word: &memmem::Finder<'_>, rest: &[u8]) -> Option<usize>
     word.find(rest)
 }
 
-/// Returns the same index as [`find_far`], but checks the first few indices one by one before a
-/// full search.
+/// Like [`find_far`], but checks the first few indices one by one before a full search.
 #[inline(always)]
 fn find_word(word: &memmem::Finder<'_>, rest: &[u8]) -> Option<usize>
     requires { word.now ≡ codes "BUFR" }
@@ -397,7 +390,7 @@ fn find_word(word: &memmem::Finder<'_>, rest: &[u8]) -> Option<usize>
 }
 
 /// Searches `rest` for the next event. If `ended` is false, more octets may follow `rest`. `word`
-/// must be a searcher for `BUFR`.
+/// must search for `BUFR`.
 #[inline(always)]
 // rule: first-bufr, output-waits
 pub(crate) fn find_event(word: &memmem::Finder<'_>, rest: &[u8], ended: bool) -> SearchResult

@@ -1,4 +1,4 @@
-//! Reading an input, either step by step into a buffer or as a whole.
+//! Reading input, either piece by piece through a buffer or all at once.
 ghost use Rattle.std.specs.Prelude.{◌≡◌, ◌≢◌, ◌⊎◌, ◌≤◌, ◌<◌, ◌+◌, ◌-◌, ◌*◌, ◌^◌, ℕ, List, ◌++◌, take, length, drop, slice_range, Ok, Err, IsOk, IfOk, IfErr, vec_len, vec_capacity, [], ◌∷◌, true, false, max, nat_le, if◌then◌else◌};
 ghost use Rattle.bufr_bits.specs.Prelude.{counted};
 ghost use Rattle.bufr_frame.specs.Input.{read_failures_after, max_reads, ReadsOnce, ReadsInput, AddsReads, InputModel, FillsInput, SlidesOver, asked_by, new_input};
@@ -12,10 +12,10 @@ use std::mem::replace;
 /// The maximum number of reads from one input, which is 2^32.
 const MAX_READS: u64 = 1 << 32;
 
-/// The number of octets that each read requests when an input is read to its end.
+/// The number of octets that [`read_to_end`] requests in each read.
 const CHUNK: usize = 65536;
 
-/// A buffer for the octets of an input that have been read but not yet skipped. [`crate::Finder`]
+/// A buffer for octets that have been read from an input but not yet skipped. [`crate::Finder`]
 /// uses this buffer to read a stream, and line readers use it to read text. To read a whole input,
 /// use [`read_to_end`].
 ///
@@ -30,14 +30,14 @@ const CHUNK: usize = 65536;
 /// ```
 #[derive(Drop)]
 pub struct InputBuffer {
-    /// The memory of the buffer. The octets at the indices `start..filled` have been read but not
-    /// yet skipped.
+    /// The underlying storage. The octets at the indices `start..filled` have been read but not yet
+    /// skipped.
     octets: Vec<u8>,
     start: usize,
     filled: usize,
     /// The number of reads made so far, which is at most 2^32.
     reads: u64,
-    /// Whether a read has found the end of the input.
+    /// Whether the end of the input has been reached.
     ended: bool,
 }
 
@@ -80,7 +80,7 @@ impl InputBuffer {
         &self.octets[self.start..self.filled]
     }
 
-    /// Returns whether a read has found the end of the input.
+    /// Returns whether the end of the input has been reached.
     pub fn ended(&self) -> bool
         ensures { result ≡ self.now.ended }
     {
@@ -96,8 +96,9 @@ impl InputBuffer {
         self.start += n;
     }
 
-    /// Appends an octet to the buffered octets. The buffer must have free space. After the read
-    /// that finds the end of the input, the buffer always has free space for at least one octet.
+    /// Appends an octet to the buffered octets. The buffer must have free space. When
+    /// [`InputBuffer::fill`] reaches the end of the input, it leaves free space for at least one
+    /// octet.
     pub fn push(&mut self, octet: u8)
         requires { 0 < self.old.free }
         ensures { self.new
@@ -107,16 +108,17 @@ impl InputBuffer {
         self.filled += 1;
     }
 
-    /// Makes one read, and appends at most `most` octets to the buffered octets. If there is no
-    /// free space, the capacity of the buffer grows to `room` octets. `room` must be at least 1 and
-    /// at least twice the number of buffered octets. `most` must be 1 to 2^24. The end of the input
-    /// must not have been found yet.
+    /// Reads up to `most` octets in a single read and appends them to the buffered octets. If there
+    /// is no free space, the capacity of the buffer grows to `room` octets. `room` must be at least
+    /// 1 and at least twice the number of buffered octets. `most` must be between 1 and 2^24. This
+    /// function must not be called after the end of the input has been reached.
     ///
     /// # Errors
     ///
     /// [`RunFault::Read`] if the read fails. [`RunFault::InputTooLong`] if 2^32 reads have already
-    /// been made. [`RunFault::Memory`] if the buffer cannot grow. If the fault is not
-    /// [`RunFault::Read`], no read has been made. A fault leaves the buffered octets unchanged.
+    /// been made. [`RunFault::Memory`] if the buffer cannot grow. A call that returns
+    /// [`RunFault::InputTooLong`] or [`RunFault::Memory`] does not read. A fault leaves the
+    /// buffered octets unchanged.
     pub fn fill<R: Source>(&mut self, r: &mut R, most: usize, room: usize) -> Result<(), RunFault>
         requires some { 0 < most }
         requires small { most ≤ 2 ^ 24 }
@@ -155,8 +157,7 @@ impl InputBuffer {
 }
 
 /// Makes free space for at least one octet after the buffered octets, which are at the indices
-/// `start..filled`. Returns the distance by which the buffered octets were moved towards the start
-/// of the buffer.
+/// `start..filled`. Returns how far the buffered octets were moved toward the start of the buffer.
 #[inline(always)]
 fn make_room(
     octets: &mut Vec<u8>,
@@ -216,7 +217,7 @@ fn fill_up(octets: &mut Vec<u8>, len: usize)
     *octets = grown;
 }
 
-/// Makes one read into `buffer[filled..to]`. Returns the number of octets read.
+/// Reads into `buffer[filled..to]` once and returns the number of octets read.
 #[inline(always)]
 fn read_after<R: Source>(
     r: &mut R,
@@ -242,15 +243,15 @@ fn read_after<R: Source>(
     }
 }
 
-/// Reads an input to its end and appends all octets read to `octets`. Use this function for an
-/// input that is needed as a whole, such as a table. For a stream of messages, use
+/// Reads all remaining octets of an input and appends them to `octets`. Use this function for an
+/// input that is needed all at once, such as a table. For a stream of messages, use
 /// [`crate::Finder`]. `reads` is the number of reads already made from the input and must be at
 /// most 2^32. Each further read adds 1 to `reads`.
 ///
 /// # Errors
 ///
 /// [`RunFault::Read`] if a read fails. [`RunFault::InputTooLong`] if the end of the input is not
-/// found within 2^32 reads. [`RunFault::Memory`] if `octets` cannot grow. After a fault, `octets`
+/// reached within 2^32 reads. [`RunFault::Memory`] if `octets` cannot grow. After a fault, `octets`
 /// contains all octets that were read before the fault.
 pub fn read_to_end<R: Source>(
     r: &mut R,

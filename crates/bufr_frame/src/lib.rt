@@ -1,4 +1,4 @@
-//! The framing of FM 94 BUFR. This crate finds the messages in a stream, splits messages into
+//! Framing of FM 94 BUFR messages. This crate finds the messages in a stream, splits messages into
 //! sections, and writes messages from their parts.
 #![tactic(auto)]
 

@@ -1,4 +1,4 @@
-//! Splitting a message into its sections. (WMO-No. 306, Volume I.2, FM 94)
+//! Splitting a message into its sections (FM 94 BUFR).
 ghost use Rattle.std.specs.Prelude.{◌≡◌, ◌≤◌, ◌+◌, length, IsTrue, Some, None, slice_range, if◌then◌else◌, ◌<◌, ◌*◌, ◌^◌, ◌-◌, Ok, IfOk, slice_get, ◌↔◌, []};
 ghost use Rattle.std.specs.Option.{option_map};
 ghost use Rattle.bufr_frame.specs.Section1.{edition_of, min_section_1, head_of};
@@ -27,7 +27,7 @@ use std::marker::Model;
 /// }
 /// ```
 ///
-/// (WMO-No. 306, Volume I.2, FM 94: sections 0 to 5)
+/// (FM 94 BUFR, sections 0 to 5)
 #[derive(Debug, Drop)]
 pub struct Message<'a> {
     octets: &'a [u8],
@@ -59,7 +59,7 @@ impl<'a> Model for Message<'a> {
     ghost invariant = { λ m. length m.payload.now < 2 ^ 24 };
 }
 
-/// Returns the edition (octet 8 of section 0) and the values of section 1.
+/// Returns the edition (octet 8 of section 0) and the values in section 1.
 // rule: odd-values-kept, section-1-of-edition-3, edition-3-lacks, year-of-the-century
 // rule: listing-of-edition-3, section-1-of-edition-4
 #[tactic(auto, unfolding(crate::specs::Section1::min_section_1))]
@@ -130,19 +130,18 @@ impl<'a> Message<'a> {
     ///
     /// # Errors
     ///
-    /// The first of the following faults that applies:
+    /// Returns the first of the following faults that applies:
     ///
     /// - [`SectionFault::Edition`] if the edition is neither 3 nor 4.
-    /// - For each of sections 1 to 4 in turn, the fault is [`SectionFault::SectionPast`] if the
-    ///   three length octets of the section extend into the last four octets of the message,
-    ///   [`SectionFault::SectionShort`] if the length is less than 22 (17 in edition 3) for section
-    ///   1, less than 4 for section 2 or 4, or less than 7 for section 3, or
-    ///   [`SectionFault::SectionPast`] if the section extends into the last four octets of the
-    ///   message. Section 2 is checked only if bit 1 of the flags in section 1 is set.
+    /// - Sections 1 to 4 are checked in order (section 2 only if bit 1 of the flags in section 1 is
+    ///   set). [`SectionFault::SectionPast`] if the section's length field extends into the last
+    ///   four octets of the message. [`SectionFault::SectionShort`] if section 1 has fewer than 22
+    ///   octets (17 in edition 3), section 2 or 4 has fewer than 4, or section 3 has fewer than 7.
+    ///   [`SectionFault::SectionPast`] if the section extends into the last four octets.
     /// - [`SectionFault::SectionsEnd`] if section 4 does not end directly before the last four
     ///   octets.
-    /// - [`SectionFault::Edition3Long`] if, in edition 3, the length of section 3 or 4 is odd and
-    ///   the message is longer than 16,777,213 octets.
+    /// - [`SectionFault::Edition3Long`] if an edition 3 message is longer than 16,777,213 octets
+    ///   and its section 3 or 4 has an odd length.
     #[tactic(auto, unfolding(crate::specs::Sections::sections_of))]
     // rule: edition-first, sections-in-order, section-4-end, local-use, section-3, section-4
     // rule: reserved-ignored, edition-3-length, order-of-sections
@@ -180,15 +179,15 @@ impl<'a> Message<'a> {
         })
     }
 
-    /// Returns the edition and the values of section 1.
+    /// Returns the edition and the values in section 1.
     pub fn head(&self) -> Head
         ensures { result ≡ self.now.head }
     {
         self.head
     }
 
-    /// Returns the part of section 1 that is reserved for local use, which begins at octet 23
-    /// (octet 18 in edition 3).
+    /// Returns the octets for local use in section 1, which begin at octet 23 (octet 18 in edition
+    /// 3).
     pub fn local1(&self) -> &'a [u8]
         ensures { result.now ≡ self.now.local1 }
     {
@@ -245,8 +244,8 @@ impl<'a> Message<'a> {
         self.compressed
     }
 
-    /// Returns the octets of section 4 from octet 5 on, which contain the data and padding. Fewer
-    /// than 2^24 octets are returned.
+    /// Returns the octets of section 4 from octet 5 on, which contain the data and padding. The
+    /// result has fewer than 2^24 octets.
     pub fn payload(&self) -> BitSlice<'a>
         ensures value { octets_of result ≡ self.now.payload }
         ensures short { length self.now.payload < 2 ^ 24 }
@@ -262,8 +261,8 @@ impl<'a> Message<'a> {
     }
 }
 
-/// An iterator over the words in a slice of octets. Each word is a 16-bit number, stored with the
-/// most significant octet first. If the number of octets is odd, the last one is ignored.
+/// An iterator over the words in a slice of octets. Each word is a big-endian 16-bit number. If the
+/// number of octets is odd, the last one is ignored.
 #[derive(Debug, Drop)]
 pub struct Words<'a> {
     octets: &'a [u8],
@@ -305,8 +304,8 @@ impl<'a> Iterator for Words<'a> {
     }
 }
 
-/// Returns the index just after section `k`. The section begins at index `p` and must have at least
-/// `least` octets.
+/// Returns the index just after section `k`. The section begins at index `p` and must be at least
+/// `least` octets long.
 #[tactic(auto, unfolding(crate::specs::Sections::section_end))]
 // rule: odd-sections-read, length-past-end, length-under-least, section-past-end
 // rule: order-of-sections
@@ -360,5 +359,5 @@ fn second_end(m: &[u8], first: usize) -> Result<usize, SectionFault>
     }
 }
 
-/// The maximum length, in octets, of an edition 3 message to which two padding octets can be added.
+/// The maximum length, in octets, that leaves room for two padding octets in an edition 3 message.
 const MOST_ODD: usize = 16_777_213;

@@ -1,20 +1,19 @@
-//! The values of section 1, and the minimum lengths of the sections. (WMO-No. 306, Volume I.2,
-//! FM 94)
+//! The values in section 1, and the minimum lengths of the sections (FM 94 BUFR).
 ghost use Rattle.std.specs.Prelude.{◌≡◌, ◌≤◌, ◌<◌, ◌-◌, ◌^◌};
 ghost use Rattle.bufr_frame.specs.Layout.{even_size};
 ghost use Rattle.bufr_frame.specs.Section1.{min_section_1};
 ghost use Rattle.bufr_frame.specs.Sections.{is_padded};
 
-/// The edition (octet 8 of section 0) and the values of section 1, exactly as stored in a message.
+/// The edition (octet 8 of section 0) and the values in section 1, exactly as stored in a message.
 ///
 /// The values are not checked. For example, a month of 14 is accepted. In edition 3, the centre,
 /// the sub-centre and the year occupy one octet each. Edition 3 has no octets for
-/// `local_subcategory` and `second`, so both are 0. (WMO-No. 306, Volume I.2, FM 94: section 1)
+/// `local_subcategory` and `second`, so both are 0 (FM 94 BUFR, section 1).
 #[derive(Clone, Copy, Debug, PartialEq, Eq)]
 pub struct Head {
     /// The edition of FM 94 (octet 8 of section 0).
     pub edition: u8,
-    /// The master table (octet 4).
+    /// The master table number (octet 4).
     pub master: u8,
     /// The originating centre (octets 5 and 6, or octet 6 in edition 3).
     pub centre: u16,
@@ -51,8 +50,7 @@ pub struct Head {
 /// The length of section 0, in octets.
 pub(crate) const SECTION_0: usize = 8;
 
-/// Returns the length, in octets, of section 1 in the given edition, excluding octets for local
-/// use.
+/// Returns the minimum length, in octets, of section 1 in the given edition.
 #[tactic(auto, unfolding(crate::specs::Section1::min_section_1))]
 // rule: length-under-least
 pub(crate) fn min_section_1(edition: u8) -> usize
@@ -62,20 +60,20 @@ pub(crate) fn min_section_1(edition: u8) -> usize
     if edition == 3 { 17 } else { 22 }
 }
 
-/// The length of section 2 without its content, in octets. A message need not contain section 2.
+/// The length, in octets, of section 2 without the octets for local use.
 pub(crate) const SECTION_2: usize = 4;
 
-/// The length of section 3 without descriptors, in octets.
+/// The length, in octets, of section 3 without descriptors.
 pub(crate) const SECTION_3: usize = 7;
 
-/// The length of section 4 without data, in octets.
+/// The length, in octets, of section 4 without data.
 pub(crate) const SECTION_4: usize = 4;
 
 /// The length of section 5, in octets.
 pub(crate) const SECTION_5: usize = 4;
 
-/// Returns whether a zero octet is added to section 3 or 4 when it is written. `len` is the length
-/// of the section before padding, in octets.
+/// Returns whether section 3 or 4 is padded with a zero octet when it is written. `len` is the
+/// unpadded length of the section, in octets.
 // rule: least-lengths
 pub(crate) fn is_padded(edition: u8, len: usize) -> bool
     ensures { result ≡ is_padded edition len }
@@ -83,7 +81,7 @@ pub(crate) fn is_padded(edition: u8, len: usize) -> bool
     edition == 3 && len % 2 == 1
 }
 
-/// Returns the padded length of section 3 or 4, in octets. `len` is the length before padding.
+/// Returns the padded length of section 3 or 4, in octets. `len` is the unpadded length.
 // rule: least-lengths
 pub(crate) fn even_len(edition: u8, len: usize) -> usize
     requires { len < 2 ^ 64 - 1 }

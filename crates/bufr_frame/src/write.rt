@@ -52,8 +52,7 @@ fn push_three(octets: &mut Vec<u8>, n: usize) -> Result<(), AllocError>
     octets.extend_from_slice(&[(n / 65536) as u8, (n / 256 % 256) as u8, (n % 256) as u8])
 }
 
-/// Returns octets 4 to 17 of section 1 in edition 3. The octets for local use follow the returned
-/// octets.
+/// Returns octets 4 to 17 of section 1 in edition 3. Octets for local use begin at octet 18.
 // rule: section-1-of-edition-3, year-of-the-century
 fn head_octets_3(head: &Head, optional: bool) -> [u8; 14]
     requires centre { head.now.centre ≤ 255 }
@@ -79,8 +78,7 @@ fn head_octets_3(head: &Head, optional: bool) -> [u8; 14]
     ]
 }
 
-/// Returns octets 4 to 22 of section 1 in edition 4. The octets for local use follow the returned
-/// octets.
+/// Returns octets 4 to 22 of section 1 in edition 4. Octets for local use begin at octet 23.
 // rule: section-1-of-edition-4
 fn head_octets_4(head: &Head, optional: bool) -> [u8; 19]
     ensures { result ≡ octets_4 head.now (if optional then 128 else 0) }
@@ -108,7 +106,7 @@ fn head_octets_4(head: &Head, optional: bool) -> [u8; 19]
     ]
 }
 
-/// Appends section 1 from octet 4 up to, but not including, the octets for local use.
+/// Appends section 1 from octet 4 on, without the octets for local use.
 fn push_head(octets: &mut Vec<u8>, head: &Head, optional: bool) -> Result<(), AllocError>
     requires { IsTrue (is_writable head.now) }
     ensures { OnOk result (octets.new.items ≡ octets.old.items ++ head_octets head.now optional) }
@@ -186,15 +184,14 @@ fn push_section3(
 }
 
 /// Writes an edition 3 or 4 message from its parts. The message begins with `BUFR`, declares its
-/// length in octets 5 to 7, and ends with `7777`. Each section is as short as its parts allow, and
+/// length in octets 5 to 7, and ends with `7777`. Each section is as short as possible, and
 /// reserved octets and bits are zero. `local1` begins at octet 23 of section 1 (octet 18 in edition
-/// 3). `section2` begins at octet 5 of section 2, and `payload` begins at octet 5 of section 4. In
-/// edition 3, a zero octet follows the descriptors, and another follows a payload with an odd
-/// number of octets, so that sections 3 and 4 have even lengths.
+/// 3), `section2` at octet 5 of section 2, and `payload` at octet 5 of section 4. In edition 3,
+/// section 3 is padded with a zero octet, and so is section 4 if its length would otherwise be odd.
 ///
 /// `head.edition` must be 3 or 4. In edition 3, the centre, the sub-centre and the year must each
-/// fit in one octet, and the local sub-category and the second must be 0. (WMO-No. 306, Volume I.2,
-/// FM 94: sections 0 to 5)
+/// fit in one octet, and the local sub-category and the second must be 0 (FM 94 BUFR, sections 0 to
+/// 5).
 ///
 /// ```
 /// let message = Message::parse(octets)?;
@@ -207,7 +204,7 @@ fn push_section3(
 /// # Errors
 ///
 /// [`WriteFault::TooLong`] if and only if the message would be longer than 16,777,215 octets.
-/// [`WriteFault::Memory`] if memory cannot be allocated.
+/// [`WriteFault::Memory`] if memory runs out.
 // rule: reserved-zero, section-0, section-4, section-5, sections-1-and-2-as-given
 pub fn write_message(
     alloc: Global,

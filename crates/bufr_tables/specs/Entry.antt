@@ -1,4 +1,4 @@
--- Only contracts need this file. The row that an entry represents, and when two rows are equal.
+-- Only contracts need this file. How an entry is converted to a row, and how two rows are compared.
 use Rattle.std.specs.Prelude.{◌==◌, ◌&&◌, Bool}
 use Rattle.std.specs.Cmp.{IsEquivalence, and_equiv, int_eq_equiv, nat_eq_equiv, on_equiv}
 use Rattle.std.specs.Cmp.Lexicographic.{nat_list_eq_equiv}

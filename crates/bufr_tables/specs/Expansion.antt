@@ -1,6 +1,5 @@
--- The template for a descriptor list, or the first fault in the list. (WMO-No. 306, Volume I.2, FM
--- 94: section 3, replications, Tables C and D; the faults, their order and the limits are our
--- choice)
+-- The template for a descriptor list, or the first fault in the list (FM 94 BUFR, section 3,
+-- replications, Tables C and D; the faults, their order and the limits are our choice).
 -- Cited by public contracts.
 use Rattle.std.specs.Prelude.{ℕ, zero, suc, ◌+◌, ◌==◌, nat_lt, nat_le, not, ◌||◌, Bool, true, false, List, [], ◌∷◌, length, take, Option, Some, None, Result, Ok, Err, ok_or, is_some, ◌≡◌, ◌≤◌, ◌⊎◌, ◌++◌, ◌<◌, ◌≢◌, IfOk, IfErr, slice_index, if◌then◌else◌}
 use Rattle.bufr_tables.specs.Records.{◌>>=◌}
@@ -13,8 +12,8 @@ use Rattle.bufr_tables.specs.TableD.{Sequence, members_of}
 use Rattle.bufr_tables.specs.declared.fault.TemplateFault.TheVariants as template
 use Rattle.bufr_tables.specs.declared.fault.TemplateFault.TheVariants.{Memory}
 
--- the parts of the tables that expansion uses: whether Table B contains an element, and the members
--- of each sequence in Table D
+-- the table lookups needed for expansion (whether an element is in Table B, and the members of a
+-- sequence in Table D)
 pub record Tables : Type 0 where
   pub known : ℕ → Bool
   pub members : ℕ → Option (List ℕ)
@@ -23,17 +22,17 @@ pub record Tables : Type 0 where
 abbrev pub max_open : ℕ
 max_open = 32
 
--- success if the test passes; otherwise, the fault `why`
+-- `Ok` if the test passes; otherwise, the fault `why`
 abbrev pub unless : Bool → TemplateFault → Result (Unit {0}) TemplateFault
 unless true why = Ok tt
 unless false why = Err why
 
--- success if `places + more` is at most 65,535; otherwise, a fault that names descriptor d
+-- `Ok` if `places + more` is at most 65,535; otherwise, a fault that names descriptor d
 -- rule: fault-27
 abbrev pub with_places : (places more d : ℕ) → Result (Unit {0}) TemplateFault
 with_places places more d = unless (nat_le (places + more) 65535) (template.TemplateSize d)
 
--- A function that expands a descriptor list; `places` is the number of template places already in
+-- A function that expands a descriptor list; `places` is the number of template cells already in
 -- use. Below, an argument of type `Option Expansion` is the function that expands the list inside a
 -- group or sequence, or `None` at the maximum nesting depth. `inner_of` defines this argument.
 abbrev pub Expansion : Type 0
@@ -53,7 +52,7 @@ abbrev pub begins_with_element : List ℕ → Bool
 begins_with_element [] = false
 begins_with_element (d ∷ after) = f_of d == 0
 
--- the node for an element, which must be in Table B unless a preceding 2 06 Y sets its data width
+-- the node for an element, which must be in Table B unless the operator 2 06 Y sets its data width
 -- rule: 2-06-y-unknown-element, fault-20, order-at-an-element
 abbrev pub element_part : Tables → Bool → ℕ → ℕ → Result ExpandedPart TemplateFault
 element_part tables width_given places d = do
@@ -61,7 +60,8 @@ element_part tables width_given places d = do
   _ ← with_places places 1 d
   Ok (part (element d bare) 0)
 
--- the node for an operator; an element must directly follow 2 06 Y in the same list (own)
+-- the node for an operator; 2 06 Y must be directly followed by an element in the same list (our
+-- choice)
 -- rule: 2-06-y-before-an-element, fault-22, fault-28, order-at-an-operator
 abbrev pub operator_part : ℕ → ℕ → List ℕ → Result ExpandedPart TemplateFault
 operator_part places d after = do
@@ -71,9 +71,9 @@ operator_part places d after = do
   Ok (part (operator d bare) 0)
 
 -- The body of the group that begins with replication d, expanded from the first X descriptors of
--- `after`. `after` must contain at least X descriptors (own), the maximum nesting depth must not be
--- exceeded, and at least one node of the body must occupy data bits (own). `own_places` is the
--- number of places that the group takes in addition to its body (see `size`).
+-- `after`. It is a fault (our choice) if `after` has fewer than X descriptors, if the group is
+-- nested too deeply, or if the body consumes no data bits. `own_places` is the number of cells in
+-- the group, not counting those in the body (see `size`).
 -- rule: replication-before-expansion, replication-nested, replication-in-one-list, fault-23
 -- rule: fault-26, order-at-a-replication
 abbrev pub body_of : Option Expansion → (places own_places d : ℕ) → List ℕ
@@ -105,8 +105,7 @@ delayed_part tables inner places d (factor ∷ after) = do
   body ← body_of inner places 3 d after
   Ok (part (delayed factor body bare) (1 + x_of d))
 
--- the node for a replication of X descriptors, which is delayed if Y is 0 and otherwise has the
--- fixed count Y
+-- the node for a replication of X descriptors, which is delayed if Y is 0 and fixed otherwise
 -- rule: fault-23, order-at-a-replication
 abbrev pub group_part : Tables → Option Expansion → ℕ → ℕ → List ℕ
     → Result ExpandedPart TemplateFault
@@ -114,7 +113,7 @@ group_part tables inner places d after = do
   _ ← unless (nat_lt 0 (x_of d)) (template.GroupShape d)
   if y_of d == 0 then delayed_part tables inner places d after else fixed_part inner places d after
 
--- the nodes into which a sequence expands; the maximum nesting depth must not be exceeded
+-- the nodes for a sequence, which must be in Table D and must not be nested too deeply
 -- rule: fault-21, fault-26, order-at-a-sequence
 abbrev pub sequence_part : Tables → Option Expansion → ℕ → ℕ → Result ExpandedPart TemplateFault
 sequence_part tables inner places d = do
@@ -123,8 +122,8 @@ sequence_part tables inner places d = do
   tree ← expand places members
   Ok (part tree 0)
 
--- the nodes for one descriptor, depending on its F; `width_given` means that 2 06 Y directly
--- precedes it
+-- the nodes for one descriptor, expanded according to its F; `width_given` is true if 2 06 Y
+-- directly precedes the descriptor
 -- rule: descriptor-kinds
 unfoldable pub part_of : Tables → Option Expansion → Bool → ℕ → ℕ → List ℕ
     → Result ExpandedPart TemplateFault
@@ -134,9 +133,9 @@ part_of tables inner width_given places d after =
     else if f_of d == 2 then operator_part places d after
     else sequence_part tables inner places d
 
--- The nodes for a descriptor list, from left to right, or the leftmost fault. The first `skip`
--- descriptors are skipped because they belong to the preceding replication. `width_given` means
--- that 2 06 Y directly precedes the list.
+-- The nodes for a descriptor list, which is expanded from left to right, or the first fault. The
+-- first `skip` descriptors are skipped because they belong to the preceding replication.
+-- `width_given` is true if 2 06 Y directly precedes the list.
 -- rule: first-descriptor-decides
 unfoldable pub level : Tables → Option Expansion → (width_given : Bool) → (skip places : ℕ)
     → List ℕ → Result Tree TemplateFault
@@ -148,14 +147,15 @@ level tables inner width_given zero places (d ∷ after) = do
   rest ← level tables inner (gives_width d) first.taken (places + size first.tree) after
   Ok (join first.tree rest)
 
--- the function that expands the list inside a group or sequence if `room` more levels may be nested
+-- the function that expands the list inside a group or sequence, or `None` if `room` (the number of
+-- nesting levels that are still allowed) is 0
 unfoldable pub inner_of : Tables → ℕ → Option Expansion
 inner_of tables zero = None
 inner_of tables (suc room) = Some (level tables (inner_of tables room) false 0)
 
--- The template for the descriptor list in section 3. The count of places starts at 1, because the
--- end of the template takes one place. At least one node must occupy data bits (own); otherwise,
--- the fault names the first descriptor, or 000000 if the list is empty.
+-- The template for the descriptor list in section 3. The count of cells starts at 1, because the
+-- end of the template also needs a cell. The template must consume data bits (our choice);
+-- otherwise, the fault names the first descriptor, or 000000 if the list is empty.
 -- rule: groups-take-bits, fault-25
 unfoldable pub tree_of : Tables → List ℕ → Result Tree TemplateFault
 tree_of tables list = do
@@ -165,19 +165,19 @@ tree_of tables list = do
 
 -- ---- The tables that expansion uses.
 
--- the parts of Tables B and D that expansion uses
+-- the table lookups for the given rows of Table B and sequences of Table D
 abbrev pub tables_of : List Row → List Sequence → Tables
 tables_of b d = record { known = λ fxy. is_some (entry_of b fxy); members = members_of d }
 
--- ---- The kinds of descriptors in a template. (WMO-No. 306, Volume I.2, FM 94: section 3, Table C)
+-- ---- The kinds of descriptors in a template (FM 94 BUFR, section 3, Table C).
 
 -- whether the first node of a tree is an element
 abbrev pub is_element_first : Tree → Bool
 is_element_first (element fxy rest) = true
 is_element_first _ = false
 
--- The descriptor of each node is an element, a replication factor or a supported operator,
--- depending on the node's kind. An element directly follows each 2 06 Y.
+-- Each descriptor is of the right kind for its node, and every operator is supported. Every 2 06 Y
+-- is directly followed by an element.
 abbrev pub IsLegal : Tree → Type 0
 IsLegal bare = Unit {0}
 IsLegal (element fxy rest) = (f_of fxy ≡ 0) × IsLegal rest
@@ -187,10 +187,10 @@ IsLegal (operator fxy rest) =
 IsLegal (fixed count body rest) = IsLegal body × IsLegal rest
 IsLegal (delayed factor body rest) = (is_factor factor ≡ true) × (IsLegal body × IsLegal rest)
 
--- ---- The elements and operators in a list after each sequence has been replaced by its members.
--- (WMO-No. 306, Volume I.2, FM 94: Table D)
+-- ---- The elements and operators in a list, with each sequence replaced by its members. (FM 94
+-- BUFR, Table D)
 
--- the elements, operators and factors of a tree, in order
+-- the elements, operators and factors in a tree, in order
 abbrev pub leaves : Tree → List ℕ
 leaves bare = []
 leaves (element fxy rest) = fxy ∷ leaves rest
@@ -198,8 +198,8 @@ leaves (operator fxy rest) = fxy ∷ leaves rest
 leaves (fixed count body rest) = leaves body ++ leaves rest
 leaves (delayed factor body rest) = factor ∷ (leaves body ++ leaves rest)
 
--- The second list contains the leaves of the first, in order. Each element and operator is itself a
--- leaf, a replication adds no leaves, and a sequence adds the leaves of its members.
+-- The second list contains the leaves of the first, in order. An element or operator adds itself, a
+-- sequence adds the leaves of its members, and a replication adds nothing.
 pub data ListsLeaves (members : ℕ → Option (List ℕ)) : List ℕ → List ℕ → Type 0 where
   says_nothing : ListsLeaves members [] []
   says_itself : (d : ℕ) (after said : List ℕ) → (f_of d ≡ 0) ⊎ (f_of d ≡ 2)
@@ -210,9 +210,9 @@ pub data ListsLeaves (members : ℕ → Option (List ℕ)) : List ℕ → List �
       → ListsLeaves members inner inside → ListsLeaves members after said
       → ListsLeaves members (d ∷ after) (inside ++ said)
 
--- ---- Each group of a template, and the template as a whole, occupies data bits. (own)
+-- ---- Templates and groups must consume data bits (not part of FM 94 BUFR).
 
--- Each group's body contains a node that occupies data bits, and no fixed replication count is 0.
+-- The body of every group consumes data bits, and no fixed replication has a count of 0.
 abbrev pub EveryGroupConsumes : Tree → Type 0
 EveryGroupConsumes bare = Unit {0}
 EveryGroupConsumes (element fxy rest) = EveryGroupConsumes rest
@@ -222,15 +222,14 @@ EveryGroupConsumes (fixed count body rest) =
 EveryGroupConsumes (delayed factor body rest) =
     (consumes body ≡ true) × (EveryGroupConsumes body × EveryGroupConsumes rest)
 
--- Each group of a template occupies data bits, and so does the template as a whole.
+-- The body of every group consumes data bits, and so does the template as a whole.
 abbrev pub IsSound : Tree → Type 0
 IsSound tree = EveryGroupConsumes tree × (consumes tree ≡ true)
 
--- ---- Table B contains the elements that a template needs. (WMO-No. 306, Volume I.2, FM 94: Tables
--- B and C)
+-- ---- Elements that Table B must contain (FM 94 BUFR, Tables B and C).
 
 -- Table B contains every factor, and every element that does not directly follow 2 06 Y.
--- `width_given` means that 2 06 Y directly precedes the first node.
+-- `width_given` is true if 2 06 Y directly precedes the first node.
 abbrev pub IsKnownAfter : (known : ℕ → Bool) → (width_given : Bool) → Tree → Type 0
 IsKnownAfter known width_given bare = Unit {0}
 IsKnownAfter known width_given (element fxy rest) =

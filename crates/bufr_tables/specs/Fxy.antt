@@ -1,6 +1,5 @@
--- A descriptor, either as a 16-bit number (2 bits for F, 6 for X and 8 for Y) or as a string of six
--- digits (one for F, two for X and three for Y). (WMO-No. 306, Volume I.2, FM 94: section 3,
--- descriptors)
+-- Descriptors, represented as 16-bit numbers (2 bits for F, 6 for X and 8 for Y) or as strings of
+-- six digits (one for F, two for X and three for Y) (FM 94 BUFR, section 3, descriptors).
 -- Cited by public contracts.
 use Rattle.std.specs.Prelude.{ℕ, ◌+◌, ◌-◌, ◌*◌, ◌/◌, ◌%◌, ◌==◌, ◌&&◌, Bool, nat_le, if◌then◌else◌, List, [], ◌∷◌, length, slice_index, Option, Some, None, ◌≡◌, suc, ◌<◌, ◌≤◌, nat_eq, vec_capacity, option_and_then, option_map}
 use Rattle.std.specs.Char.{is_ascii_digit}
@@ -11,13 +10,13 @@ use Rattle.bufr_tables.specs.declared.index.FxyIndex.TheInside.{Inside}
 abbrev pub f_of : ℕ → ℕ
 f_of word = word / 16384
 
--- a descriptor's X: the class of an element, the category of a sequence, the number of descriptors
--- that a replication repeats, or the kind of an operator
+-- a descriptor's X, which is the class of an element, the category of a sequence, the number of
+-- descriptors that a replication repeats, or the kind of an operator
 abbrev pub x_of : ℕ → ℕ
 x_of word = word / 256 % 64
 
--- a descriptor's Y: the number of an element or sequence within its class or category, the count of
--- a replication, or the operand of an operator
+-- a descriptor's Y, which is the number of an element or sequence within its class or category, the
+-- count of a replication, or the operand of an operator
 abbrev pub y_of : ℕ → ℕ
 y_of word = word % 256
 
@@ -26,7 +25,7 @@ abbrev pub key_of : ℕ → ℕ
 key_of word = word % 16384
 
 -- Whether a descriptor is a replication factor (0 31 000, 0 31 001 or 0 31 002). The repetition
--- factors 0 31 011 and 0 31 012 are not supported (own).
+-- factors 0 31 011 and 0 31 012 are not supported (our choice).
 abbrev pub is_factor : ℕ → Bool
 is_factor word = f_of word == 0 && (x_of word == 31 && nat_le (y_of word) 2)
 
@@ -41,7 +40,7 @@ fxy_text word =
 abbrev pub number_at : List ℕ → ℕ → ℕ
 number_at text place = slice_index text place - 48
 
--- F, X and Y in a six-digit string
+-- the F, X and Y of a six-digit descriptor
 abbrev pub f_in : List ℕ → ℕ
 f_in text = number_at text 0
 
@@ -63,32 +62,33 @@ is_fxy text =
 abbrev pub fxy_of : List ℕ → Option ℕ
 fxy_of text = if is_fxy text then Some (16384 * f_in text + 256 * x_in text + y_in text) else None
 
--- ---- Sequencing of steps that may return `None`.
+-- ---- Functions for chaining steps that may return `None`.
 
--- sequencing that stops at the first `None`
+-- the result of passing the value in o to f, or `None` if o is `None`
 infixl 10 ◌>>=◌
 abbrev pub ◌>>=◌ : {A B : Type 0} → Option A → (A → Option B) → Option B
 o >>= f = option_and_then f o
 
--- x if the test passes; otherwise, `None`
+-- `Some x` if the test passes; otherwise, `None`
 abbrev pub only_if : {A : Type 0} → Bool → A → Option A
 only_if test x = if test then Some x else None
 
 -- ---- The position of a number in a list (used only by contracts of private functions).
 
--- the position (counted from 0) at which a number first occurs in a list, or `None` if it does not
--- occur
+-- the position (counted from 0) at which a number first occurs in a list, or `None` if the list
+-- does not contain it
 abbrev pub place_of : List ℕ → ℕ → Option ℕ
 place_of [] n = None
 place_of (first ∷ rest) n = if first == n then Some 0 else option_map suc (place_of rest n)
 
--- the mark that stores a position: the position plus 1, or 0 for `None`
+-- the number that the index stores for a position (the position plus 1, or 0 for `None`)
 abbrev pub mark_of : Option ℕ → ℕ
 mark_of None = 0
 mark_of (Some place) = place + 1
 
--- For each possible key, the index contains the mark of the key's position in the list of keys. No
--- key occurs twice in the list of keys, which has room for all possible keys.
+-- For each possible key, `marks` contains the position of the key in the list of keys (see
+-- `mark_of`). The list contains each key at most once and has enough capacity for all possible
+-- keys.
 pub record IsDirectory (a : Inside) : Type 0 where
   pub room : 16384 ≤ vec_capacity a.keys
   pub size : length a.marks.items ≡ 16384

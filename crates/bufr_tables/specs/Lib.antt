@@ -1,4 +1,4 @@
--- The definitions of this crate. The first lines of each file say what it contains.
+-- The definitions of this crate. The comment at the top of each file describes its contents.
 pub mod Fxy
 pub mod TableB
 pub mod Records

@@ -1,4 +1,4 @@
--- Re-exports the names that proofs and other crates use, and declares nothing.
+-- This file only re-exports the names that proofs and other crates use.
 pub use Rattle.bufr_tables.specs.Fxy.{only_if, f_of, x_of, y_of, fxy_of, fxy_text, mark_of, place_of, key_of, is_fxy, f_in, x_in, y_in}
 pub use Rattle.bufr_tables.specs.TableB.{ExtendsBlock, IsStored, row_parsed, rows_kept, IsRowKept, row_kept, Row, entry_of, row_comment, row_line_start, IsRow, allows_width, is_name, AreRows, columns_b, table_b_of, with_row, is_character, is_printed}
 unfoldable pub use Rattle.bufr_tables.specs.TableB.{begins_with, kind_of, element_of, plain_of, row_of, scale_of, width_of, with_record_b}

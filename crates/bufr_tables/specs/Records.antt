@@ -1,6 +1,6 @@
--- The records of a table file, and the numbers in their fields (own). `records`, which is defined
--- in the crate `csv`, allows any number of fields in a record and does not trim spaces. The header
--- is record 1.
+-- The records of a table file, and the numbers in their fields (our choice). `records`, which is
+-- defined in the crate `csv`, allows any number of fields in a record and does not trim spaces. The
+-- header is record 1.
 -- Cited by public contracts.
 use Rattle.std.specs.Prelude.{ℕ, ◌+◌, ◌^◌, ◌==◌, ◌&&◌, Bool, nat_lt, if◌then◌else◌, ℤ, pos, negsuc, neg_ℤ, List, [], ◌∷◌, length, drop, slice_index, Option, Some, None, option_and_then, option_map, unwrap_or, ◌≡◌, ◌≢◌, Result, Ok, Err, true, false, ◌<◌, map, IsSome}
 use Rattle.std.specs.Char.{is_ascii_digit}
@@ -20,14 +20,15 @@ use Rattle.csv.specs.declared.reader.Reader.{Reader}
 use Rattle.bufr_tables.specs.declared.rows.RecordReader.{RecordReader}
 use Rattle.csv.specs.declared.reader.Trim.TheVariants as trim
 
--- ---- Whole numbers, written as an optional `-` and one or more digits. (own)
+-- ---- Integers, written as an optional `-` followed by one or more digits (not part of FM 94
+-- BUFR).
 
 -- the number represented by a string of one or more digits, or `None` for any other string
 unfoldable pub natural_of : List ℕ → Option ℕ
 natural_of text =
     only_if (nat_lt 0 (length text) && list_all is_ascii_digit text) (digits_value 10 text)
 
--- the number represented by an optional `-` and one or more digits, or `None` for any other string
+-- the integer represented by one or more digits after an optional `-`, or `None` for other strings
 unfoldable pub integer_of : List ℕ → Option ℤ
 integer_of text =
     if slice_index text 0 == 45 then option_map (λ n. neg_ℤ (pos n)) (natural_of (drop 1 text))
@@ -38,7 +39,7 @@ abbrev pub fits_i64 : ℤ → Bool
 fits_i64 (pos n) = nat_lt n (2 ^ 63)
 fits_i64 (negsuc n) = nat_lt n (2 ^ 63)
 
--- the number that a string represents, if it fits in an `i64`
+-- the integer that a string represents, or `None` if the string does not represent an `i64`
 unfoldable pub i64_of : List ℕ → Option ℤ
 i64_of text = option_and_then (λ z. only_if (fits_i64 z) z) (integer_of text)
 
@@ -46,9 +47,9 @@ i64_of text = option_and_then (λ z. only_if (fits_i64 z) z) (integer_of text)
 abbrev pub Record : Type 0
 Record = List (List ℕ)
 
--- The records in a file that consists of the given octets. A byte order mark at the beginning is
--- ignored, empty lines are skipped, and a quoted field without a closing quote extends to the end
--- of the file.
+-- The records in a file with the given contents. A byte order mark at the beginning is ignored,
+-- empty lines are skipped, and a quoted field without a closing quote extends to the end of the
+-- file.
 abbrev pub records_of : List ℕ → List Record
 records_of text = records default_config (strip_bom text)
 
@@ -56,9 +57,9 @@ records_of text = records default_config (strip_bom text)
 abbrev pub field_of : Record → ℕ → List ℕ
 field_of record' place = unwrap_or (field_at record' place) []
 
--- ---- Sequencing of steps that may fail, and results of calls that may run out of memory.
+-- ---- Steps that may fail, and calls that may run out of memory.
 
--- sequencing that stops at the first fault
+-- the result of passing x to `next`, or the fault if the first step failed
 infixl 10 ◌>>=◌
 abbrev pub ◌>>=◌ : {E A B : Type 0} → Result A E → (A → Result B E) → Result B E
 (Ok x) >>= next = next x
@@ -69,7 +70,8 @@ abbrev pub ReturnsUnlessMemory : {A : Type 0} → Result A TableFault → Result
 ReturnsUnlessMemory expected (Ok x) = expected ≡ Ok x
 ReturnsUnlessMemory expected (Err fault) = fault ≢ Memory → expected ≡ Err fault
 
--- ---- Tables, in which the first record is the header and every other record is a row. (own)
+-- ---- Tables, in which the first record is the header and every other record is a row (not part of
+-- FM 94 BUFR).
 
 -- whether the first record is the given header
 -- rule: fault-40
@@ -86,7 +88,7 @@ table_from with_record n table [] = Ok table
 table_from with_record n table (r ∷ rs) =
     with_record n table r >>= λ more. table_from with_record (n + 1) more rs
 
--- The table that the records contain, or the first fault. The header is checked first, and then the
+-- The table defined by the records, or the first fault. The header is checked first, and then the
 -- rows are added to the empty table `none`.
 unfoldable pub table_of : {A : Type 0} → (header : List (List ℕ)) → (with_record : ℕ → A → Record
     → Result A TableFault) → (none : A) → List Record → Result A TableFault
@@ -95,12 +97,12 @@ table_of header with_record none records =
 
 -- ---- The records that a reader has not returned yet.
 
--- the octets after the records read so far
+-- the octets that follow the records read so far
 abbrev pub text_left : Reader (Bor (List ℕ)) → Option (List ℕ)
 text_left reader = source_of (λ s. Some s.now) reader
 
--- the records that a reader in `state` finds in its remaining octets, or none if the octets are
--- unknown
+-- the records that a reader in the given state can still read from the remaining octets, or an
+-- empty list if these octets are unknown
 abbrev pub records_after : State → Option (List ℕ) → List Record
 records_after state None = []
 records_after state (Some text) = records_from default_config (length text + 1) state text
@@ -108,7 +110,7 @@ records_after state (Some text) = records_from default_config (length text + 1) 
 abbrev pub records_left : RecordReader → List Record
 records_left r = records_after (reader_state r.reader) (text_left r.reader)
 
--- the number of octets in a list, or 0 if the list is unknown
+-- the number of octets in an optional list, or 0 for `None`
 abbrev pub count_of : Option (List ℕ) → ℕ
 count_of None = 0
 count_of (Some text) = length text
@@ -116,7 +118,7 @@ count_of (Some text) = length text
 abbrev pub octets_left : RecordReader → ℕ
 octets_left r = count_of (text_left r.reader)
 
--- The reader is between two records.
+-- The reader has the expected configuration and is not in the middle of a record.
 pub record IsBetween (r : RecordReader) : Type 0 where
   pub config : reader_config r.reader ≡ default_config
   pub trim : reader_trim r.reader ≡ trim.None
@@ -126,18 +128,18 @@ pub record IsBetween (r : RecordReader) : Type 0 where
   pub between : ends_at_end (reader_state r.reader) ≡ false
   pub counted : r.number + octets_left r < 2 ^ 64
 
--- the fields of the record that was read last
+-- the fields of the most recently read record
 abbrev pub record_given : RecordReader → Record
 record_given r = fields_of r.row
 
--- The reader read and counted the next record, or no records were left.
+-- The reader either read and counted the next record, or found no more records.
 pub record GivesNext (old new : RecordReader) (found : Bool) : Type 0 where
   pub next : records_left old ≡ (if found then record_given new ∷ records_left new else [])
   pub number : found ≡ true → new.number ≡ old.number + 1
   pub between : found ≡ true → IsBetween new
   pub fewer : found ≡ true → octets_left new < octets_left old
 
--- The reader has read the header, which is record 1, and nothing else.
+-- The reader has read only the header, which is record 1.
 pub record IsOpened (names : List (List ℕ)) (records : List Record)
     (r : RecordReader) : Type 0 where
   pub between : IsBetween r
@@ -145,6 +147,6 @@ pub record IsOpened (names : List (List ℕ)) (records : List Record)
   pub header : has_header names records ≡ true
   pub rest : records_left r ≡ drop 1 records
 
--- the strings to which the references in a list refer
+-- the contents of a list of borrowed strings
 abbrev pub field_texts : List (Bor (List ℕ)) → List (List ℕ)
 field_texts texts = map (λ text. text.now) texts

@@ -1,5 +1,5 @@
--- The rows of Table B and their limits, and the kind of an element. (WMO-No. 306, Volume I.2, FM
--- 94: Table B; the format of the file, the limits, the faults and the kinds are our choice)
+-- The rows of Table B, the limits on their fields, and the kinds of elements (FM 94 BUFR, Table B;
+-- the format of the file, the limits, the faults and the kinds are our choice).
 -- Cited by public contracts.
 use Rattle.std.specs.Prelude.{ℕ, Bool, if◌then◌else◌, ◌||◌, List, length, take, codes, ◌≡◌, ◌%◌, ◌==◌, ◌&&◌, true, false, not, nat_le, ℤ, [], ◌∷◌, ◌++◌, map, nat_eq, Option, Some, None, is_some, Result, Ok, Err, ◌+◌, ◌-◌, ◌≤◌, slice_range, ◌<◌}
 use Rattle.std.specs.Str.{str_eq_ignore_ascii_case}
@@ -15,7 +15,8 @@ use Rattle.bufr_tables.specs.declared.table_b.Stored.{Stored}
 use Rattle.bufr_tables.specs.declared.table_b.ParsedRow.{ParsedRow}
 use Rattle.bufr_tables.specs.declared.table_b.TableB.TheInside.{Inside}
 
--- ---- The kind of an element, which depends on its unit. Letter case is ignored. (own)
+-- ---- The kind of an element, which depends on its unit. Letter case is ignored (not part of FM 94
+-- BUFR).
 
 -- whether a string begins with the given words, ignoring ASCII case
 unfoldable pub begins_with : List ℕ → List ℕ → Bool
@@ -43,7 +44,7 @@ pub record Row : Type 0 where
 abbrev pub row_line_start : Row → List ℕ
 row_line_start row = fxy_text row.fxy ++ codes " "
 
--- the comment at the end of an item's line in a dump: `  # NAME [UNIT]` and a line feed
+-- the comment at the end of an item's line in a dump (`  # NAME [UNIT]` and a line feed)
 abbrev pub row_comment : Row → List ℕ
 row_comment row = codes "  # " ++ row.name ++ codes " [" ++ row.unit ++ codes "]\n"
 
@@ -54,7 +55,7 @@ columns_b =
     codes "fxy" ∷ codes "name" ∷ codes "unit" ∷ codes "scale" ∷ codes "reference"
     ∷ codes "width" ∷ []
 
--- the descriptor that a string represents, if it is an element descriptor
+-- the element descriptor that a string represents, or `None` for any other string
 unfoldable pub element_of : List ℕ → Option ℕ
 element_of text = fxy_of text >>= λ fxy. only_if (f_of fxy == 0) fxy
 
@@ -62,7 +63,7 @@ element_of text = fxy_of text >>= λ fxy. only_if (f_of fxy == 0) fxy
 abbrev pub is_printed : ℕ → Bool
 is_printed octet = nat_le 32 octet && not (octet == 127)
 
--- whether a string may be a name or unit; it may contain at most 512 octets, and no control
+-- whether a string is a valid name or unit, which has at most 512 octets and contains no control
 -- characters
 abbrev pub is_name : List ℕ → Bool
 is_name text = nat_le (length text) 512 && list_all is_printed text
@@ -70,18 +71,18 @@ is_name text = nat_le (length text) 512 && list_all is_printed text
 unfoldable pub plain_of : List ℕ → Option (List ℕ)
 plain_of text = only_if (is_name text) text
 
--- the scale that a string represents, if it is in the range -127 to 127
+-- the scale that a string represents, or `None` if it is not an integer from -127 to 127
 unfoldable pub scale_of : List ℕ → Option ℤ
 scale_of text = i64_of text >>= λ scale. only_if (nat_le (unsigned_abs scale) 127) scale
 
--- Whether a data width in bits is valid for elements of the given kind (own). A text element is 1
--- to 255 whole octets wide, since 2 08 Y can set a width of at most 255 octets. Other elements are
--- 1 to 63 bits wide.
+-- Whether a data width in bits is valid for elements of the given kind (our choice). A text element
+-- is 1 to 255 whole octets wide, since 2 08 Y can set a width of at most 255 octets. Other elements
+-- are 1 to 63 bits wide.
 abbrev pub allows_width : Kind → ℕ → Bool
 allows_width Character width = nat_le 8 width && nat_le width 2040 && (width % 8 == 0)
 allows_width _ width = nat_le 1 width && nat_le width 63
 
--- the data width that a string represents, if it is valid for elements of the given kind
+-- the data width that a string represents, or `None` if it is invalid for the given kind of element
 unfoldable pub width_of : Kind → List ℕ → Option ℕ
 width_of kind text = natural_of text >>= λ width. only_if (allows_width kind width) width
 
@@ -95,15 +96,16 @@ abbrev pub is_character : Kind → Bool
 is_character Character = true
 is_character _ = false
 
--- Whether a row is valid, given the `factor_width` of its element. The row of a replication factor
--- must have the given data width, scale 0 and reference value 0, and must not describe text.
+-- Whether a row passes the checks for replication factors; rows of other elements always pass. The
+-- first argument is the `factor_width` of the element. A factor must have that data width, scale 0
+-- and reference value 0, and must not be text.
 abbrev pub is_valid_factor : Option ℕ → Row → Bool
 is_valid_factor None row = true
 is_valid_factor (Some width) row =
     (row.width == width) && (unsigned_abs row.scale == 0) && (unsigned_abs row.reference == 0)
     && not (is_character row.kind)
 
--- the row that a record contains, if all of its fields are valid
+-- the row that a record contains, or `None` if any field is invalid
 -- rule: fault-41-of-table-b
 unfoldable pub row_of : Record → Option Row
 row_of r = do
@@ -126,8 +128,7 @@ row_of r = do
   only_if (is_valid_factor (factor_width fxy) row) row
 
 -- The row is valid. The row's unit determines its kind, and its data width is valid for that kind.
--- If the row's element is a replication factor, the row also meets the conditions of
--- `is_valid_factor`.
+-- If the element is a replication factor, the row also satisfies `is_valid_factor`.
 pub record IsRow (row : Row) : Type 0 where
   pub name : is_name row.name ≡ true
   pub unit : is_name row.unit ≡ true
@@ -136,7 +137,7 @@ pub record IsRow (row : Row) : Type 0 where
   pub width : allows_width row.kind row.width ≡ true
   pub factor : is_valid_factor (factor_width row.fxy) row ≡ true
 
--- the row for an element, if the table has one
+-- the row for an element, or `None` if the table has no such row
 abbrev pub entry_of : List Row → ℕ → Option Row
 entry_of rows fxy = find (λ row. row.fxy == fxy) rows
 
@@ -148,16 +149,17 @@ with_row n rows None = Err (table.Row n)
 with_row n rows (Some row) =
     if is_some (entry_of rows row.fxy) then Err (table.Duplicate row.fxy) else Ok (rows ++ row ∷ [])
 
--- the rows so far and the row in record n, or the fault in that record, which must have six fields
+-- the rows so far and the row in record n, or the fault in that record; a record must have six
+-- fields
 -- rule: fault-45, order-in-a-record
 unfoldable pub with_record_b : ℕ → List Row → Record → Result (List Row) TableFault
 with_record_b n rows r = if length r == 6 then with_row n rows (row_of r) else Err table.Csv
 
--- the Table B that the records contain, or the first fault
+-- the Table B rows defined by the records, or the first fault
 abbrev pub table_b_of : List Record → Result (List Row) TableFault
 table_b_of records = table_of columns_b with_record_b [] records
 
--- The table contains the rows in the records after the header, in order, and no two rows describe
+-- The records after the header contain the rows of the table, in order, and no two rows describe
 -- the same element.
 pub record AreRows (records : List Record) (table : List Row) : Type 0 where
   pub rest : List Record
@@ -181,8 +183,8 @@ row_kept octets s =
       width = s.width;
     }
 
--- The indices of a stored element are in order and within the block. Between those indices, the
--- block contains the start of the element's line and the comment at the end of the line.
+-- The indices in a stored element are in ascending order and within the block. The octets from
+-- `start` to `end` are the beginning and the final comment of the element's line in a dump.
 pub record IsRowKept (octets : List ℕ) (s : Stored) : Type 0 where
   pub name : s.start + 11 ≤ s.middle
   pub unit : s.middle + 4 ≤ s.end
@@ -206,11 +208,11 @@ row_parsed r =
 abbrev pub rows_kept : List ℕ → List Stored → List Row
 rows_kept octets stored = map (row_kept octets) stored
 
--- The new block is the old one, possibly with more octets appended.
+-- The new block begins with the old block.
 abbrev pub ExtendsBlock : List ℕ → List ℕ → Type 0
 ExtendsBlock old new = (more : List ℕ) × (new ≡ old ++ more)
 
--- The parsed row is stored in the block as the given element.
+-- The stored element represents the parsed row, and its octets are in the block.
 pub record IsStored (octets : List ℕ) (row : ParsedRow) (s : Stored) : Type 0 where
   pub same : row_kept octets s ≡ row_parsed row
   pub kept : IsRowKept octets s

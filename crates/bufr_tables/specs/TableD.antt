@@ -1,5 +1,5 @@
--- The sequences of Table D, and chains in which each sequence contains the next. (WMO-No. 306,
--- Volume I.2, FM 94: Table D; the format of the file, the limits and the faults are our choice)
+-- The sequences of Table D, and chains in which each sequence contains the next (FM 94 BUFR, Table
+-- D; the format of the file, the limits and the faults are our choice).
 -- Cited by public contracts.
 use Rattle.std.specs.Prelude.{◌≡◌, ◌≢◌, ℕ, ◌-◌, ◌==◌, ◌&&◌, Bool, true, false, not, nat_le, if◌then◌else◌, List, [], ◌∷◌, ◌++◌, length, map, codes, Option, Some, None, is_some, option_map, unwrap_or, Result, Ok, Err, IsSome, Contains, All, ⊤, ◌≤◌, ◌<◌, slice_range, ◌+◌, ◌⊎◌, slice_index, slice_index_or}
 use Rattle.std.specs.List.{find, AllByRecursion}
@@ -11,12 +11,12 @@ use Rattle.bufr_tables.specs.Records.{Record, field_of, table_of}
 use Rattle.bufr_tables.specs.declared.table_d.MemberRange.{MemberRange}
 use Rattle.bufr_tables.specs.declared.table_d.TableD.TheInside.{Inside}
 
--- a sequence, represented by its descriptor and its members in order
+-- a sequence, represented by its descriptor and the list of its members
 pub record Sequence : Type 0 where
   pub fxy : ℕ
   pub members : List ℕ
 
--- a row of a Table D file: a sequence and one of its members
+-- a row of a Table D file, which consists of a sequence and one of its members
 pub record Member : Type 0 where
   pub sequence : ℕ
   pub fxy : ℕ
@@ -25,11 +25,11 @@ pub record Member : Type 0 where
 abbrev pub columns_d : List (List ℕ)
 columns_d = codes "fxy" ∷ codes "member" ∷ []
 
--- the descriptor that a string represents, if it is a sequence descriptor
+-- the sequence descriptor that a string represents, or `None` for any other string
 unfoldable pub sequence_of : List ℕ → Option ℕ
 sequence_of text = fxy_of text >>= λ fxy. only_if (f_of fxy == 3) fxy
 
--- the row that a record contains, if both of its fields are valid
+-- the row that a record contains, or `None` if either field is invalid
 -- rule: fault-41-of-table-d
 unfoldable pub member_of : Record → Option Member
 member_of r = do
@@ -41,7 +41,7 @@ member_of r = do
 abbrev pub fxys_of : List Sequence → List ℕ
 fxys_of table = map (λ s. s.fxy) table
 
--- the members of a sequence, if the table contains it
+-- the members of a sequence, or `None` if the table does not contain it
 abbrev pub members_of : List Sequence → ℕ → Option (List ℕ)
 members_of table fxy = option_map (λ s. s.members) (find (λ s. s.fxy == fxy) table)
 
@@ -81,25 +81,24 @@ with_member n sequences (Some row) =
     if begins_again sequences row then Err (table.Duplicate row.sequence)
     else if nat_le 65536 (n - 2) then Err table.TableSize else Ok (added sequences row)
 
--- the sequences after adding the row in record n, or the fault in that record, which must have two
--- fields
+-- the sequences after adding the row in record n, or the fault in that record; a record must have
+-- two fields
 -- rule: fault-45, order-in-a-record
 unfoldable pub with_record_d : ℕ → List Sequence → Record → Result (List Sequence) TableFault
 with_record_d n sequences r =
     if length r == 2 then with_member n sequences (member_of r) else Err table.Csv
 
--- the Table D that the records contain, or the first fault; cycles are detected later
+-- the Table D sequences defined by the records, or the first fault; cycles are detected later
 abbrev pub table_d_of : List Record → Result (List Sequence) TableFault
 table_d_of records = table_of columns_d with_record_d [] records
 
--- the members listed for a sequence in the rows, in order
+-- the members of a sequence, taken from the given rows in order
 abbrev pub members_in : List Member → ℕ → List ℕ
 members_in [] fxy = []
 members_in (row ∷ rows) fxy =
     if row.sequence == fxy then row.fxy ∷ members_in rows fxy else members_in rows fxy
 
--- Each sequence of the table has the members that are listed for it in the records after the
--- header, in order.
+-- The members of each sequence are those listed in the records after the header, in the same order.
 pub record AreSequences (records : List Record) (table : List Sequence) : Type 0 where
   pub rest : List Record
   pub split : records ≡ columns_d ∷ rest
@@ -107,8 +106,8 @@ pub record AreSequences (records : List Record) (table : List Sequence) : Type 0
   pub written : map member_of rest ≡ map Some rows
   pub members : (fxy : ℕ) → members_or_none table fxy ≡ members_in rows fxy
 
--- ---- Chains of members. A sequence that contains itself cannot be expanded. (WMO-No. 306, Volume
--- I.2, FM 94: Table D; the fault is our choice)
+-- ---- Chains of members. A sequence that contains itself cannot be expanded (FM 94 BUFR, Table D;
+-- the fault is our choice).
 
 -- Sequence `from` has the member `to`, which is also a sequence in the table.
 pub record Leads (table : List Sequence) (from to : ℕ) : Type 0 where
@@ -117,7 +116,7 @@ pub record Leads (table : List Sequence) (from to : ℕ) : Type 0 where
   pub member : Contains members to
   pub sequence : IsSome (members_of table to)
 
--- A chain of members leads from one sequence to another.
+-- One sequence contains another, directly or through other sequences.
 pub data Chain (table : List Sequence) : ℕ → ℕ → Type 0 where
   one : {from to : ℕ} → Leads table from to → Chain table from to
   more : {from by to : ℕ} → Leads table from by → Chain table by to → Chain table from to
@@ -126,7 +125,7 @@ pub data Chain (table : List Sequence) : ℕ → ℕ → Type 0 where
 abbrev pub ReachesItself : List Sequence → ℕ → Type 0
 ReachesItself table fxy = Chain table fxy fxy
 
--- In file order, the given sequence is the first one that contains itself.
+-- The given sequence is the first one in the file that contains itself.
 -- rule: fault-43
 pub record IsFirstCycle (table : List Sequence) (fxy : ℕ) : Type 0 where
   pub before : List Sequence
@@ -137,8 +136,8 @@ pub record IsFirstCycle (table : List Sequence) (fxy : ℕ) : Type 0 where
   pub reaches : ReachesItself table fxy
   pub first : All (λ s. ¬ ReachesItself table s.fxy) before
 
--- Reading Table D returns the table or the first fault. A sequence that contains itself is also a
--- fault, but it is reported only if the records contain no other fault.
+-- Reading Table D returns the table or the first fault. A sequence that contains itself is reported
+-- only if the records contain no other fault.
 -- rule: fault-43-last
 abbrev pub ReadsTableD : List Record → Result (List Sequence) TableFault → Type 0
 ReadsTableD records (Ok table) =
@@ -147,8 +146,8 @@ ReadsTableD records (Err (Cycle fxy)) =
     (table : List Sequence) × (table_d_of records ≡ Ok table) × IsFirstCycle table fxy
 ReadsTableD records (Err fault) = fault ≢ Memory → table_d_of records ≡ Err fault
 
--- ---- How Table D is stored. One list contains the members of all sequences, and each sequence has
--- a range in that list.
+-- ---- How Table D is stored. A single list contains the members of all sequences, and each
+-- sequence is stored as a range of indices in that list.
 
 -- the sequence whose members are in the given range
 abbrev pub sequence_kept : List ℕ → MemberRange → Sequence
@@ -172,8 +171,8 @@ LastEnds size [] = ⊤
 LastEnds size (run ∷ []) = run.end ≡ size
 LastEnds size (run ∷ next ∷ rest) = LastEnds size (next ∷ rest)
 
--- Every range is within the list of members and belongs to a sequence. The last range extends to
--- the end of the list, and the index contains the X and Y of each sequence.
+-- Every range lies within the list of members and has a sequence descriptor. The last range extends
+-- to the end of the list, and the index contains the X and Y of each sequence.
 pub record IsTableD (a : Inside) : Type 0 where
   pub inside : AllByRecursion (IsMemberRange (length a.members.items)) a.runs.items
   pub sequences : AllByRecursion (λ run. (49152 ≤ run.fxy) × (run.fxy < 65536)) a.runs.items
@@ -183,10 +182,9 @@ pub record IsTableD (a : Inside) : Type 0 where
 abbrev pub table_d_rows : Inside → List Sequence
 table_d_rows a = sequences_kept a.members.items a.runs.items
 
--- ---- The state of the search for cycles. Each descriptor has a flag, whose index is the
--- descriptor's number.
+-- ---- The state of the search for cycles. The flags are indexed by 16-bit descriptor numbers.
 
--- the rank of a sequence, which is stored at the index formed by the sequence's X and Y
+-- the rank of a sequence; `ranks` is indexed by X and Y as one number (see `key_of`)
 abbrev pub rank_of : List ℕ → ℕ → ℕ
 rank_of ranks fxy = slice_index ranks (key_of fxy)
 
@@ -207,8 +205,8 @@ abbrev pub unset : List Bool → ℕ
 unset [] = 0
 unset (flag ∷ flags) = (if flag then 0 else 1) + unset flags
 
--- The first `count` members of a sequence were visited. Members that are sequences were flagged as
--- seen, and those that had not been flagged before were appended to the queue.
+-- The first `count` members of a sequence were visited. Members that are sequences were flagged,
+-- and those flagged for the first time were appended to the queue.
 pub record IsVisited (table : List Sequence) (fxy count : ℕ) (old : List Bool) (queue : List ℕ)
     (new : List Bool) (longer : List ℕ) : Type 0 where
   pub more : List ℕ

@@ -1,12 +1,12 @@
--- A template, which is an expanded descriptor list in the form of a tree. (WMO-No. 306, Volume I.2,
--- FM 94: section 3, Table C; the tree is our choice)
+-- A template, which is the tree that results from expanding a descriptor list (FM 94 BUFR, section
+-- 3, Table C; the tree is our choice).
 -- Cited by public contracts.
 use Rattle.std.specs.Prelude.{ℕ, ◌+◌, ◌==◌, Bool, true, false, ◌||◌, max, nat_le, ◌&&◌, if◌then◌else◌}
 use Rattle.bufr_tables.specs.Fxy.{x_of, f_of, y_of}
 
--- A list of nodes. `bare` is the empty list, and every other constructor consists of the first node
--- and a list of the remaining nodes (`rest`). A fixed replication repeats its `body` `count` times.
--- A delayed replication repeats its `body` as often as the value of `factor` in the data specifies.
+-- A list of nodes. `bare` is the empty list, and every other constructor puts a node before the
+-- list `rest`. A fixed replication repeats its body `count` times. For a delayed replication, the
+-- value of `factor` in the data is the number of repetitions.
 pub data Tree : Type 0 where
   bare : Tree
   element : (fxy : ℕ) → (rest : Tree) → Tree
@@ -22,8 +22,8 @@ join (operator fxy rest) more = operator fxy (join rest more)
 join (fixed count body rest) more = fixed count body (join rest more)
 join (delayed factor body rest) more = delayed factor body (join rest more)
 
--- The number of places that nodes take in a stored template. Each element, operator and factor
--- takes one place, as do the beginning and the end of each group (a replication with its body).
+-- The number of cells needed to store the given nodes. Each element, operator, factor, group start
+-- and group end needs one cell. A group is a replication with its body.
 abbrev pub size : Tree → ℕ
 size bare = 0
 size (element fxy rest) = 1 + size rest
@@ -31,7 +31,7 @@ size (operator fxy rest) = 1 + size rest
 size (fixed count body rest) = 2 + size body + size rest
 size (delayed factor body rest) = 3 + size body + size rest
 
--- the number of places in a whole template, including one for its end
+-- the number of cells in a whole template, including the one for its end
 abbrev pub places : Tree → ℕ
 places tree = 1 + size tree
 
@@ -43,12 +43,12 @@ depth (operator fxy rest) = depth rest
 depth (fixed count body rest) = max (1 + depth body) (depth rest)
 depth (delayed factor body rest) = max (1 + depth body) (depth rest)
 
--- whether an operator is 2 05 Y, the only operator that itself occupies data bits (Y characters)
+-- whether an operator is 2 05 Y, the only operator that inserts text (Y characters) into the data
 abbrev pub is_inserted_text : ℕ → Bool
 is_inserted_text fxy = x_of fxy == 5
 
--- Whether at least one node occupies data bits. Elements and inserted text occupy data bits, and so
--- does a delayed group because of its factor. A fixed group occupies data bits if its body does.
+-- Whether any of the nodes consumes data bits. Elements, inserted text and delayed groups (because
+-- of their factors) consume data bits. A fixed group consumes data bits if its body does.
 -- rule: groups-take-bits
 abbrev pub consumes : Tree → Bool
 consumes bare = false
@@ -57,16 +57,14 @@ consumes (operator fxy rest) = is_inserted_text fxy || consumes rest
 consumes (fixed count body rest) = consumes body || consumes rest
 consumes (delayed factor body rest) = true
 
--- ---- The operators that a template may contain, and their operands. (WMO-No. 306, Volume I.2, FM
--- 94: Table C; the seven operators and the bounds are our choice)
+-- ---- The operators that a template may contain, and their operands (FM 94 BUFR, Table C; the
+-- seven operators and the bounds are our choice).
 
--- Whether the operator 2 X Y is supported.
---   If X is 1, 2 or 8, Y can have any value.
---   If X is 3, Y is 1 to 63 (the width of redefined reference values), 255 (end) or 0 (cancel).
---   If X is 5 or 6, Y is at least 1.
---   If X is 7, Y is at most 18 (own), because 2 07 019 would add 64 bits, and a quantity has at
---   most 63 bits.
--- Other operators of Table C, such as 2 04, are rejected (own).
+-- Whether the operator 2 X Y is supported. If X is 1, 2 or 8, Y can have any value. If X is 3, Y is
+-- 1 to 63 (the width of redefined reference values), 255 (end) or 0 (cancel). If X is 5 or 6, Y is
+-- at least 1. If X is 7, Y is at most 18 (our choice), because 2 07 019 would add 64 bits, and no
+-- quantity can be wider than 63 bits. Other operators of Table C, such as 2 04, are rejected (our
+-- choice).
 -- rule: operators-known
 abbrev pub has_legal_operand : ℕ → ℕ → Bool
 has_legal_operand x y =

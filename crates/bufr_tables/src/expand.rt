@@ -1,5 +1,5 @@
-//! The expansion of descriptor lists into templates, depth first and from left to right. Only a few
-//! descriptors are examined for each place in the template, so malicious lists are rejected early.
+//! Expands descriptor lists into templates, depth first and from left to right. The number of cells
+//! and the work per cell are bounded, so even a malicious list is expanded or rejected quickly.
 ghost use Rattle.std.specs.Prelude.{◌≡◌, ◌≢◌, is_some, ◌+◌, ◌*◌, max, vec_capacity, ◌<◌, ◌≤◌, ◌++◌, ◌∷◌, [], length, Ok, Err, MatchResult, OnOk, OnErr, IfErr, IfOk};
 ghost use Rattle.bufr_tables.specs.Fxy.{x_of};
 ghost use Rattle.bufr_tables.specs.TableB.{entry_of};
@@ -27,8 +27,8 @@ impl Template {
     /// is expanded depth first and from left to right.
     ///
     /// Groups and sequences may be nested at most 32 levels deep, and a template may have at most
-    /// 65,535 places (see [`Template::places`]). A list that would need more than 65,535 places is
-    /// rejected as soon as the expansion exceeds this limit.
+    /// 65,535 cells (see [`Template::places`]). A list that needs more cells is rejected as soon as
+    /// the limit is exceeded.
     ///
     /// ```
     /// let descriptors = [Fxy::from_word(0x0101)]; // 0 01 001
@@ -38,27 +38,31 @@ impl Template {
     ///
     /// # Errors
     ///
-    /// The first of the following faults that is found:
+    /// This function returns the first of the following faults that it finds:
     ///
-    /// - At a replication 1 X Y, the fault is [`TemplateFault::GroupShape`] if X is 0,
-    ///   [`TemplateFault::NoFactor`] if Y is 0 and no factor (0 31 000, 0 31 001 or 0 31 002)
-    ///   follows, [`TemplateFault::UnknownElement`] with the factor if Table B does not contain it,
-    ///   or [`TemplateFault::GroupShape`] if fewer than X descriptors follow in the same list, not
-    ///   counting the factor. The next checks, in order, are for [`TemplateFault::Depth`],
-    ///   [`TemplateFault::TemplateSize`], faults in the body, and [`TemplateFault::EmptyGroup`] if
-    ///   no node in the body occupies data bits.
-    /// - At a sequence, the fault is [`TemplateFault::UnknownSequence`] if Table D does not contain
-    ///   it. The next checks, in order, are for [`TemplateFault::Depth`] and for faults in the
-    ///   members.
-    /// - At an element, the fault is [`TemplateFault::UnknownElement`] if Table B does not contain
-    ///   it, unless it follows 2 06 Y. The next check is for [`TemplateFault::TemplateSize`].
-    /// - At an operator, the fault is [`TemplateFault::Operator`] if the operator is not supported
-    ///   or does not allow this operand, or [`TemplateFault::LocalShape`] if 2 06 Y is not followed
-    ///   by an element in the same list. The next check is for [`TemplateFault::TemplateSize`].
-    /// - At the end, the fault is [`TemplateFault::EmptyGroup`] with the first descriptor (000000
-    ///   if the list is empty) if no node in the whole list occupies data bits.
+    /// - For a replication 1 X Y, the fault is [`TemplateFault::GroupShape`] if X is 0. If Y is 0
+    ///   and no factor (0 31 000, 0 31 001 or 0 31 002) follows, the fault is
+    ///   [`TemplateFault::NoFactor`]. If Y is 0 and a factor follows but is not in Table B, the
+    ///   fault is [`TemplateFault::UnknownElement`] with the factor. If fewer than X descriptors
+    ///   (not counting the factor) follow in the same list, the fault is
+    ///   [`TemplateFault::GroupShape`]. Otherwise, the fault is [`TemplateFault::Depth`] if the
+    ///   group is nested too deeply, or [`TemplateFault::TemplateSize`] if the template has no room
+    ///   for the group's own cells. After these checks, the fault is the first fault in the body,
+    ///   or [`TemplateFault::EmptyGroup`] if the body consumes no data bits.
+    /// - For a sequence, the fault is [`TemplateFault::UnknownSequence`] if Table D does not
+    ///   contain the sequence. Otherwise, the fault is [`TemplateFault::Depth`] if the sequence is
+    ///   nested too deeply, or else the first fault in its members.
+    /// - For an element, the fault is [`TemplateFault::UnknownElement`] if Table B does not contain
+    ///   the element and 2 06 Y does not directly precede it. Otherwise, the fault is
+    ///   [`TemplateFault::TemplateSize`] if the template is already full.
+    /// - For an operator, the fault is [`TemplateFault::Operator`] if the operator is not supported
+    ///   or does not allow this operand, or [`TemplateFault::LocalShape`] if 2 06 Y is not directly
+    ///   followed by an element in the same list. Otherwise, the fault is
+    ///   [`TemplateFault::TemplateSize`] if the template is already full.
+    /// - At the end, if the whole list consumes no data bits, the fault is
+    ///   [`TemplateFault::EmptyGroup`] with the first descriptor (000000 if the list is empty).
     ///
-    /// [`TemplateFault::Memory`] if memory cannot be allocated. This fault can occur at any point.
+    /// If memory cannot be allocated, expansion fails at that point with [`TemplateFault::Memory`].
     // rule: groups-take-bits
     pub fn build(
         alloc: Global,
@@ -115,8 +119,8 @@ impl Template {
     }
 }
 
-/// The two tables that an expansion uses, and the number of nesting levels still available for
-/// groups and sequences.
+/// Expands descriptors using `table_b` and `table_d`. Groups and sequences may be nested up to
+/// `room` more levels deep.
 #[derive(Clone, Copy)]
 pub(crate) struct Expander<'a> {
     pub(crate) table_b: &'a TableB,
@@ -208,9 +212,9 @@ impl Expander<'_> {
         }
     }
 
-    /// Expands a replication into a group. The group has Y passes or, if Y is 0, the number of
-    /// passes given by its factor in the data. Returns the number of descriptors in `after` that
-    /// belong to the replication, which is X, or X + 1 if there is a factor.
+    /// Expands a replication into a group. The group is repeated Y times or, if Y is 0, as many
+    /// times as its factor in the data specifies. Returns the number of descriptors in `after` that
+    /// belong to the replication (X, or X + 1 if there is a factor).
     #[cycle(expansion)]
     // rule: fixed-replication, delayed-replication, order-at-a-replication
     fn group(
@@ -247,8 +251,8 @@ impl Expander<'_> {
         Ok(1 + usize::from(fxy.x()))
     }
 
-    /// Expands a group. The body of the group consists of the next X descriptors, and at least one
-    /// node in the body must occupy data bits.
+    /// Expands a group. The group's body, which consists of the next X descriptors, must consume
+    /// data bits.
     #[cycle(expansion)]
     // rule: replication-before-expansion, replication-nested, replication-in-one-list
     // rule: groups-take-bits, order-at-a-replication
@@ -291,17 +295,17 @@ fn begins_with_element(list: &[Fxy]) -> bool
     list.first().is_some_and(|fxy| fxy.f() == 0)
 }
 
-/// The number of passes through a group.
+/// The number of times that a group is repeated.
 #[derive(Clone, Copy)]
 pub(crate) enum Passes {
-    /// A fixed number of passes.
+    /// A fixed number of repetitions.
     Fixed(u8),
-    /// The data contain the number of passes as the value of this factor.
+    /// The number of repetitions is the value of this factor in the data.
     Delayed(Fxy),
 }
 
 impl Passes {
-    /// Returns the number of places that a group takes in addition to those of its body.
+    /// Returns the number of cells in a group, not counting those in its body.
     fn places(&self) -> u32
         ensures { result ≡ own_places self.now }
     {
@@ -311,7 +315,7 @@ impl Passes {
         }
     }
 
-    /// Returns the first cell of a group. `after` is the place after the end of the group.
+    /// Returns the first cell of a group. `after` is the index of the cell after the group.
     fn first_cell(&self, after: u32) -> Cell
         ensures { result ≡ first_cell self.now after }
     {
@@ -322,7 +326,7 @@ impl Passes {
     }
 }
 
-/// The maximum number of places in a template.
+/// The maximum number of cells in a template.
 pub(crate) const MAX_PLACES: u32 = 65_535;
 
 /// A template that is being built from a descriptor list.
@@ -330,20 +334,20 @@ pub(crate) const MAX_PLACES: u32 = 65_535;
 pub(crate) struct TemplateBuilder {
     /// The cells added so far.
     pub(crate) cells: Vec<Cell>,
-    /// The number of open groups, whose ends have not been added yet.
+    /// The number of open groups, that is, groups whose end has not been added yet.
     pub(crate) open_groups: u32,
-    /// The maximum number of groups that have been open at the same time.
+    /// The greatest number of groups that have been open at the same time.
     pub(crate) depth: u32,
-    /// Whether the innermost open group contains a node that occupies data bits. If no group is
-    /// open, the whole list is considered instead.
+    /// Whether the body of the innermost open group (or the template, if no group is open) consumes
+    /// data bits so far.
     pub(crate) consumes: bool,
     pub(crate) ghost within: { length cells.items + open_groups < 65535 },
     pub(crate) ghost around: { open_groups ≤ depth },
     pub(crate) ghost room: { vec_capacity cells ≤ 131072 },
 }
 
-/// Checks that `more` places can be added to the `places` already taken. Returns
-/// [`TemplateFault::TemplateSize`] with `fxy` if the template would have too many places.
+/// Checks whether `more` cells can be added to a template that has `places` cells. Returns
+/// [`TemplateFault::TemplateSize`] with `fxy` if the template would have too many cells.
 fn check_places(places: u32, more: u32, fxy: Fxy) -> Result<(), TemplateFault>
     requires within { places ≤ 65535 }
     requires few { more ≤ 3 }
@@ -375,8 +379,7 @@ pub(crate) fn push_cell(cells: &mut Vec<Cell>, cell: Cell) -> Result<(), Templat
     Ok(())
 }
 
-/// Appends the cell that contains the factor of a group. If the number of passes is fixed, the
-/// group has no factor, and nothing is appended.
+/// Appends a cell for the group's factor, if the group has one.
 fn push_factor(cells: &mut Vec<Cell>, passes: &Passes) -> Result<(), TemplateFault>
     ensures room { vec_capacity cells.new
         ≤ max (vec_capacity cells.old) (2 * length cells.old.items + 1) }
@@ -396,8 +399,8 @@ impl TemplateBuilder {
     ghost use Rattle.bufr_tables.specs.Growth.{places_so_far, with_cell, with_closed_group, GivesGrowth, GivesPlace};
     ghost use Rattle.bufr_tables.specs.Growing.{builder_model};
 
-    /// Returns the number of places taken so far. The number includes the ends of the open groups
-    /// and of the template, whose cells have not been added yet.
+    /// Returns the number of cells so far, plus one for the end of each open group and one for the
+    /// end of the template.
     fn places(&self) -> u32
         ensures value { result ≡ places_so_far (builder_model self.now) }
         ensures most { result ≤ 65535 }
@@ -425,7 +428,7 @@ impl TemplateBuilder {
         Ok(())
     }
 
-    /// Opens a group and returns the place of its first cell.
+    /// Opens a group and returns the index of its first cell.
     pub(crate) fn open(&mut self, fxy: Fxy, passes: &Passes) -> Result<usize, TemplateFault>
         ensures { GivesPlace (builder_model self.old) passes.now fxy result
             (builder_model self.new) }
@@ -441,8 +444,8 @@ impl TemplateBuilder {
         Ok(place)
     }
 
-    /// Closes the innermost open group. The place after the group is stored in the group's first
-    /// cell, which is at `place`.
+    /// Closes the innermost open group, whose first cell is at index `place`. Stores the index of
+    /// the cell after the group in that first cell.
     pub(crate) fn close(&mut self, place: usize, passes: &Passes) -> Result<(), TemplateFault>
         requires inside { place < length self.old.cells.items }
         requires around { 0 < self.old.open_groups }

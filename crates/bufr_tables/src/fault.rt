@@ -1,5 +1,4 @@
-//! Faults in tables that cannot be read, and in descriptor lists that cannot be expanded into
-//! templates.
+//! The reasons why a table cannot be read or a descriptor list cannot be expanded into a template.
 ghost use Rattle.std.specs.Prelude.{◌≡◌};
 ghost use Rattle.bufr_tables.specs.declared.fault.TableFault.TheVariants.{Memory};
 ghost use Rattle.bufr_tables.specs.FaultNumber.{table_report, template_report};
@@ -10,13 +9,13 @@ use thiserror::Error;
 
 /// The reason why a table cannot be read.
 ///
-/// The first invalid record determines the fault. If several faults apply to that record, the first
-/// of [`TableFault::Csv`], [`TableFault::Row`], [`TableFault::Duplicate`] and
+/// Only the first invalid record is reported. If several faults apply to a record, the first of
+/// [`TableFault::Csv`], [`TableFault::Row`], [`TableFault::Duplicate`] and
 /// [`TableFault::TableSize`] is reported. [`TableFault::Cycle`] is reported only if all records are
 /// valid.
 #[derive(Clone, Copy, Debug, PartialEq, Eq, Drop, Error)]
 pub enum TableFault {
-    /// The file contains no records, or the first record is not the header of the table.
+    /// The file contains no records, or the first record is not the required header.
     #[error("header")]
     Header,
     /// The record with this number is not a valid row. The header is record 1, and empty lines are
@@ -27,7 +26,7 @@ pub enum TableFault {
     /// Table D are not contiguous.
     #[error("duplicate {0}")]
     Duplicate(Fxy),
-    /// This is the first sequence in the file that contains itself, directly or through other
+    /// This sequence is the first one in the file that contains itself, directly or through other
     /// sequences.
     #[error("cycle {0}")]
     Cycle(Fxy),
@@ -43,7 +42,7 @@ pub enum TableFault {
 }
 
 impl TableFault {
-    /// Returns the number of this fault (40 to 45, or 73).
+    /// Returns the fault number (40 to 45, or 73).
     pub fn number(self) -> u8
         ensures { result ≡ (table_report self).0 }
     {
@@ -59,8 +58,8 @@ impl TableFault {
     }
 }
 
-/// The reason why a descriptor list cannot be expanded into a template. The reason is the first
-/// fault found when the list is expanded depth first and from left to right.
+/// The reason why a descriptor list cannot be expanded into a template. Descriptor lists are
+/// expanded depth first and from left to right, and expansion stops at the first fault.
 #[derive(Clone, Copy, Debug, PartialEq, Eq, Drop, Error)]
 pub enum TemplateFault {
     /// Table B does not contain this element or replication factor.
@@ -69,7 +68,7 @@ pub enum TemplateFault {
     /// Table D does not contain this sequence.
     #[error("unknown sequence {0}")]
     UnknownSequence(Fxy),
-    /// This operator (Table C) is not supported or does not allow this operand.
+    /// This operator (Table C) is not supported, or its operand is not allowed.
     #[error("operator {0}")]
     Operator(Fxy),
     /// This replication repeats no descriptors, or more descriptors than follow it in the list.
@@ -78,18 +77,17 @@ pub enum TemplateFault {
     /// This delayed replication is not followed by a factor (0 31 000, 0 31 001 or 0 31 002).
     #[error("no factor {0}")]
     NoFactor(Fxy),
-    /// No node in the body of this replication occupies data bits. If no node in the whole list
-    /// occupies data bits, the variant contains the first descriptor of the list, or 000000 if the
-    /// list is empty.
+    /// The body of this replication consumes no data bits. If the whole list consumes no data bits,
+    /// the variant contains the first descriptor of the list, or 000000 if the list is empty.
     #[error("empty group {0}")]
     EmptyGroup(Fxy),
-    /// This replication or sequence is nested inside 32 others, but only 32 levels are allowed.
+    /// This replication or sequence is nested more than 32 levels deep.
     #[error("depth {0}")]
     Depth(Fxy),
-    /// With this element, operator or replication, the template would have more than 65,535 places.
+    /// With this element, operator or replication, the template would have more than 65,535 cells.
     #[error("template size {0}")]
     TemplateSize(Fxy),
-    /// This 2 06 Y operator is not followed by an element in its descriptor list.
+    /// This 2 06 Y operator is not directly followed by an element in the same list.
     #[error("local shape {0}")]
     LocalShape(Fxy),
     /// Memory could not be allocated.
@@ -98,7 +96,7 @@ pub enum TemplateFault {
 }
 
 impl TemplateFault {
-    /// Returns the number of this fault (20 to 28, or 73).
+    /// Returns the fault number (20 to 28, or 73).
     pub fn number(self) -> u8
         ensures { result ≡ (template_report self).0 }
     {

@@ -1,4 +1,4 @@
-//! Descriptors, which occur in section 3 of a message, in templates and in the tables.
+//! Descriptors (F X Y), which appear in section 3 of messages, in templates and in tables.
 ghost use Rattle.std.specs.Prelude.{◌≡◌, ◌<◌, ◌≤◌, IsTrue, Some, length, ℕ};
 ghost use Rattle.std.specs.Char.{is_ascii_digit};
 ghost use Rattle.std.specs.List.{list_all};
@@ -8,11 +8,11 @@ ghost use Rattle.bufr_tables.specs.Tree.{gives_width, is_legal_operator};
 use std::fmt;
 use std::marker::Model;
 
-/// A descriptor F X Y, as defined for section 3 of a message. F has two bits, X has six and Y has
-/// eight (WMO-No. 306, Volume I.2, FM 94).
+/// A descriptor (F X Y), as used in section 3 of a message. F has two bits, X has six and Y has
+/// eight (FM 94 BUFR).
 ///
 /// F is 0 for an element of Table B, 1 for a replication, 2 for an operator and 3 for a sequence of
-/// Table D. Contracts treat a descriptor as an unsigned 16-bit number.
+/// Table D. In contracts, a descriptor is represented by the 16-bit number that encodes it.
 ///
 /// ```
 /// let temperature = Fxy::from_word(0x0c65);
@@ -47,7 +47,7 @@ impl Fxy {
         self.word
     }
 
-    /// Returns F, which is 0 to 3.
+    /// Returns F (0 to 3).
     pub const fn f(self) -> u8
         ensures value { result ≡ f_of self }
         ensures most { result ≤ 3 }
@@ -55,8 +55,8 @@ impl Fxy {
         (self.word / 16384) as u8
     }
 
-    /// Returns X, which is 0 to 63. X is the class of an element, the category of a sequence, the
-    /// number of descriptors that a replication repeats, or the kind of an operator.
+    /// Returns X (0 to 63). X is the class of an element, the category of a sequence, the number of
+    /// descriptors that a replication repeats, or the kind of an operator.
     pub const fn x(self) -> u8
         ensures value { result ≡ x_of self }
         ensures most { result ≤ 63 }
@@ -64,8 +64,8 @@ impl Fxy {
         (self.word / 256 % 64) as u8
     }
 
-    /// Returns Y, which is 0 to 255. Y is the number of an element within its class, the number of
-    /// a sequence within its category, the repetition count of a replication, or the operand of an
+    /// Returns Y (0 to 255). Y is the number of an element within its class, the number of a
+    /// sequence within its category, the repetition count of a replication, or the operand of an
     /// operator.
     pub const fn y(self) -> u8
         ensures { result ≡ y_of self }
@@ -103,8 +103,7 @@ impl Fxy {
         }
     }
 
-    /// Returns X and Y combined into one number, which is the index of this descriptor among all
-    /// descriptors with the same F.
+    /// Returns X and Y as one 14-bit number (`256 * X + Y`).
     pub(crate) const fn key(self) -> usize
         ensures value { result ≡ key_of self }
         ensures most { result < 16384 }
@@ -130,9 +129,8 @@ impl Fxy {
     }
 
     /// Parses a descriptor of the form `FXXYYY`, which has one digit for F, two for X and three for
-    /// Y. Returns `None` if `text` does not consist of six digits, or if F exceeds 3, X exceeds 63
-    /// or Y exceeds 255. The limits for F, X and Y are the greatest values that fit in two, six and
-    /// eight bits, respectively.
+    /// Y. Returns `None` if `text` does not consist of six digits, or if F exceeds 3 (two bits), X
+    /// exceeds 63 (six bits) or Y exceeds 255 (eight bits).
     ///
     /// ```
     /// assert_eq!(rt; Fxy::read(b"012101"), Some(Fxy::from_word(0x0c65)));
@@ -164,7 +162,7 @@ impl fmt::Display for Fxy {
     }
 }
 
-/// Returns the value of the digit at index `place`. All octets of `text` must be digits.
+/// Returns the value of the digit at index `place`. All octets in `text` must be digits.
 fn digit_at(text: &[u8], place: usize) -> u16
     requires digits { IsTrue (list_all is_ascii_digit text.now) }
     requires inside { place < length text.now }

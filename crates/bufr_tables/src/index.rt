@@ -8,14 +8,15 @@ use std::marker::Model;
 /// The number of possible combinations of X and Y.
 pub(crate) const KEYS: usize = 16384;
 
-/// A list of keys, with an index that finds the position of a key in the list. A key is the 14-bit
-/// number that X and Y form. Contracts treat the index as the list of its keys.
+/// A list of keys, indexed so that a key's position can be looked up in constant time. A key is a
+/// 14-bit number that combines the X and Y of a descriptor. In contracts, an index is represented
+/// by the list of its keys.
 #[derive(Drop)]
 pub(crate) struct FxyIndex {
     /// The list of keys, with enough capacity for all possible keys.
     keys: Vec<u16>,
-    /// For each possible key, one more than the key's position in the list, or 0 if the list does
-    /// not contain the key.
+    /// For each possible key, the key's position in the list plus 1, or 0 if the list does not
+    /// contain the key.
     marks: Vec<u16>,
 }
 
@@ -28,7 +29,7 @@ impl Model for FxyIndex {
 }
 
 impl FxyIndex {
-    /// Creates an index with an empty list of keys.
+    /// Creates an empty index.
     pub(crate) fn new(alloc: Global) -> Result<FxyIndex, AllocError>
         ensures { IfOk result (λ d. d ≡ []) }
     {

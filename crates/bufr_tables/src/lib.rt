@@ -1,4 +1,4 @@
-//! This crate contains the descriptors of FM 94 BUFR and reads Tables B and D from CSV files.
+//! This crate implements the descriptors of FM 94 BUFR and reads Tables B and D from CSV files.
 //!
 //! A descriptor ([`Fxy`]) is looked up in [`TableB`] if it is an element, or in [`TableD`] if it is
 //! a sequence. A descriptor list is expanded into a [`Template`], the tree that describes the data

@@ -1,4 +1,4 @@
-//! Reading the CSV records of a table and parsing the integers in their fields.
+//! Reads the CSV records of a table and parses the integers in their fields.
 ghost use Rattle.std.specs.Prelude.{◌≡◌, ◌≢◌, ◌-◌, ◌^◌, ◌<◌, ◌==◌, IfOk, IfErr, false, min, option_map, slice_index};
 ghost use Rattle.bufr_tables.specs.Records.{i64_of, natural_of, GivesNext, IsBetween, IsOpened, field_texts, field_of, records_of, has_header};
 ghost use Rattle.std.specs.Str.{bytes_eq};
@@ -68,8 +68,8 @@ impl<'a> RecordReader<'a> {
     }
 }
 
-/// Returns the field at index `place`. Indices are counted from 0. The result is empty if the
-/// record has no such field.
+/// Returns the field at index `place` (counted from 0), or an empty slice if the record has no such
+/// field.
 pub(crate) fn field(fields: &ByteRecord, place: usize) -> &[u8]
     ensures { result.now ≡ field_of (fields_of fields.now) place }
 {
@@ -105,9 +105,8 @@ pub(crate) fn integer(text: &[u8]) -> Option<i64>
     0i64.checked_add_unsigned(size)
 }
 
-/// Returns whether `text` begins with `-`. (This function does not call `strip_prefix`, because the
-/// compiler would then no longer inline `strip_prefix` in the code that reads the lines of dumps,
-/// and encoding reports would take 3% more instructions.)
+/// Returns whether `text` begins with `-`. (Calling `strip_prefix` here would stop the compiler
+/// from inlining it in the code that reads dumps, and encoding would take 3% more instructions.)
 fn is_negative(text: &[u8]) -> bool
     ensures { result ≡ (slice_index text.now 0 == 45) }
 {

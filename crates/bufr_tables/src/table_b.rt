@@ -1,5 +1,5 @@
-//! Table B, which defines the elements and is read from a CSV file. The unit of an element
-//! determines the kind of its values.
+//! Reads Table B, which defines the elements, from a CSV file. An element's unit determines what
+//! kind of values it has.
 ghost use Rattle.std.specs.Prelude.{◌≡◌, ◌≢◌, ◌<◌, [], ◌∷◌, ◌++◌, None, length, OnOk, IfErr, IfOk, IfSome, option_map, Ok, Err};
 ghost use Rattle.std.specs.List.{list_all};
 ghost use Rattle.csv.specs.Records.{fields_of};
@@ -19,8 +19,8 @@ use std::marker::Model;
 /// The fields that the header must contain.
 const HEADER: [&[u8]; 6] = [b"fxy", b"name", b"unit", b"scale", b"reference", b"width"];
 
-/// An element as stored in the table. The octets at the indices `start..end` are `FXXYYY   # NAME
-/// [UNIT]` and a line feed. The name ends just before index `middle`.
+/// An element as stored in the table. The octets at indices `start..end` are
+/// `FXXYYY   # NAME [UNIT]` and a line feed. The name ends just before index `middle`.
 #[derive(Clone, Copy)]
 struct Stored {
     fxy: Fxy,
@@ -33,15 +33,15 @@ struct Stored {
     width: u32,
 }
 
-/// The row of an element in Table B, borrowed from the table.
+/// An element's row in Table B, borrowed from the table.
 ///
-/// Every entry that [`TableB::get`] returns is within the limits that are stated for the methods
-/// below. The replication factors 031000, 031001 and 031002 are not text, are 1, 8 and 16 bits
-/// wide, respectively, and have scale 0 and reference value 0. Two entries are equal if their rows
-/// are equal.
+/// Every entry returned by [`TableB::get`] satisfies the limits stated for the methods below. For
+/// the replication factors 031000, 031001 and 031002, the kind is not text, the width is 1, 8 or 16
+/// bits, respectively, and the scale and the reference value are 0. Two entries are equal if their
+/// rows are equal.
 #[derive(Clone, Copy)]
 pub struct Entry<'a> {
-    /// The octets of all rows in the table.
+    /// The descriptors, names and units of all rows in the table.
     octets: &'a [u8],
     stored: &'a Stored,
     ghost kept: { IsRowKept octets.now stored.now },
@@ -80,8 +80,7 @@ impl<'a> Entry<'a> {
         &self.octets[stored.middle + 2..stored.end - 2]
     }
 
-    /// Returns the start of the line that represents an item in a dump: the six digits of the
-    /// descriptor and a space.
+    /// Returns the start of an item's line in a dump (the descriptor's six digits and a space).
     #[inline(always)]
     pub fn line_start(&self) -> &'a [u8]
         ensures { result.now ≡ row_line_start (row_of_entry self.now) }
@@ -90,8 +89,8 @@ impl<'a> Entry<'a> {
         &self.octets[start..start + 7]
     }
 
-    /// Returns the comment at the end of the line that represents an item in a dump:
-    /// `  # NAME [UNIT]` and a line feed.
+    /// Returns the comment at the end of an item's line in a dump (`  # NAME [UNIT]` and a line
+    /// feed).
     #[inline(always)]
     pub fn comment(&self) -> &'a [u8]
         ensures { result.now ≡ row_comment (row_of_entry self.now) }
@@ -100,10 +99,10 @@ impl<'a> Entry<'a> {
         &self.octets[stored.start + 7..stored.end]
     }
 
-    /// Returns the octets of the table, beginning with the [`Entry::line_start`] of this element,
-    /// and the length of the element's [`Entry::comment`]. The comment begins at index 7 of the
-    /// returned octets. The returned octets may extend past the comment, so that callers can copy
-    /// blocks of a fixed size.
+    /// Returns the table's octets, beginning with this element's [`Entry::line_start`], and the
+    /// length of its [`Entry::comment`]. The comment begins at index 7 of the returned octets. The
+    /// returned octets may extend past the comment, so that callers can copy blocks of a fixed
+    /// size.
     #[inline(always)]
     pub fn line_on(&self) -> (&'a [u8], usize)
         ensures within { 7 + result.1 ≤ length result.0.now }
@@ -118,7 +117,7 @@ impl<'a> Entry<'a> {
         )
     }
 
-    /// Returns the kind of the element's values, as determined by the unit.
+    /// Returns the kind of values that the element has, as determined by its unit.
     #[inline(always)]
     pub fn kind(&self) -> Kind
         ensures { result ≡ (row_of_entry self.now).kind }
@@ -126,8 +125,8 @@ impl<'a> Entry<'a> {
         self.stored.kind
     }
 
-    /// Returns the scale, which is -127 to 127. The value of an item is
-    /// `(raw + reference) / 10^scale`, where `raw` is the number in the data.
+    /// Returns the scale, from -127 to 127. The value of an item is `(raw + reference) / 10^scale`,
+    /// where `raw` is the number in the data.
     #[inline(always)]
     pub fn scale(&self) -> i16
         ensures { result ≡ (row_of_entry self.now).scale }
@@ -143,8 +142,8 @@ impl<'a> Entry<'a> {
         self.stored.reference
     }
 
-    /// Returns the data width in bits. Text is 8 to 2,040 bits wide, in multiples of 8. All other
-    /// elements are 1 to 63 bits wide.
+    /// Returns the data width in bits. The width of text is a multiple of 8 from 8 to 2,040. All
+    /// other elements are 1 to 63 bits wide.
     #[inline(always)]
     pub fn width(&self) -> u32
         ensures { result ≡ (row_of_entry self.now).width }
@@ -211,8 +210,8 @@ fn is_printable_text(text: &[u8]) -> bool
     text.iter().all(|octet| *octet >= 32 && *octet != 127)
 }
 
-/// Parses the data width, in bits, of an element. Returns `None` if `text` is not a number or if
-/// the width is invalid for an element of this kind.
+/// Parses the data width of an element, in bits. Returns `None` if `text` is not a number or if the
+/// width is invalid for an element of this kind.
 #[tactic(auto, unfolding(crate::specs::TableB::width_of))]
 fn read_width(kind: Kind, text: &[u8]) -> Option<u32>
     ensures { result ≡ width_of kind text.now }
@@ -244,8 +243,8 @@ struct ParsedRow<'a> {
     width: u32,
 }
 
-/// Returns whether a row meets the additional conditions for replication factors. For elements that
-/// are not replication factors, the result is `true`.
+/// Returns whether a row meets the additional conditions for replication factors. Returns `true` if
+/// the element is not a replication factor.
 fn is_valid_factor(row: &ParsedRow) -> bool
     ensures { result ≡ is_valid_factor (factor_width row.now.fxy) (row_parsed row.now) }
 {
@@ -295,9 +294,9 @@ fn parse_row(fields: &ByteRecord) -> Option<ParsedRow<'_>>
     Some(row)
 }
 
-/// Table B, in which an element is looked up by its descriptor.
+/// Table B, indexed by descriptor.
 ///
-/// Contracts treat the table as the list of its rows, in file order.
+/// In contracts, the table is represented by the list of its rows, in file order.
 ///
 /// ```
 /// let text = b"fxy,name,unit,scale,reference,width\n012101,AIR TEMPERATURE,K,2,0,16\n";
@@ -307,10 +306,10 @@ fn parse_row(fields: &ByteRecord) -> Option<ParsedRow<'_>>
 /// ```
 #[derive(Drop)]
 pub struct TableB {
-    /// The octets of all elements, stored contiguously.
+    /// The descriptors, names and units of all elements, in the format described for `Stored`.
     octets: Vec<u8>,
     stored: Vec<Stored>,
-    /// An index that finds an element in `stored` by its descriptor.
+    /// An index for looking up an element in `stored` by its descriptor.
     directory: FxyIndex,
 }
 
@@ -332,19 +331,18 @@ impl TableB {
 
     /// Reads Table B from the contents of a CSV file.
     ///
-    /// The header must be `fxy,name,unit,scale,reference,width`. Each further record defines one
+    /// The header must be `fxy,name,unit,scale,reference,width`. Each subsequent record defines one
     /// element. `fxy` is the element's descriptor, written as six digits. The name and the unit may
     /// have at most 512 octets each and must not contain ASCII control characters. The other fields
-    /// are integers within the limits that are stated for [`Entry`]. The replication factors
-    /// 031000, 031001 and 031002 must not be text, must be 1, 8 and 16 bits wide, respectively, and
-    /// must have scale 0 and reference value 0.
+    /// are integers within the limits stated for [`Entry`]. For the replication factors 031000,
+    /// 031001 and 031002, the kind must not be text, the width must be 1, 8 or 16 bits,
+    /// respectively, and the scale and the reference value must be 0.
     ///
     /// # Errors
     ///
-    /// [`TableFault::Header`] if the first record is not the header. If a later record is invalid,
-    /// the first of [`TableFault::Csv`], [`TableFault::Row`] and [`TableFault::Duplicate`] that
-    /// applies to the first such record is returned. [`TableFault::Memory`] if memory cannot be
-    /// allocated.
+    /// [`TableFault::Header`] if the first record is not the header. Otherwise, the fault is the
+    /// first of [`TableFault::Csv`], [`TableFault::Row`] and [`TableFault::Duplicate`] that applies
+    /// to the first invalid record. [`TableFault::Memory`] if memory cannot be allocated.
     // rule: first-record-decides
     pub fn read(alloc: Global, text: &[u8]) -> Result<TableB, TableFault>
         ensures read { ReturnsUnlessMemory (table_b_of (records_of text.now)) result }
@@ -362,8 +360,8 @@ impl TableB {
         Ok(table)
     }
 
-    /// Returns an element's entry, or `None` if the table does not contain the element. The entry
-    /// is within the limits that are stated for [`Entry`].
+    /// Returns an element's entry, or `None` if the table does not contain the element. The
+    /// returned entry satisfies the limits stated for [`Entry`].
     #[inline(always)]
     pub fn get(&self, fxy: Fxy) -> Option<Entry<'_>>
         ensures value { option_map row_of_entry result ≡ entry_of self.now fxy }
@@ -379,7 +377,8 @@ impl TableB {
         Some(Entry { octets, stored })
     }
 
-    /// Parses record `number` and adds the resulting element to the table.
+    /// Parses a record and adds the element that it defines to the table. `number` is the number of
+    /// the record (the header is record 1).
     #[tactic(auto, unfolding(crate::specs::TableB::with_record_b))]
     // rule: fault-42, fault-45, order-in-a-record
     fn add(&mut self, number: u64, fields: &ByteRecord) -> Result<(), TableFault>
@@ -414,7 +413,7 @@ impl TableB {
     }
 }
 
-/// Appends the octets of a row to `octets`, and returns the element as stored in the table.
+/// Appends a row's descriptor, name and unit to `octets`, and returns the resulting `Stored`.
 fn store(octets: &mut Vec<u8>, row: &ParsedRow) -> Result<Stored, AllocError>
     ensures grows { ExtendsBlock octets.old.items octets.new.items }
     ensures ok { IfOk result (λ s. IsStored octets.new.items row.now s) }
@@ -441,19 +440,19 @@ fn store(octets: &mut Vec<u8>, row: &ParsedRow) -> Result<Stored, AllocError>
     })
 }
 
-/// The kind of an element's values, as determined by the unit.
+/// The kind of values that an element has, as determined by its unit.
 #[derive(Clone, Copy, Debug, PartialEq, Eq)]
 pub enum Kind {
     /// Text. The element's unit is `CCITT IA5`.
     Character,
-    /// Values that are defined by a code table, a common code table or a flag table.
+    /// Values whose meanings are listed in a code table, a common code table or a flag table.
     Coded,
     /// Quantities, measured in the element's unit.
     Numeric,
 }
 
 impl Kind {
-    /// Returns the kind of an element's values, given the element's unit. ASCII case is ignored.
+    /// Returns the kind of values that an element with this unit has. ASCII case is ignored.
     #[tactic(auto, unfolding(crate::specs::TableB::kind_of))]
     // rule: kind-by-unit
     pub(crate) fn of(unit: &[u8]) -> Kind

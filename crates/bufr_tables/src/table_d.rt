@@ -1,5 +1,5 @@
-//! Table D, which defines the sequences and is read from a CSV file. The table is rejected if a
-//! sequence contains itself, directly or through other sequences.
+//! Reads Table D, which defines the sequences, from a CSV file. The table is rejected if a sequence
+//! contains itself, directly or through other sequences.
 ghost use Rattle.std.specs.Prelude.{◌≡◌, ◌≢◌, ◌≤◌, ◌<◌, [], ◌∷◌, ◌++◌, None, length, slice_index, OnOk, IfErr, IfOk, IfSome, is_some, option_map, Ok, Err, IsTrue, MatchOption, ◌↔◌, List, ℕ};
 ghost use Rattle.csv.specs.Records.{fields_of};
 ghost use Rattle.bufr_tables.specs.declared.fault.TableFault.TheVariants.{Memory};
@@ -45,9 +45,9 @@ struct MemberRange {
     end: usize,
 }
 
-/// Table D, in which a sequence is looked up by its descriptor.
+/// Table D, indexed by descriptor.
 ///
-/// Contracts treat the table as the list of its sequences, in file order.
+/// In contracts, the table is represented by the list of its sequences, in file order.
 ///
 /// ```
 /// let text = b"fxy,member\n360192,001001\n360192,012101\n";
@@ -60,7 +60,7 @@ pub struct TableD {
     /// The members of all sequences. The members of each sequence are contiguous.
     members: Vec<Fxy>,
     runs: Vec<MemberRange>,
-    /// An index that finds a sequence in `runs` by the X and Y of its descriptor.
+    /// An index for looking up a sequence in `runs` by the X and Y of its descriptor.
     directory: FxyIndex,
 }
 
@@ -75,18 +75,18 @@ impl Model for TableD {
 impl TableD {
     /// Reads Table D from the contents of a CSV file.
     ///
-    /// The header must be `fxy,member`. Each further record defines one member of a sequence. `fxy`
-    /// is the descriptor of the sequence, and `member` is the member, which may be any descriptor.
-    /// Descriptors are written as six digits. The rows of each sequence must be contiguous and in
-    /// the order of its members. The table may have at most 65,536 rows.
+    /// The header must be `fxy,member`. Each subsequent record defines one member of a sequence.
+    /// `fxy` is the sequence's descriptor, and `member` is one of its members, which may be any
+    /// descriptor. Descriptors are written as six digits. The rows of each sequence must be
+    /// contiguous and list the members in order. The table may have at most 65,536 rows.
     ///
     /// # Errors
     ///
-    /// [`TableFault::Header`] if the first record is not the header. If a later record is invalid,
-    /// the first of [`TableFault::Csv`], [`TableFault::Row`], [`TableFault::Duplicate`] and
-    /// [`TableFault::TableSize`] that applies to the first such record is returned.
-    /// [`TableFault::Cycle`] if all records are valid but a sequence contains itself, directly or
-    /// through other sequences. [`TableFault::Memory`] if memory cannot be allocated.
+    /// [`TableFault::Header`] if the first record is not the header. Otherwise, the fault is the
+    /// first of [`TableFault::Csv`], [`TableFault::Row`], [`TableFault::Duplicate`] and
+    /// [`TableFault::TableSize`] that applies to the first invalid record. [`TableFault::Cycle`] if
+    /// all records are valid but a sequence contains itself, directly or through other sequences.
+    /// [`TableFault::Memory`] if memory cannot be allocated.
     // rule: first-record-decides, fault-43-last
     pub fn read(alloc: Global, text: &[u8]) -> Result<TableD, TableFault>
         ensures read { ReadsTableD (records_of text.now) result }
@@ -148,7 +148,8 @@ impl TableD {
         self.runs[place].fxy
     }
 
-    /// Parses record `number` and adds the resulting row to the table.
+    /// Parses a record and adds the member that it defines to the table. `number` is the number of
+    /// the record (the header is record 1).
     #[tactic(auto, unfolding(crate::specs::TableD::with_record_d, crate::specs::TableD::added))]
     // rule: fault-42, fault-44, fault-45, order-in-a-record
     fn add(&mut self, number: u64, fields: &ByteRecord) -> Result<(), TableFault>
@@ -223,8 +224,8 @@ impl TableD {
 const WORDS: usize = 65536;
 
 /// Returns the first sequence that contains itself, directly or through other sequences, or `None`
-/// if no sequence contains itself. The ranks show that no earlier sequence contains itself, so only
-/// the returned sequence has to be searched for itself.
+/// if no sequence contains itself. The ranks rule out all earlier sequences, so a search is needed
+/// only for the returned sequence.
 // rule: fault-43
 pub(crate) fn first_cycle(alloc: Global, table: &TableD) -> Result<Option<Fxy>, AllocError>
     ensures { IfOk result (λ o. MatchOption o ((fxy : ℕ) → ¬ ReachesItself table.now fxy)
@@ -244,8 +245,8 @@ pub(crate) fn first_cycle(alloc: Global, table: &TableD) -> Result<Option<Fxy>, 
     Ok(None)
 }
 
-/// Returns whether no member of a sequence has a greater rank than the sequence itself. Members
-/// that are not sequences are ignored.
+/// Returns whether the rank of every sequence is at least as high as the ranks of its members.
+/// Members that are not sequences are ignored.
 fn falls(table: &TableD, ranks: &[u32]) -> bool
     requires { length ranks.now ≡ 16384 }
     ensures { IsTrue result → Falls table.now ranks.now }
@@ -260,7 +261,7 @@ fn falls(table: &TableD, ranks: &[u32]) -> bool
     true
 }
 
-/// Returns whether all members of `sequence` have ranks less than `limit`. Members that are not
+/// Returns whether all members of `sequence` have ranks below `limit`. Members that are not
 /// sequences are ignored.
 fn is_above(table: &TableD, ranks: &[u32], sequence: Fxy, limit: u32) -> bool
     requires { length ranks.now ≡ 16384 }
@@ -289,8 +290,8 @@ fn reaches_itself(alloc: Global, table: &TableD, sequence: Fxy) -> Result<bool, 
     Ok(seen[usize::from(sequence.word())])
 }
 
-/// Appends to `queue` the members of `sequence` that are sequences themselves and have not been
-/// seen before. Marks the appended members as seen.
+/// Finds the members of `sequence` that are themselves sequences and have not been seen before.
+/// Appends these members to `queue` and marks them as seen.
 fn visit(
     table: &TableD,
     sequence: Fxy,
@@ -313,24 +314,23 @@ fn visit(
     Ok(())
 }
 
-/// Computes a rank for each sequence in the table, and returns the ranks in a vector that is
-/// indexed by the keys of the descriptors (X and Y combined). A member has the same rank as the
-/// sequence that contains it if that sequence can be reached from the member. Otherwise, the member
-/// has a lower rank. During the computation, a sequence without a rank has a mark instead, which is
-/// greater than all ranks.
+/// Computes a rank for each sequence in the table. The returned vector is indexed by a descriptor's
+/// key (its X and Y as one number). If a sequence and one of its members contain each other, they
+/// have the same rank. Otherwise, the member has a lower rank. Until a visited sequence gets its
+/// rank, it has a mark, which is higher than any rank.
 fn ranks_of(alloc: Global, table: &TableD) -> Result<Vec<u32>, AllocError>
     ensures { IfOk result (λ v. length v.items ≡ 16384) }
 {
     let mut ranks = vec![in alloc; 0u32; KEYS]?;
     // The stack of the depth-first search. Each sequence is pushed once at the start and once more
-    // to be completed after its members. Each member is pushed once. In total, there are fewer than
-    // 131,072 entries.
+    // when it is visited. Each member is pushed once. In total, there are fewer than 131,072
+    // entries.
     let mut left = Vec::new(alloc);
     for place in 0..table.count() {
         left.push((table.sequence_at(place), false))?;
     }
-    // Sequences that have been completed but have no rank yet. The mark of a sequence is the
-    // greatest among the sequence's own mark and the marks of its members.
+    // Sequences that have been completed but have no rank yet. If a member has a greater mark, the
+    // sequence takes over that mark.
     let mut marked = Vec::new(alloc);
     let mut rank = 0u32;
     let mut mark = u32::MAX;

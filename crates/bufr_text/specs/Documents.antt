@@ -1,5 +1,4 @@
--- A document (the dump of one message), the effect of each line on it, and how input is parsed
--- (own).
+-- The structure of a document (the dump of one message), and how documents are parsed (our choice).
 -- Cited by public contracts.
 use Rattle.std.specs.Prelude.{ℕ, List, [], slice_index, ◌+◌, ◌==◌, nat_le, nat_lt, Bool, true, false, not, ◌&&◌, if◌then◌else◌, ◌∷◌, ◌++◌, length, ◌≡◌, ◌^◌, Option, Some, None}
 use Rattle.bufr_fill.specs.Prelude.{DraftEntry, draft, Holds, Ends}
@@ -15,11 +14,11 @@ use Rattle.bufr_text.specs.declared.document.LineEffect.TheVariants.{Continues, 
 use Rattle.bufr_text.specs.declared.document.LineGroup.{LineGroup}
 use Rattle.bufr_text.specs.declared.document.LineGroup.TheVariants as group
 
--- ---- A document as read, before its values are interpreted. (own)
+-- ---- A document as parsed, before its values are interpreted (not part of FM 94 BUFR).
 
 -- the contents of a document's lines
 pub record Document : Type 0 where
-  -- the number of the `message` line
+  -- the line number of the `message` line
   pub line : ℕ
   -- the values of the header lines, in the order of `keys`
   pub header : List ℕ
@@ -55,15 +54,15 @@ header_in d =
       subsets = value 19;
     }
 
--- the state of the parser, and the document that it has read so far
+-- the state of the parser, and the part of the document that it has read
 abbrev pub Parsing : Type 0
 Parsing = ParserState × Document
 
--- the state between documents, in which the document is blank and unused
+-- the state between documents, with a blank document as a placeholder
 abbrev pub between : Parsing
 between = (Between, blank 0)
 
--- the effect of a line, and the document after that line
+-- the effect of a line, and the resulting document
 abbrev pub LineStep : Type 0
 LineStep = LineEffect × Document
 
@@ -75,14 +74,14 @@ pub data ParseResult : Type 0 where
 abbrev pub with_entry : Document → DraftEntry → Document
 with_entry d entry = record d { entries = d.entries ++ entry ∷ [] }
 
--- whether a value is within the range of its key in the given edition; the range of key 0, the
--- edition itself, is the same in every edition
+-- whether a value is allowed for a key in the given edition; the range of key 0 (the edition
+-- itself) is the same in both editions
 abbrev pub in_range : (edition key value : ℕ) → Bool
 in_range edition key value = nat_le (slice_index leasts key) value
     && nat_le value (slice_index (mosts edition) key)
 
--- The effect of a line in the header. The line must have the next key and a value within the range
--- of that key. The last key is `subsets` (19).
+-- The effect of a line in the header. The line's key must be the next one in order, and its value
+-- must be within the range of that key. The last key is `subsets` (key 19).
 -- rule: reading-header-order, fault-61, fault-order-of-a-line
 abbrev pub heading : Document → Line → LineStep
 heading d (Header key value) = if not (key == length d.header) then (Refuses NotAllowed, d)
@@ -92,27 +91,29 @@ heading d (Header key value) = if not (key == length d.header) then (Refuses Not
     )
 heading d line = (Refuses NotAllowed, d)
 
--- the effect of a `subset` line after `read` subsets; the subset number must be the next one and
--- must not exceed the number of subsets that the header declares
+-- the effect of a `subset` line after `read` subsets; its number must be `read` + 1 and must not
+-- exceed the number of subsets in the header
 -- rule: reading-subsets, fault-57
 abbrev pub beginning : (read : ℕ) → Document → (subset : ℕ) → LineEffect
 beginning read d subset = if (subset == read + 1) && nat_le subset (header_in d).subsets
     then Continues (Filling subset) else Refuses SubsetCount
 
--- the effect of an `end` line after `read` subsets; the header must declare exactly `read` subsets
+-- the effect of an `end` line after `read` subsets; the header must declare exactly this number of
+-- subsets
 -- rule: reading-subsets, fault-57
 abbrev pub closing : (read : ℕ) → Document → LineEffect
 closing read d = if read == (header_in d).subsets then Completes else Refuses SubsetCount
 
--- whether a `local1` line is allowed after a line in the given group; `local1` lines come first
+-- whether a `local1` line is allowed at this point; it must come before all `section2` and
+-- `descriptors` lines
 -- rule: reading-section2
 abbrev pub may_be_local1 : LineGroup → Bool
 may_be_local1 group.Local1 = true
 may_be_local1 group.Section2 = false
 may_be_local1 group.Descriptors = false
 
--- whether a `section2` line is allowed after a line in the given group; it must come before the
--- `descriptors` lines, and the header must declare a section 2
+-- whether a `section2` line is allowed at this point; it must come before the `descriptors` lines,
+-- and the header must declare a section 2
 abbrev pub may_be_section2 : LineGroup → Document → Bool
 may_be_section2 group.Local1 d = (header_in d).optional
 may_be_section2 group.Section2 d = (header_in d).optional
@@ -136,7 +137,7 @@ before_subsets part d (Begins subset) = (beginning 0 d subset, d)
 before_subsets part d Closes = (closing 0 d, d)
 before_subsets part d line = (Refuses NotAllowed, d)
 
--- the effect of a line within a subset; `at` is its line number
+-- the effect of a line within a subset; `at` is the line number
 -- rule: reading-subset-end
 abbrev pub in_subset : (at subset : ℕ) → Document → Line → LineStep
 in_subset at subset d (ItemLine fxy form) =
@@ -145,8 +146,8 @@ in_subset at subset d (Begins next) = (beginning subset d next, with_entry d (En
 in_subset at subset d Closes = (closing subset d, with_entry d (Ends at))
 in_subset at subset d line = (Refuses NotAllowed, d)
 
--- The effect of line `at` on the document. Empty lines and comments have no effect. Between
--- documents, only `message` lines are allowed. All lines after an invalid line are ignored.
+-- The effect of a line on the document; `at` is the line number. Empty lines, comments, and lines
+-- after an invalid line have no effect. Between documents, only `message` lines are allowed.
 -- rule: reading-empty-lines, reading-between-documents, fault-50
 unfoldable pub line_step : (at : ℕ) → Parsing → Line → LineStep
 line_step at (state, d) Passed = (Continues state, d)
@@ -157,7 +158,7 @@ line_step at (BeforeSubsets part, d) line = before_subsets part d line
 line_step at (Filling subset, d) line = in_subset at subset d line
 line_step at (Stopped, d) line = (Continues Stopped, d)
 
--- whether a line adds octets, descriptors, an item, or the end of a subset to the current document
+-- whether a line adds octets, descriptors or an item to the current document, or ends a subset
 abbrev pub adds : ParserState → Line → Bool
 adds (BeforeSubsets part) (Local1 octets) = true
 adds (BeforeSubsets part) (Section2 octets) = true
@@ -171,7 +172,7 @@ adds state line = false
 abbrev pub max_line : ℕ
 max_line = 4096
 
--- the line that the octets represent, or `Wrong` if there are more than 4,096 of them
+-- the parsed line, or `Wrong` if the line has more than 4,096 octets
 -- rule: reading-longest-line
 abbrev pub read_line : List ℕ → Line
 read_line line = if nat_lt max_line (length line) then Wrong else line_of line
@@ -181,22 +182,21 @@ parsing_after (Continues state, d) = (state, d)
 parsing_after (Completes, d) = between
 parsing_after (Refuses fault, d) = (Stopped, d)
 
--- the report after line `at`: a complete document, the fault in that line, or nothing
+-- the complete document or the fault, if any, that the parser reports after line `at`
 abbrev pub reported_at : (at : ℕ) → LineStep → List ParseResult
 reported_at at (Continues state, d) = []
 reported_at at (Completes, d) = Complete d ∷ []
 reported_at at (Refuses fault, d) = Refused at fault ∷ []
 
--- the fault that is reported at the end of the input if a document is incomplete; its line number
--- is one more than that of the last line
+-- the fault that is reported if the input ends within a document; `at` is the number that the next
+-- line would have
 -- rule: fault-50, input-ends-early
 abbrev pub reported_at_end : (at : ℕ) → ParserState → List ParseResult
 reported_at_end at Between = []
 reported_at_end at Stopped = []
 reported_at_end at state = Refused at NotAllowed ∷ []
 
--- the documents in the remaining lines of the input, which start with line `at`, and the first
--- fault in those lines, if any
+-- the documents in the input from line `at` onward, and the first fault, if any
 -- rule: reading-line-numbers
 unfoldable pub parse_lines : (at : ℕ) → Parsing → List (List ℕ) → List ParseResult
 parse_lines at p [] = reported_at_end at p.0
@@ -209,8 +209,7 @@ pub record Split : Type 0 where
   pub whole : List (List ℕ)
   pub rest : List ℕ
 
--- the split text with one more octet at the front of its first line or, if it has no lines, of
--- `rest`
+-- the lines and `rest`, with an octet prepended to the first line or, if there is none, to `rest`
 abbrev pub onto_split : ℕ → List (List ℕ) → List ℕ → Split
 onto_split c [] rest = record { whole = []; rest = c ∷ rest }
 onto_split c (line ∷ more) rest = record { whole = (c ∷ line) ∷ more; rest = rest }
@@ -228,12 +227,12 @@ lines_of text =
     let s = split_of text in
     if length s.rest == 0 then s.whole else s.whole ++ s.rest ∷ []
 
--- the documents in complete input, and its first fault, if any
+-- the documents in the whole input, and the first fault, if any
 abbrev pub documents_of : List ℕ → List ParseResult
 documents_of text = parse_lines 1 between (lines_of text)
 
--- The documents in input that may continue, and its first fault, if any. `rest`, the incomplete
--- last line, is reported as a fault if it is already too long.
+-- The documents in the input read so far, and the first fault, if any. An incomplete last line
+-- (`rest`) is a fault only if it is already too long.
 unfoldable pub parse_open_lines : (at : ℕ) → Parsing → List (List ℕ) → (rest : List ℕ)
     → List ParseResult
 parse_open_lines at p [] rest =
@@ -242,7 +241,7 @@ parse_open_lines at p (line ∷ more) rest =
     let here = line_step at p (read_line line) in reported_at at here
     ++ parse_open_lines (at + 1) (parsing_after here) more rest
 
--- the documents in input that may continue, and its first fault, if any
+-- the documents in the input read so far, and the first fault, if any
 abbrev pub open_documents_of : List ℕ → List ParseResult
 open_documents_of text = parse_open_lines 1 between (split_of text).whole (split_of text).rest
 
@@ -261,6 +260,6 @@ pub record IsHeaded (d : Document) : Type 0 where
   pub whole : length d.header ≡ 20
   pub ranges : are_in_range (header_in d).head.edition 0 d.header ≡ true
 
--- the maximum number of entries in input from at most 2^32 reads of up to 4,096 octets each
+-- an upper bound on the number of entries (the input has at most 2^32 * 4,096 = 2^44 octets)
 abbrev pub most_entries : ℕ
 most_entries = 2 ^ 44

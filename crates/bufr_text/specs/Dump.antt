@@ -1,4 +1,4 @@
--- The dump of a message, line by line, and the line that `ls` prints for a message (own).
+-- The dump of a message, line by line, and the line that `ls` prints for a message (our choice).
 -- Cited by public contracts.
 use Rattle.std.specs.Prelude.{get_or, ℕ, ◌+◌, Bool, List, [], ◌∷◌, ◌++◌, length, map, flat_map, codes, decimal, Option, Some, None, is_some, unwrap_or, pos, ◌≡◌, ◌^◌, ◌<◌, ◌≤◌, true, unsigned_abs, replicate, ◌-◌}
 use Rattle.bufr_bits.specs.Prelude.{decimal_text_of}
@@ -12,7 +12,7 @@ use Rattle.std.specs.List.{concat, AllByRecursion}
 use Rattle.bufr_frame.specs.declared.section1.Head.{Head}
 use Rattle.std.specs.Int.{from_bool}
 
--- a number in decimal, padded with leading zeros to at least `least` digits
+-- a number in decimal, with leading zeros if it has fewer than `least` digits
 -- rule: listing-time
 abbrev pub zero_padded : (least n : ℕ) → List ℕ
 zero_padded least n = replicate (least - length (decimal n)) 48 ++ decimal n
@@ -24,7 +24,7 @@ header_of s =
     s.head.edition ∷ values_of s.head ++ from_bool s.observed ∷ from_bool s.compressed
     ∷ from_bool (is_some s.section2) ∷ s.subsets ∷ []
 
--- the header lines with the given values and consecutive keys, starting with `key`
+-- the header lines for the given values of consecutive keys, starting with `key`
 unfoldable pub header_lines : (key : ℕ) → List ℕ → List (List ℕ)
 header_lines key [] = []
 header_lines key (value ∷ more) =
@@ -51,7 +51,7 @@ dump_value_of (shown_text octets) = text_form octets
 dump_value_of shown_missing = missing_form
 dump_value_of (shown_reference v) = reference_token (decimal_text_of v (pos 0))
 
--- the comment `  # NAME [UNIT]` for an item that Table B describes; other items have none
+-- the comment `  # NAME [UNIT]` for an item that Table B describes; other items have no comment
 -- rule: text-comment, text-no-comment
 abbrev pub comment_text : Option Row → List ℕ
 comment_text None = []
@@ -72,7 +72,7 @@ item_text item = form_text item.fxy (dump_value_of item.value) ++ comment_text i
 abbrev pub subset_line : ℕ → List ℕ
 subset_line subset = codes "subset " ++ decimal subset
 
--- the lines of the given subsets, numbered from `subset`
+-- the lines of the given subsets; the first subset has number `subset`
 -- rule: text-subset
 unfoldable pub subset_lines : (subset : ℕ) → List (List View) → List (List ℕ)
 subset_lines subset [] = []
@@ -85,7 +85,7 @@ head_lines s = codes "message" ∷ (header_lines 0 (header_of s)
     ++ (map section2_line (runs_of 32 (unwrap_or s.section2 []))
     ++ map descriptors_line (runs_of 8 s.descriptors))))
 
--- the lines of the dump of a message whose subsets have the given items
+-- the lines of a message's dump, given the items of each subset
 -- rule: text-lines-in-order
 abbrev pub dump_lines : Sections → List (List View) → List (List ℕ)
 dump_lines s subsets = head_lines s ++ (subset_lines 1 subsets ++ codes "end" ∷ [])
@@ -97,24 +97,24 @@ text_of_lines lines = flat_map (λ line. line ++ 10 ∷ []) lines
 abbrev pub dump_text_of : Sections → List (List View) → List ℕ
 dump_text_of s subsets = text_of_lines (dump_lines s subsets)
 
--- the entries for the given items, which are on consecutive lines starting with line `at`
+-- the entries for the given items, whose lines are consecutive and start with line `at`
 unfoldable pub item_entries : (at : ℕ) → List View → List DraftEntry
 item_entries at [] = []
 item_entries at (item ∷ more) =
     Holds (draft at item.fxy (dump_value_of item.value)) ∷ item_entries (at + 1) more
 
--- the entries for the given subsets, which are on consecutive lines starting with line `at`
+-- the entries for the given subsets, whose lines are consecutive and start with line `at`
 unfoldable pub subset_entries : (at : ℕ) → List (List View) → List DraftEntry
 subset_entries at [] = []
 subset_entries at (items ∷ more) = item_entries (at + 1) items
     ++ (Ends (at + 1 + length items) ∷ subset_entries (at + 1 + length items) more)
 
--- the number of lines before the subsets in a message's dump
+-- the number of lines before the first `subset` line in a message's dump
 abbrev pub lines_before : Sections → ℕ
 lines_before s = 21 + length (runs_of 32 s.local1) + length (runs_of 32 (unwrap_or s.section2 []))
     + length (runs_of 8 s.descriptors)
 
--- the document that a message's dump represents if the dump begins on line `at`
+-- the result of parsing a message's dump that begins on line `at`
 abbrev pub document_of : (at : ℕ) → Sections → List (List View) → Document
 document_of at s subsets = record {
   line = at;
@@ -125,9 +125,9 @@ document_of at s subsets = record {
   entries = subset_entries (at + lines_before s) subsets;
 }
 
--- ---- The items read from a message, as a dump shows them. (own)
+-- ---- The items read from a message, as they appear in its dump (not part of FM 94 BUFR).
 
--- the items of a subset, as a dump shows them
+-- the items of a subset, as they appear in a dump
 abbrev pub items_shown : List Row → List (Item Content) → List View
 items_shown table items = map (λ i. view_of table i.spec i.content) items
 
@@ -161,8 +161,8 @@ pub record IsItem (item : View) : Type 0 where
   pub value : IsValue item.value
   pub comment : IsComment item.entry
 
--- A message with the given sections and subsets can be dumped. The number of subsets is the one
--- that section 3 declares.
+-- A message with the given sections and subsets can be dumped. There are as many subsets as section
+-- 3 declares.
 pub record IsDumpable (s : Sections) (subsets : List (List View)) : Type 0 where
   pub head : IsFitting s.head
   pub local1 : AllByRecursion IsOctet s.local1

@@ -1,4 +1,4 @@
--- The lines and values of a dump, and how they are written and parsed (own).
+-- The lines and values of a dump, and how they are written and parsed (our choice).
 -- Cited by public contracts.
 use Rattle.std.specs.Prelude.{ℕ, zero, suc, ◌+◌, ◌==◌, nat_le, nat_lt, Bool, not, ◌&&◌, if◌then◌else◌, List, [], ◌∷◌, Option, Some, None, option_map, codes, length, replicate, ◌-◌, ◌++◌, take, drop, ◌≡◌, ◌*◌, ◌≤◌, ◌/◌, ◌%◌, min, true, false, ◌||◌, slice_index}
 use Rattle.std.specs.List.{position_from, position_or_len, prefix_len}
@@ -14,18 +14,18 @@ use Rattle.bufr_frame.specs.Prelude.{greatest_values}
 use Rattle.bufr_fill.specs.Prelude.{DraftValue, number_token, text_form, missing_form, reference_token}
 use Rattle.std.specs.Option.{option_zip}
 
--- the text after the given word, if the text begins with it
+-- the text after the given word, if the text begins with that word
 unfoldable pub without_prefix : (word text : List ℕ) → Option (List ℕ)
 without_prefix [] text = Some text
 without_prefix (w ∷ word) [] = None
 without_prefix (w ∷ word) (c ∷ text) = if c == w then without_prefix word text else None
 
--- the text after its leading space, if it has one
+-- the text after its leading space, or `None` if there is no leading space
 abbrev pub without_space : List ℕ → Option (List ℕ)
 without_space text = without_prefix (32 ∷ []) text
 
 -- The elements, split into runs of `most` elements each. The last run may be shorter. The first
--- `skip` elements are skipped because they belong to the previous run.
+-- `skip` elements are left out because they belong to the previous run.
 unfoldable pub runs_after : (skip most : ℕ) → List ℕ → List (List ℕ)
 runs_after skip most [] = []
 runs_after (suc skip) most (x ∷ more) = runs_after skip most more
@@ -48,7 +48,7 @@ upper_value c = if is_ascii_digit c then Some (c - 48) else if nat_le 65 c && na
 abbrev pub either_value : ℕ → Option ℕ
 either_value c = if nat_le 97 c && nat_le c 102 then Some (c - 87) else upper_value c
 
--- the octet that two hexadecimal digits with the given values represent
+-- the octet given by the values of its two hexadecimal digits
 abbrev pub pair_value : Option ℕ → Option ℕ → Option ℕ
 pair_value high low = option_map (λ both. 16 * both.0 + both.1) (option_zip high low)
 
@@ -61,11 +61,11 @@ unfoldable pub hex_text : List ℕ → List ℕ
 hex_text [] = []
 hex_text (octet ∷ more) = hex_pair octet ++ hex_text more
 
--- the list with the element inserted at the front, if both were parsed
+-- the list with an element prepended, or `None` if either could not be parsed
 abbrev pub onto_read : {X : Type 0} → Option X → Option (List X) → Option (List X)
 onto_read x xs = option_map (λ both. both.0 ∷ both.1) (option_zip x xs)
 
--- the octets that hexadecimal digits represent, two digits per octet, in upper or lower case
+-- the octets represented by pairs of hexadecimal digits in upper or lower case
 unfoldable pub hex_read : List ℕ → Option (List ℕ)
 hex_read [] = Some []
 hex_read (high ∷ []) = None
@@ -90,7 +90,7 @@ descriptors_read (s ∷ a ∷ b ∷ c ∷ d ∷ e ∷ g ∷ more) = if s == 32
     then onto_read (fxy_of (a ∷ b ∷ c ∷ d ∷ e ∷ g ∷ [])) (descriptors_read more) else None
 descriptors_read text = None
 
--- The unsigned number that decimal digits represent. Numbers greater than 65,535 are read as
+-- The unsigned number that the decimal digits represent. Numbers greater than 65,535 are read as
 -- 65,536, which is too large for any header line or subset number.
 -- rule: reading-header-number
 abbrev pub number_read : List ℕ → Option ℕ
@@ -118,8 +118,8 @@ abbrev pub says_pair : Option ℕ → QuotedToken
 says_pair (Some octet) = Octet octet 4
 says_pair None = Nothing
 
--- The token `\"`, `\\` or `\xHH` at the beginning of the text, or `Nothing`. Beyond the end of the
--- text, octets are read as 0, which no token contains.
+-- The token `\"`, `\\` or `\xHH` at the beginning of the text, or `Nothing`. Octets beyond the end
+-- of the text are read as 0, which no token contains.
 abbrev pub escape_of : List ℕ → QuotedToken
 escape_of text = if (slice_index text 1 == 34) || (slice_index text 1 == 92)
     then Octet (slice_index text 1) 2 else if slice_index text 1 == 120 then says_pair
@@ -132,8 +132,8 @@ quoting_of text = if slice_index text 0 == 34 then Closed
     else if is_unescaped (slice_index text 0) then Octet (slice_index text 0) 1 else Nothing
 
 -- The result of `quoted_read` (below) for text that begins with the given token. `closed` is the
--- text after the closing quote. `more` parses the text after the first octet; its argument is the
--- number of octets to skip, which are the remaining octets of the token.
+-- text after the closing quote. `more` parses the text after the token; its argument is the number
+-- of octets in the token after the first.
 abbrev pub quoted_on : QuotedToken → (closed : List ℕ) → (more : ℕ → Option (List ℕ × List ℕ))
     → Option (List ℕ × List ℕ)
 quoted_on Closed closed more = Some ([], closed)
@@ -142,7 +142,7 @@ quoted_on (Octet octet written) closed more =
 quoted_on Nothing closed more = None
 
 -- The octets that a quoted string represents, and the text after its closing quote. The first
--- `skip` octets are skipped because they belong to the previous token.
+-- `skip` octets are ignored because they belong to the previous token.
 unfoldable pub quoted_read : (skip : ℕ) → List ℕ → Option (List ℕ × List ℕ)
 quoted_read skip [] = None
 quoted_read (suc skip) (c ∷ more) = quoted_read skip more
@@ -153,13 +153,12 @@ quoted_read zero (c ∷ more) = quoted_on (quoting_of (c ∷ more)) more (λ ski
 abbrev pub is_number_octet : ℕ → Bool
 is_number_octet c = is_ascii_digit c || (c == 45) || (c == 46)
 
--- whether `#` is the first octet that is not a space
+-- whether the first octet that is not a space is `#`
 unfoldable pub is_hashed : List ℕ → Bool
 is_hashed [] = false
 is_hashed (c ∷ more) = if c == 32 then is_hashed more else (c == 35)
 
--- whether nothing but a comment follows a value; the comment must begin with one or more spaces and
--- `#`
+-- whether the text after a value is empty or consists of one or more spaces and a comment
 -- rule: reading-after-a-value
 abbrev pub is_passed_after : List ℕ → Bool
 is_passed_after [] = true
@@ -167,9 +166,9 @@ is_passed_after (c ∷ more) = (c == 32) && is_hashed more
 
 -- ---- Lines, parsed without regard to their position.
 
--- A parsed line of a dump. `Passed` is an empty line or a comment. `Opens`, `Begins` and `Closes`
--- are `message`, `subset` and `end` lines. `Header` contains the index of the line's key in `keys`.
--- `Wrong` is any invalid line.
+-- A parsed line of a dump. `Passed` is an empty line or a comment. `Opens` is a `message` line,
+-- `Begins` is a `subset` line, and `Closes` is an `end` line. `Header` contains the index of the
+-- line's key in `keys`. `Wrong` is any invalid line.
 pub data Line : Type 0 where
   Passed : Line
   Opens : Line
@@ -197,17 +196,17 @@ keys =
 unfoldable pub leasts : List ℕ
 leasts = 3 ∷ replicate 19 0
 
--- the maximum value of each key in an edition: 4 for the edition, 1 for a flag, 65,535 for the
--- number of subsets and, for a section 1 value, the greatest number that fits in its octets
+-- The maximum value of each key in the given edition. A section 1 value must fit in its octets, and
+-- the number of subsets must fit in 16 bits.
 unfoldable pub mosts : (edition : ℕ) → List ℕ
 mosts edition = 4 ∷ greatest_values edition ++ 1 ∷ 1 ∷ 1 ∷ 65535 ∷ []
 
--- the line with the given content, or `Wrong` if it could not be parsed
+-- the line with the given content, or `Wrong` if the content could not be parsed
 abbrev pub made : {X : Type 0} → (X → Line) → Option X → Line
 made line (Some x) = line x
 made line None = Wrong
 
--- the line with the given list, or `Wrong` if the list does not have 1 to `most` elements
+-- the line with the given list, or `Wrong` if the list is empty or has more than `most` elements
 -- rule: reading-long-lists
 abbrev pub with_one_to : (most : ℕ) → (List ℕ → Line) → List ℕ → Line
 with_one_to most line xs =
@@ -217,7 +216,7 @@ with_one_to most line xs =
 abbrev pub item_if_comment : (fxy : ℕ) → DraftValue × List ℕ → Line
 item_if_comment fxy (form, rest) = if is_passed_after rest then ItemLine fxy form else Wrong
 
--- the number at the beginning of the text, as a value of the given form, and the remaining text
+-- the number at the beginning of the text, converted to a value by `form`, and the remaining text
 abbrev pub number_value : (List ℕ → DraftValue) → List ℕ → Option (DraftValue × List ℕ)
 number_value form [] = None
 number_value form (c ∷ more) =
@@ -232,8 +231,8 @@ value_read (c ∷ more) =
     else if is_number_octet c then number_value number_token (c ∷ more)
     else option_map (λ rest. (missing_form, rest)) (without_prefix (codes "MISSING") (c ∷ more))
 
--- an item line that begins with the given descriptor, which must be followed by a space and a
--- value; `read` parses the value
+-- an item line that begins with the given descriptor; a space and a value must follow, and `read`
+-- parses the value
 abbrev pub valued : (List ℕ → Option (DraftValue × List ℕ)) → ℕ × List ℕ → Line
 valued read (fxy, rest) = made (λ text. made (item_if_comment fxy) (read text)) (without_space rest)
 
@@ -242,7 +241,7 @@ abbrev pub item_line : (List ℕ → Option (DraftValue × List ℕ)) → List �
 item_line read text = made (valued read) (fxy_read text)
 
 -- The line with the given first word and remaining text, or `Wrong` if that text is not valid after
--- the word. The last case is a header line, whose first word is a key.
+-- the word. Any word not listed below must be the key of a header line.
 -- rule: reading-reference
 unfoldable pub worded : (word rest : List ℕ) → Line
 worded word rest =
@@ -261,8 +260,9 @@ worded word rest =
     else made (λ index. made (λ text. made (Header index) (number_read text)) (without_space rest))
     (position_from (bytes_eq word) 0 keys)
 
--- The line that the octets represent. A comment begins with `#`, and an item line with a digit. Any
--- other line begins with a word, which ends before the first space.
+-- The line that the octets represent. A line that begins with `#` is a comment, and a line that
+-- begins with a digit is an item line. Any other line begins with a word, which ends before the
+-- first space.
 -- rule: reading-empty-lines, reading-carriage-return, reading-blanks
 unfoldable pub line_of : List ℕ → Line
 line_of [] = Passed
@@ -274,7 +274,7 @@ line_of (c ∷ more) =
 
 -- ---- The keys of the header, as the code stores them.
 
--- the octets that precede the value of a key: a line feed, the key's name, and a space
+-- the octets that precede a key's value (a line feed, the key's name, and a space)
 abbrev pub lead_of : (key : List ℕ) → List ℕ
 lead_of key = 10 ∷ (key ++ 32 ∷ [])
 
@@ -290,23 +290,22 @@ abbrev pub short_form : Option ShortDecimal → DraftValue
 short_form (Some number) = number_token (short_text number)
 short_form None = missing_form
 
--- Either the descriptors in the text were written to the start of `out`, and the result is their
--- number, or the text is not valid in a `descriptors` line, and the result is `None`.
+-- The descriptors in the text were written to the beginning of `out`, and their number was
+-- returned. If the text is not valid in a `descriptors` line, the result is `None`.
 abbrev pub Describes : (text out : List ℕ) → Option ℕ → Type 0
 Describes text out None = made (with_one_to 8 Descriptors) (descriptors_read text) ≡ Wrong
 Describes text out (Some count) = (count ≤ length out)
     × (made (with_one_to 8 Descriptors) (descriptors_read text) ≡ Descriptors (take count out))
 
--- Either the octets that the text represents, one for every two digits, were written to the start
--- of `out`, and the result is their number, or the text is invalid, and the result is `None`.
+-- The octets that the text represents (one for every two digits) were written to the beginning of
+-- `out`, and their number was returned. If the text is invalid, the result is `None`.
 abbrev pub Unhexes : (text out : List ℕ) → Option ℕ → Type 0
 Unhexes text out None = hex_read text ≡ None
 Unhexes text out (Some count) =
     (2 * count ≡ length text) × (count ≤ length out) × (hex_read text ≡ Some (take count out))
 
--- Either the octets of the quoted string were written to the start of `out`, and the result is
--- their number and the index after the closing quote, or the text is invalid, and the result is
--- `None`.
+-- The octets of the quoted string were written to the beginning of `out`. Their number and the
+-- index after the closing quote were returned. If the text is invalid, the result is `None`.
 abbrev pub Unquotes : (text out : List ℕ) → Option (ℕ × ℕ) → Type 0
 Unquotes text out None = quoted_read 0 text ≡ None
 Unquotes text out (Some (count, at)) = (count ≤ length out) × (at ≤ length text)

@@ -1,4 +1,4 @@
--- How documents are read, and the faults in their lines (own).
+-- How documents are read, and the faults in their lines (our choice).
 -- Cited by public contracts.
 use Rattle.std.specs.Prelude.{ℕ, ◌≡◌, ◌+◌, ◌==◌, Bool, true, false, not, List, [], ◌∷◌, ◌++◌, length, ◌⊎◌, ◌-◌, ◌*◌, ◌<◌, ◌≤◌, if◌then◌else◌, take, Option, Some, None, Result, Ok, Err, codes}
 use Rattle.bufr_frame.specs.Prelude.{run_report, max_reads, read_failures_after}
@@ -13,11 +13,11 @@ use Rattle.bufr_text.specs.Line.{Closes}
 use Rattle.std.specs.Io.KnownBytes.{Consumes, IsAtEnd}
 use Rattle.bufr_frame.specs.declared.fault.RunFault.TheVariants.{Read, Write, InputTooLong, Memory}
 
--- ---- Faults in the lines of a document, and their numbers (own).
+-- ---- Faults in the lines of a document, and their numbers (our choice).
 
--- The number and the description of a fault in a line. Fault 50 means that a line is not allowed at
--- its position. Fault 57 means that a `subset` line has the wrong number, or that an `end` line
--- comes before the last subset. Fault 61 means that the value in a header line is out of range.
+-- The number and the description of a fault in a line. Fault 50 means that a line is invalid or not
+-- allowed at its position. Fault 57 means that a `subset` line has the wrong number, or that an
+-- `end` line comes before the last subset. Fault 61 means that a header value is out of range.
 abbrev pub line_report : TextLineFault → ℕ × List (List ℕ)
 line_report NotAllowed = (50, codes "line" ∷ [])
 line_report SubsetCount = (57, codes "subset count" ∷ [])
@@ -27,32 +27,32 @@ abbrev pub number_of_read_fault : ReadFault → ℕ
 number_of_read_fault (Line line fault) = (line_report fault).0
 number_of_read_fault (Run fault) = (run_report fault).0
 
--- ---- How documents are read in parts (own).
+-- ---- How documents are read from input that arrives in parts (our choice).
 
 -- whether none of the octets is a line feed
 abbrev pub has_no_feed : List ℕ → Bool
 has_no_feed octets = list_all (λ c. not (c == 10)) octets
 
--- a reader's position in the input: the number of the next line, the parser's state and the
--- document so far, the buffered octets, and whether the end of the input has been reached
+-- a reader's position in the input (the number of the next line, the parser's state, the document
+-- so far, the buffered octets, and whether the end of the input has been reached)
 pub record ReaderPosition : Type 0 where
   pub at : ℕ
   pub parsing : Parsing
   pub held : List ℕ
   pub ended : Bool
 
--- the results of parsing the buffered octets and t, after which the input ends
+-- the results of parsing the buffered octets and the octets t, after which the input ends
 abbrev pub parse : ReaderPosition → List ℕ → List ParseResult
 parse s t = parse_lines s.at s.parsing (lines_of (s.held ++ t))
 
--- the results of parsing the buffered octets and t, after which more input may follow
+-- the results of parsing the buffered octets and the octets t, after which more input may follow
 abbrev pub parse_open : ReaderPosition → List ℕ → List ParseResult
 parse_open s t =
     parse_open_lines s.at s.parsing (split_of (s.held ++ t)).whole (split_of (s.held ++ t)).rest
 
--- Whatever input follows, parsing it from the old position yields the given results, followed by
--- those of parsing it from the new position. If the end of the input has been reached, nothing
--- follows.
+-- Parsing any remaining input from the old position yields the given results, followed by the
+-- results of parsing it from the new position. At the end of the input, no input remains to be
+-- read.
 pub record ContinuesParse (old new : ReaderPosition) (results : List ParseResult) : Type 0 where
   pub whole : (t : List ℕ) → (new.ended ≡ true → t ≡ []) → parse old t ≡ results ++ parse new t
   pub openly : new.ended ≡ false → (t : List ℕ) → parse_open old t ≡ results ++ parse_open new t
@@ -65,9 +65,9 @@ pub record TakesWholeLines (at : ℕ) (held : List ℕ) (at' : ℕ) (rest : List
   pub counted : at' ≡ at + length lines
   pub octets : held ≡ text_of_lines lines ++ rest
 
--- Complete lines were processed, and the last one is an `end` line, followed by `rest`.
+-- Complete lines were processed. The last of them is an `end` line, and `rest` follows it.
 pub record TakesEndLine (at : ℕ) (held : List ℕ) (at' : ℕ) (rest : List ℕ) : Type 0 where
-  -- the number of the `end` line
+  -- the line number of the `end` line
   pub line : ℕ
   pub last : List ℕ
   pub prefix : TakesWholeLines at held line (last ++ 10 ∷ rest)
@@ -79,9 +79,9 @@ pub record TakesEndLine (at : ℕ) (held : List ℕ) (at' : ℕ) (rest : List �
 pub record ReaderModel : Type 0 where
   -- the number of the next line
   pub at : ℕ
-  -- the state of the parser, and the document that it has read so far
+  -- the state of the parser, and the part of the document that it has read
   pub parsing : Parsing
-  -- the buffered octets, which have been read but not yet processed as lines
+  -- the buffered octets, which have been read but not yet processed
   pub held : List ℕ
   -- whether the end of the input has been reached
   pub ended : Bool
@@ -111,36 +111,35 @@ new_reader =
 abbrev pub position_of : ReaderModel → ReaderPosition
 position_of s = record { at = s.at; parsing = s.parsing; held = s.held; ended = s.ended }
 
--- a reader's position after the given octets were appended to its buffer
+-- a reader's position after the given octets are appended to its buffer
 abbrev pub position_after : ReaderModel → List ℕ → ReaderPosition
 position_after s bs =
     record { at = s.at; parsing = s.parsing; held = s.held ++ bs; ended = s.ended }
 
--- the results that a call reports
+-- the document or line fault, if any, that a call reports
 abbrev pub parse_results : Result (Option Document) ReadFault → List ParseResult
 parse_results (Ok (Some document)) = Complete document ∷ []
 parse_results (Err (Line line fault)) = Refused line fault ∷ []
 parse_results result = []
 
--- Either nothing was added, or the end of the input was reached and a line feed was added to the
--- last line, which lacked one. `feed` contains the added octets.
+-- `feed` is either empty or a line feed that was added because the input ended without one.
 abbrev pub IsMissingFeed : (ended ended' : Bool) → List ℕ → Type 0
 IsMissingFeed ended ended' feed =
     (feed ≡ []) ⊎ ((ended ≡ false) × (ended' ≡ true) × (feed ≡ 10 ∷ []))
 
--- The buffered octets that come from the text. After the end of the input, the last buffered octet
--- is excluded because it is the line feed that the text lacked.
+-- The buffered octets that were read from the input. After the end of the input, the last buffered
+-- octet is left out because it is the line feed that was added.
 abbrev pub unfed : ReaderModel → List ℕ
 unfed s = if s.ended then take (length s.held - 1) s.held else s.held
 
--- No octet of the text was lost. The octets that were buffered before the call or read by it are
--- those that it processed, followed by those that are still buffered.
+-- No octet of the input was lost. Every octet that was buffered before the call or read during it
+-- has been processed or is still buffered.
 abbrev pub KeepsUnread : (old new : ReaderModel) → List ℕ → Type 0
 KeepsUnread old new bs = (taken : List ℕ) × (unfed old ++ bs ≡ taken ++ unfed new)
 
--- Octets were read and appended to the buffer. Parsing the extended buffer yields the given
--- results, followed by those of parsing the octets that are still buffered after the call. Only
--- complete lines were processed.
+-- Octets were read and appended to the buffer. Parsing everything in the buffer yields the given
+-- results, followed by the results of parsing the octets that are still buffered. Only complete
+-- lines were processed.
 pub record ReadsLines (left left' : Option (List ℕ)) (old new : ReaderModel)
     (results : List ParseResult) (bs : List ℕ) : Type 0 where
   pub read : Consumes left left' bs
@@ -155,13 +154,13 @@ pub record ReadsLines (left left' : Option (List ℕ)) (old new : ReaderModel)
   pub kept : old.ended ≡ true → (new.ended ≡ true) × (bs ≡ []) × (new.reads ≡ old.reads)
   pub end : (old.ended ≡ true → IsAtEnd left) → new.ended ≡ true → IsAtEnd left'
 
--- The last processed line is an `end` line, and exactly the octets after it are buffered.
+-- The last processed line is an `end` line, and the buffer contains exactly the octets after it.
 abbrev pub EndsAtEndLine : (old new : ReaderModel) → List ℕ → Type 0
 EndsAtEndLine old new bs = (feed : List ℕ) × IsMissingFeed old.ended new.ended feed
     × TakesEndLine old.at ((old.held ++ bs) ++ feed) new.at new.held
 
--- The last read was made only after all complete lines had been processed without a result. The
--- incomplete line then had at most 4,096 octets, and the read returned at most 4,096.
+-- Before the last read, all complete lines had been processed without yielding a document or a
+-- fault, and the incomplete line had at most 4,096 octets. The read returned at most 4,096 octets.
 pub record ReadsOnlyIfNoLine (left : Option (List ℕ)) (old : ReaderModel) (reads : ℕ)
     (bs : List ℕ) : Type 0 where
   pub before : List ℕ
@@ -188,9 +187,9 @@ HasNoWholeLine s =
 abbrev pub HasNoMoreLines : ReaderModel → Type 0
 HasNoMoreLines s = (s.ended ≡ true) × (s.held ≡ []) × (parse (position_of s) [] ≡ [])
 
--- A call with the given result can leave the reader in state `new`. `None` is returned only if no
--- lines remain, and `InputTooLong` only after 2^32 reads. Memory runs out only before the first
--- read or if a complete line is buffered.
+-- The reader can be in state `new` after a call with the given result. `None` is returned only if
+-- no lines remain, and `InputTooLong` only after 2^32 reads. Memory can run out only if there has
+-- been no read yet or a complete line is buffered.
 abbrev pub LeavesReader : ReaderModel → Result (Option Document) ReadFault → Type 0
 LeavesReader new (Ok None) = (new.fault ≡ None) × HasNoMoreLines new
 LeavesReader new (Ok (Some document)) = new.fault ≡ None
@@ -202,7 +201,7 @@ LeavesReader new (Err (Run Memory)) =
     (new.fault ≡ Some (Run Memory)) × ((has_no_feed new.held ≡ false) ⊎ (new.reads ≡ 0))
 LeavesReader new (Err (Line line fault)) = new.fault ≡ Some (Line line fault)
 
--- The next line is completely buffered, and it adds to the document.
+-- The buffer contains the whole next line, and processing this line extends the document.
 pub record AddsNext (s : ReaderModel) : Type 0 where
   pub line : List ℕ
   pub rest : List ℕ
@@ -213,7 +212,7 @@ pub record AddsNext (s : ReaderModel) : Type 0 where
 -- A call read the given octets and returned the given result. If memory ran out, no document or
 -- line fault was reported, and the content of the buffer is not specified. Memory cannot run out if
 -- the call begins at the end of the input with an empty buffer. After the first read, memory can
--- run out only at a line that adds to the document.
+-- run out only at a line that extends the document.
 abbrev pub ReadsDocument : (left left' : Option (List ℕ)) → (old new : ReaderModel)
     → Result (Option Document) ReadFault → List ℕ → Type 0
 ReadsDocument left left' old new (Ok (Some document)) bs =
@@ -236,7 +235,7 @@ pub record ReturnsNextDocument (left left' : Option (List ℕ)) (old new : Reade
   pub each : result ≡ Err (Run InputTooLong) → new.reads ≤ old.reads + length octets
   pub ends : LeavesReader new result
 
--- A read is needed because no complete line is buffered and the processed lines gave no result.
+-- Another read is needed because no complete line is buffered and no result has been found.
 pub record NeedsLine (old new : ReaderModel) : Type 0 where
   pub passes : (left : Option (List ℕ)) → ReadsLines left left old new [] []
   pub none : has_no_feed new.held ≡ true
@@ -244,8 +243,8 @@ pub record NeedsLine (old new : ReaderModel) : Type 0 where
   pub going : new.ended ≡ false
   pub sound : new.fault ≡ None
 
--- Either the buffered lines determine the result of a call, whatever the call has already read, or
--- the result is `None` because a read is needed.
+-- If the buffered lines yield a result, the call returns it, regardless of what it has already
+-- read. `None` means that another read is needed.
 abbrev pub GivesHeldDocument : (old new : ReaderModel)
     → Option (Result (Option Document) ReadFault) → Type 0
 GivesHeldDocument old new (Some next) =

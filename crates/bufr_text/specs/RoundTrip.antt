@@ -1,5 +1,5 @@
 -- Only contracts need this file. An accepted message, and the message that results from encoding
--- its dump in either form.
+-- its dump.
 use Rattle.std.specs.Prelude.{◌≡◌, ℕ, ◌+◌, ◌%◌, ◌≤◌, ◌==◌, ◌&&◌, ◌||◌, Bool, List, ◌∷◌, ◌++◌, length, if◌then◌else◌, Ok, Vec, Result, Err, [], take, drop, flat_map, ◌⊎◌}
 use Rattle.std.specs.List.{AllByRecursion}
 use Rattle.bufr_tables.specs.Prelude.{tree_of, tables_of, Row, Sequence, Tree}
@@ -38,23 +38,23 @@ pub record SaySame (form : Form) (a b : Sections) : Type 0 where
   pub observed : b.observed ≡ a.observed
   pub compressed : b.compressed ≡ compressed_by form a.compressed
 
--- the maximum number of octets by which a message grows when its dump is encoded, which is 2 in
--- edition 3 if the length of section 3 or 4 is odd (because both lengths become even), and 0
--- otherwise
+-- The maximum number of octets by which a message grows when its dump is encoded. An edition 3
+-- message can grow by up to 2 octets if the length of section 3 or 4 is odd, because both lengths
+-- are made even. No other message grows.
 -- rule: becomes-canonical
 abbrev pub extra_octets : (m : List ℕ) → ℕ
 extra_octets m = if edition_of m == 3
     && (u24_at m (section3_begins m) % 2 == 1 || u24_at m (section4_begins m) % 2 == 1)
     then 2 else 0
 
--- The message `written` reads the same as m, whose sections are s. `written` is no longer than m,
--- except for up to two octets that make the lengths of sections 3 and 4 even in edition 3.
+-- The message `written` has the same content as m, whose sections are s. `written` is no longer
+-- than m, except that it can be up to two octets longer in edition 3.
 pub record HasSameReading (table : List Row) (m : List ℕ) (s : Sections) (template : Tree)
     (values : Values) (written : List ℕ) : Type 0 where
   pub no_longer : length written ≤ length m + extra_octets m
   pub few : length written ≤ max_octets
   pub octets : AllByRecursion IsOctet written
-  -- In a stream, the octets form a single message, whatever follows.
+  -- In a stream, the octets are recognized as a single message, regardless of what follows.
   pub framed : (at : ℕ) (suffix : List ℕ) → scan_from 0 at (written ++ suffix)
       ≡ FrameAt at written ∷ scan_from 0 (at + length written) suffix
   pub sections : Sections
@@ -63,30 +63,30 @@ pub record HasSameReading (table : List Row) (m : List ℕ) (s : Sections) (temp
   pub used : ℕ
   pub read : HasReading (next_item table template) (data_of sections) values used
 
--- Encoding the document gives a message that reads the same as m.
+-- Encoding the document gives a message with the same content as m.
 pub record IsEncodedAgain (table : List Row) (sequences : List Sequence) (m : List ℕ) (s : Sections)
     (template : Tree) (values : Values) (d : Document) : Type 0 where
   pub octets : List ℕ
   pub is : encoding_of table sequences d ≡ Ok octets
   pub same : HasSameReading table m s template values octets
 
--- Encoding the document of m in its own form gave a message that reads the same as m, or memory ran
--- out.
+-- Encoding the dump of m without changing its form gave a message with the same content, or memory
+-- ran out.
 abbrev pub EncodesAgain : List Row → List ℕ → Sections → Tree → Values
     → Result (Vec ℕ Global) DocumentFault → Type 0
 EncodesAgain table m s template values (Ok octets) =
     HasSameReading table m s template values octets.items
 EncodesAgain table m s template values (Err why) = why ≡ document.Memory
 
--- ---- Encoding the document of an accepted message in a given form.
+-- ---- The result of encoding the dump of an accepted message in a given form.
 
--- `written` is a message in the given form. Except for its compression flag, `written` reads the
--- same as the message whose sections are s.
+-- The message `written` has the given form and, except for its compression flag, the same content
+-- as the message whose sections are s.
 pub record HasReadingIn (form : Form) (table : List Row) (s : Sections) (template : Tree)
     (values : Values) (written : List ℕ) : Type 0 where
   pub few : length written ≤ max_octets
   pub octets : AllByRecursion IsOctet written
-  -- In a stream, the octets form a single message, whatever follows.
+  -- In a stream, the octets are recognized as a single message, regardless of what follows.
   pub framed : (at : ℕ) (suffix : List ℕ) → scan_from 0 at (written ++ suffix)
       ≡ FrameAt at written ∷ scan_from 0 (at + length written) suffix
   pub sections : Sections
@@ -100,10 +100,9 @@ pub record HasReadingIn (form : Form) (table : List Row) (s : Sections) (templat
   -- The dumps of both messages show the same items.
   pub items : dump_items table sections.subsets found ≡ dump_items table s.subsets values
 
--- The document of an accepted message can be rejected in the given form with the given fault. The
--- document is never rejected in its own form. In plain or compressed form, the message may be too
--- long. In compressed form, replication factors may also differ between subsets, or increments may
--- be unable to represent the values.
+-- Encoding the dump of an accepted message in the given form can fail with the given fault.
+-- Encoding never fails in the form `AsWritten`. In the other forms, the message may be too long
+-- (fault 60). In the form `Compressed`, faults 58 and 59 are also possible.
 abbrev pub IsForForm : Form → DocumentFault → Type 0
 IsForForm form.AsWritten why = ⊥
 IsForForm form.Plain (document.TooLong line) = Unit {0}
@@ -112,36 +111,34 @@ IsForForm form.Compressed (document.Item line why) = IsUnlike why
 IsForForm form.Compressed (document.TooLong line) = Unit {0}
 IsForForm form.Compressed why = ⊥
 
--- Encoding a message's document in the given form gives a message with the same items, or a fault
--- that is possible in that form.
+-- Encoding a message's dump in the given form gives a message with the same items or a fault that
+-- is possible in that form.
 abbrev pub IsFormed : Form → List Row → Sections → Tree → Values
     → Result (List ℕ) DocumentFault → Type 0
 IsFormed form table s template values (Ok octets) = HasReadingIn form table s template values octets
 IsFormed form table s template values (Err why) = IsForForm form why
 
--- The fault is possible in the given form, or memory ran out.
+-- The fault is either `Memory` or one that is possible in the given form.
 abbrev pub IsFaultIn : Form → DocumentFault → Type 0
 IsFaultIn form why = (why ≡ document.Memory) ⊎ IsForForm form why
 
--- Encoding a message's document in the given form gave a message with the same items or a fault
--- that is possible in that form, or memory ran out.
+-- Encoding a message's dump in the given form gave a message with the same items, a fault that is
+-- possible in that form, or the fault `Memory`.
 abbrev pub EncodesForm : Form → List Row → Sections → Tree → Values
     → Result (Vec ℕ Global) DocumentFault → Type 0
 EncodesForm form table s template values (Ok octets) =
     HasReadingIn form table s template values octets.items
 EncodesForm form table s template values (Err why) = IsFaultIn form why
 
--- ---- A message as an encoder writes it (own).
+-- ---- A message as an encoder writes it (our choice).
 
--- The bits begin with the given items, in which no redefined reference value is written as minus
--- zero.
+-- The bits begin with the fields of the given items, and no redefined reference is minus zero.
 abbrev pub HaveNoMinusZero : List (Item Content) → List Bool → Type 0
 HaveNoMinusZero [] bits = Unit {0}
 HaveNoMinusZero (i ∷ items) bits = (IsMinusZero i.spec.role (take i.spec.width bits) → ⊥)
     × HaveNoMinusZero items (drop i.spec.width bits)
 
--- The bits are the given items of compressed data, packed as an encoder packs them, followed by
--- `suffix`.
+-- The bits are what an encoder writes for the given compressed items, followed by `suffix`.
 abbrev pub ArePacked : List (Item (List Content)) → (bits suffix : List Bool) → Type 0
 ArePacked [] bits suffix = bits ≡ suffix
 ArePacked (i ∷ items) bits suffix =
@@ -154,8 +151,8 @@ AreWritten (apart subsets) bits suffix = HaveNoMinusZero (flat_map (λ items. it
 AreWritten (together items) bits suffix = ArePacked items bits suffix
 
 -- The message is canonical, which means that its reserved octets and bits are zero, and that it has
--- no unnecessary octets. The data take as few octets as possible (in edition 3, as few as give
--- section 4 an even length), and zero bits pad the last octet.
+-- no unnecessary octets. The data are padded with zero bits to whole octets and, in edition 3, to
+-- an even length of section 4.
 -- rule: canonical
 pub record IsCanonical (m : List ℕ) (s : Sections) (values : Values) (used : ℕ) : Type 0 where
   pub plain : IsPlain m
@@ -163,14 +160,14 @@ pub record IsCanonical (m : List ℕ) (s : Sections) (values : Values) (used : �
       (octets_of_bits (take used (bits_of s.payload)))
   pub bits : AreWritten values (bits_of s.payload) (drop used (bits_of s.payload))
 
--- ---- An encoded document is read back with the same content.
+-- ---- Reading an encoded document back yields the same content.
 
--- The drafts specify the given values.
+-- The given values are those of the items in a document's subsets.
 abbrev pub AreValuesOf : Values → List Subset → Type 0
 AreValuesOf values drafts = AreSaid (each_subset (length drafts) values) drafts
 
--- The octets are a single accepted message in the given form, with the content of the document and
--- the values that its drafts specify. The length of the message is not specified.
+-- The octets form a single message, which is accepted and has the given form. The message has the
+-- content of the document and the values that the document's items specify.
 pub record IsReadAs (form : Form) (table : List Row) (sequences : List Sequence) (d : Document)
     (octets : List ℕ) : Type 0 where
   pub sections : Sections
@@ -178,7 +175,7 @@ pub record IsReadAs (form : Form) (table : List Row) (sequences : List Sequence)
   pub values : Values
   pub used : ℕ
   pub accepted : IsAccepted table sequences octets sections template values used
-  -- In a stream, the octets form a single message, whatever follows.
+  -- In a stream, the octets are recognized as a single message, regardless of what follows.
   pub framed : (at : ℕ) (suffix : List ℕ) → scan_from 0 at (octets ++ suffix)
       ≡ FrameAt at octets ∷ scan_from 0 (at + length octets) suffix
   pub head : sections.head ≡ (header_in d).head

@@ -1,5 +1,5 @@
--- Only contracts need this file. The lines of a document, in order, and its normal text, which is
--- spelled as in a dump (own).
+-- Only contracts need this file. The order of the lines in a document, and its normal text, which
+-- is formatted like a dump (our choice).
 use Rattle.std.specs.Prelude.{slice_index, ◌≡◌, false, List, [], ◌∷◌, length, ◌≤◌, ◌⊎◌, ℕ, ◌+◌, ◌++◌, map, if◌then◌else◌, take, drop, codes, None, Result, Ok, Err}
 use Rattle.std.specs.List.{AllByRecursion, concat}
 use Rattle.bufr_fill.specs.Prelude.{AllHaveOctets, DraftEntry, Holds, Ends, subsets_of, DraftValue, draft, Draft, Subset, content_of, normal_form}
@@ -14,17 +14,17 @@ use Rattle.bufr_text.specs.declared.encode.Form.{Form}
 use Rattle.bufr_text.specs.declared.encode.Form.TheVariants.{AsWritten, Plain, Compressed}
 use Rattle.bufr_walk.specs.declared.spec.Taken.TheVariants as taken
 
--- ---- Documents that lines of text can represent (own).
+-- ---- Documents that can be written as text (our choice).
 
--- The last entry, if any, ends a subset, so each item is in a subset.
+-- The last entry, if any, ends a subset, so every item belongs to a subset.
 abbrev pub AreEnded : List DraftEntry → Type 0
 AreEnded (Holds item ∷ []) = ⊥
 AreEnded (entry ∷ next ∷ more) = AreEnded (next ∷ more)
 AreEnded entries = Unit {0}
 
--- The document's header values are within range, its octets and descriptors are valid, and its
--- strings consist of octets. Section 2 octets are present only if the header declares a section 2,
--- and the number of subsets is the one that the header declares. Each item is in a subset.
+-- The document's header values are within range, and its octets, descriptors and strings are valid.
+-- Section 2 octets are present only if the header declares a section 2, and the number of subsets
+-- matches the header. Every item belongs to a subset.
 pub record IsProper (d : Document) : Type 0 where
   pub headed : IsHeaded d
   pub local1 : AllByRecursion IsOctet d.local1
@@ -35,23 +35,23 @@ pub record IsProper (d : Document) : Type 0 where
   pub counted : length (subsets_of d.entries) ≡ (header_in d).subsets
   pub ended : AreEnded d.entries
 
--- ---- A complete document, and the documents in the input (own).
+-- ---- Complete documents, and the results of parsing the input (our choice).
 
--- The document is complete, and the number of its entries is bounded.
+-- The document is valid (see `IsProper`) and has at most 2^44 entries.
 pub record IsWhole (d : Document) : Type 0 where
   pub proper : IsProper d
   pub few : length d.entries ≤ most_entries
 
--- The result is a proper document or a fault in a line.
+-- The result is a valid document (see `IsProper`) or a fault in a line.
 abbrev pub IsProperlyReported : ParseResult → Type 0
 IsProperlyReported (Complete d) = IsProper d
 IsProperlyReported (Refused line fault) = Unit {0}
 
--- All documents in the results are proper.
+-- All documents in the results are valid.
 abbrev pub AreProper : List ParseResult → Type 0
 AreProper results = AllByRecursion IsProperlyReported results
 
--- a line that is not skipped, with its line number
+-- a line that is neither empty nor a comment, with its line number
 pub record NumberedLine : Type 0 where
   pub at : ℕ
   pub says : Line
@@ -59,7 +59,7 @@ pub record NumberedLine : Type 0 where
 abbrev pub numbered_line : ℕ → Line → NumberedLine
 numbered_line at says = record { at = at; says = says }
 
--- the given lines, preceded by another line unless that line is empty or a comment
+-- the given lines with one more line prepended, unless that line is empty or a comment
 abbrev pub onto_heard : ℕ → Line → List NumberedLine → List NumberedLine
 onto_heard at Passed more = more
 onto_heard at line more = numbered_line at line ∷ more
@@ -69,7 +69,7 @@ numbered_lines at [] = []
 numbered_lines at (line ∷ more) = onto_heard at (read_line line)
     (numbered_lines (at + 1) more)
 
--- the parsed header lines with the given values and consecutive keys, starting with `key`
+-- the parsed header lines for the given values of consecutive keys, starting with `key`
 abbrev pub header_says : (key : ℕ) → List ℕ → List Line
 header_says key [] = []
 header_says key (value ∷ more) = Header key value ∷ header_says (key + 1) more
@@ -80,36 +80,34 @@ pub record Element : Type 0 where
   pub fxy : ℕ
   pub form : DraftValue
 
--- the items of a subset, and the number of its `subset` line
+-- the items of a subset, and the line number of its `subset` line
 pub record SubsetHeard : Type 0 where
   pub at : ℕ
   pub items : List Element
 
--- the lines of the given subsets, numbered from `subset`; each one has a `subset` line, followed by
--- the lines of its items
+-- the `subset` line and the item lines of each given subset; the first subset has number `subset`
 abbrev pub subsets_heard : (subset : ℕ) → List SubsetHeard → List NumberedLine
 subsets_heard subset [] = []
 subsets_heard subset (part ∷ more) =
     numbered_line part.at (Begins subset) ∷ map (λ i. numbered_line i.at (ItemLine i.fxy i.form))
     part.items ++ subsets_heard (subset + 1) more
 
--- the number of the first line of the given subsets or, if there are none, `end`; the previous
--- subset ends on that line
+-- the number of the line that ends the previous subset (the first line of the given subsets or, if
+-- there are none, line `end`)
 abbrev pub first_at : List SubsetHeard → (end : ℕ) → ℕ
 first_at [] end = end
 first_at (part ∷ more) end = part.at
 
--- the entries of the given subsets; each subset ends on the first line of the next one, and the
--- last subset on line `end`
+-- the entries of the given subsets; each subset ends at the first line of the next one, and the
+-- last subset ends at line `end`
 abbrev pub entries_heard : List SubsetHeard → (end : ℕ) → List DraftEntry
 entries_heard [] end = []
 entries_heard (part ∷ more) end =
     map (λ i. Holds (draft i.at i.fxy i.form)) part.items ++ Ends (first_at more end)
     ∷ entries_heard more end
 
--- The lines are those of document d: `message`, the header lines in order, the `local1`, `section2`
--- and `descriptors` lines, the subsets with their items, and `end`. The document has the content
--- that its lines specify.
+-- The given lines specify the content of document d. The lines are `message`, the header lines in
+-- order, the `local1`, `section2` and `descriptors` lines, the subsets with their items, and `end`.
 pub record IsDocument (d : Document) (lines : List NumberedLine) : Type 0 where
   pub header : List NumberedLine
   pub local1 : List (List ℕ)
@@ -130,8 +128,8 @@ pub record IsDocument (d : Document) (lines : List NumberedLine) : Type 0 where
   pub counted : length subsets ≡ (header_in d).subsets
   pub entries : d.entries ≡ entries_heard subsets end
 
--- Parsing the lines yields the given results, which are one document after another, up to the last
--- line or a fault.
+-- The results are the documents in the given lines, in order. If a line contains a fault, that
+-- fault is the last result.
 abbrev pub AreReported : List NumberedLine → List ParseResult → Type 0
 AreReported lines [] = lines ≡ []
 AreReported lines (Refused line fault ∷ results) = results ≡ []
@@ -139,53 +137,54 @@ AreReported lines (Complete d ∷ results) =
     (own : List NumberedLine) × (more : List NumberedLine) × (lines ≡ own ++ more)
     × IsDocument d own × AreReported more results
 
--- ---- The normal text of a document, which is spelled as in a dump (own).
+-- ---- The normal text of a document, which is formatted like a dump (our choice).
 
--- a document's header values in the given form, which determines the compression flag (key 17)
+-- a document's header values, with the compression flag (key 17) set according to the given form
 abbrev pub header_as : Form → List ℕ → List ℕ
 header_as AsWritten header = header
 header_as Plain header = take 17 header ++ 0 ∷ drop 18 header
 header_as Compressed header = take 17 header ++ 1 ∷ drop 18 header
 
--- the lines before the subsets: `message`, the header lines, octets in upper-case hexadecimal (32
--- per line), and descriptors (8 per line)
+-- the lines before the subsets, which contain `message`, the header values, octets in upper-case
+-- hexadecimal (32 per line), and descriptors (8 per line)
 abbrev pub normal_head : Form → Document → List (List ℕ)
 normal_head form d = codes "message" ∷ (header_lines 0 (header_as form d.header)
     ++ (map local1_line (runs_of 32 d.local1) ++ (map section2_line (runs_of 32 d.section2)
     ++ map descriptors_line (runs_of 8 d.descriptors))))
 
--- the line of an item, which consists of its descriptor, its value in the normal spelling and, if
--- the field is read according to a row of Table B, the comment from that row
+-- an item's line, with its descriptor, its value in normal form and, if the field is read using a
+-- Table B row, a comment with the row's name and unit
 abbrev pub normal_line : List Row → FieldSpec → Draft → List ℕ
 normal_line table spec d =
     form_text d.fxy (normal_form spec d.form)
     ++ comment_text (if spec.listed then entry_of table spec.fxy else None)
 
--- the part of an item's content that affects the walk, or `Plain` if the content is invalid
+-- the part of an item's content that affects how later fields are read, or `Plain` if the content
+-- is invalid
 abbrev pub draft_answer : FieldSpec → Result Content ItemFault → Taken
 draft_answer spec (Ok c) = answer_of spec c
 draft_answer spec (Err why) = taken.Plain
 
--- the line of an item for the next field, followed by the remaining lines
+-- the line of the item that belongs to the next field, followed by the remaining lines
 abbrev pub line_and : List Row → Next → Draft → (Taken → List (List ℕ)) → List (List ℕ)
 line_and table (take_next spec) d rest =
     normal_line table spec d ∷ rest (draft_answer spec (content_of spec d))
 line_and table _ d rest = []
 
--- the lines of a subset's items, each written for the next field of the template
+-- the lines of a subset's items, which belong to consecutive fields of the template
 abbrev pub normal_items : List Row → Course → List Draft → List (List ℕ)
 normal_items table course [] = []
 normal_items table course (d ∷ ds) = line_and table (course []) d
     (λ t. normal_items table (λ answer_of. course (t ∷ answer_of)) ds)
 
--- the lines of the given subsets, numbered from `subset`
+-- the lines of the given subsets; the first subset has number `subset`
 abbrev pub normal_subsets : List Row → Course → (subset : ℕ) → List Subset → List (List ℕ)
 normal_subsets table course n [] = []
 normal_subsets table course n (s ∷ more) =
     subset_line n ∷ (normal_items table course s.items ++ normal_subsets table course (n + 1) more)
 
--- The normal text of a document, which preserves neither the document's comments and empty lines,
--- nor leading zeros in its numbers, nor the division of its octets and descriptors into lines.
+-- The normal text of a document, which does not preserve comments, empty lines, leading zeros in
+-- numbers, or the way in which octets and descriptors are divided into lines.
 abbrev pub normal : Form → List Row → Tree → Document → List ℕ
 normal form table template d =
     text_of_lines (normal_head form d ++ (normal_subsets table (next_item table template) 1

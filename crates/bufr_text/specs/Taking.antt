@@ -47,7 +47,7 @@ meaning (said.Item fxy form) = line.ItemLine fxy (form_in form)
 meaning said.Closes = line.Closes
 meaning said.Wrong = line.Wrong
 
--- Nothing after the header of the document has been read.
+-- At most the header of the document has been read.
 pub record IsBare (d : Document) : Type 0 where
   pub local1 : d.local1 ≡ []
   pub section2 : d.section2 ≡ []
@@ -62,21 +62,21 @@ pub record HasLineGroups (d : Document) : Type 0 where
   pub no_section2 : (header_in d).optional ≡ false → d.section2 ≡ []
   pub descriptors : AllByRecursion IsDescriptorWord d.descriptors
 
--- If the value of an entry is a string, it consists of octets.
+-- If the entry's value is a string, each octet of the string is less than 256.
 abbrev pub EntryHasOctets : DraftEntry → Type 0
 EntryHasOctets (Holds item) = HasOctets item.form
 EntryHasOctets (Ends line) = Unit {0}
 
--- The document has `ended` complete subsets, and its strings consist of octets.
+-- The document has `ended` complete subsets, and its strings are valid.
 pub record HasSubsets (ended : ℕ) (d : Document) : Type 0 where
   pub texts : AllByRecursion EntryHasOctets d.entries
   pub counted : length (subsets_of d.entries) ≡ ended
 
--- The parser's state and document are possible before line `at`. Between documents, the document is
--- blank. The header is incomplete while the header lines are being read, and complete afterwards.
--- The number of the current subset is less than 65,536 and is one more than the number of complete
--- subsets. The number of entries is less than `at` because each entry has its own line. After a
--- fault, no more lines are processed.
+-- The given state and document are possible before line `at` is parsed. Between documents, the
+-- document is blank. The header is incomplete while the header lines are being read, and complete
+-- afterwards. The number of the current subset is less than 65,536 and is one more than the number
+-- of complete subsets. The number of entries is less than `at` because each entry has its own line.
+-- After a fault, no more lines are processed.
 abbrev pub IsParsing : (at : ℕ) → Parsing → Type 0
 IsParsing at (Between, d) = d ≡ blank 0
 IsParsing at (Heading, d) = (length d.header < 20)
@@ -89,8 +89,8 @@ IsParsing at (Filling subset, d) =
     × ((ended : ℕ) × (subset ≡ ended + 1) × HasSubsets ended d)
 IsParsing at (Stopped, d) = ⊥
 
--- The line before line `at` can have the given effect. A completed document is proper and has fewer
--- than `at` entries.
+-- The given effect is possible for line `at` - 1. A completed document is valid and has fewer than
+-- `at` entries.
 abbrev pub IsLineStep : (at : ℕ) → LineStep → Type 0
 IsLineStep at (Continues state, d) = IsParsing at (state, d)
 IsLineStep at (Completes, d) = IsProper d × (length d.entries < at)
@@ -120,7 +120,8 @@ pub record TakesLines (old new : Progress) (held : List ℕ) (offset : ℕ)
   pub passes : TakesWholeLines old.at held new.at (drop offset held)
   pub closes : effect ≡ Completes → TakesEndLine old.at held new.at (drop offset held)
 
--- The buffered lines before `offset` were processed, and none of them gave a result.
+-- The buffered lines before `offset` were processed, and none completed a document or contained a
+-- fault.
 pub record IsTaking (old new : Progress) (held : List ℕ) (offset : ℕ) : Type 0 where
   pub goes : (ended : Bool) → ContinuesParse (position_with old.at (parsing_of old) held ended)
       (position_with new.at (parsing_of new) (drop offset held) ended) []
@@ -130,8 +131,8 @@ pub record IsTaking (old new : Progress) (held : List ℕ) (offset : ℕ) : Type
   pub near : new.at ≤ old.at + offset
   pub passes : TakesWholeLines old.at held new.at (drop offset held)
 
--- Buffered lines were processed and gave no result. The next line is completely buffered, and it
--- adds to the document.
+-- Buffered lines were processed, and none completed a document or contained a fault. The buffer
+-- contains the whole next line, and processing this line extends the document.
 pub record WantsAt (old : Progress) (held : List ℕ) : Type 0 where
   pub progress : Progress
   pub offset : ℕ
@@ -142,7 +143,7 @@ pub record WantsAt (old : Progress) (held : List ℕ) : Type 0 where
   pub single : has_no_feed line ≡ true
   pub adds_to : adds progress.state (read_line line) ≡ true
 
--- ---- The steps of a reader.
+-- ---- The state of a reader, and the results of processing lines and reading octets.
 
 -- whether the list of octets is empty or ends with a line feed
 abbrev pub ends_by_feed : List ℕ → Bool
@@ -150,7 +151,7 @@ ends_by_feed [] = true
 ends_by_feed (c ∷ []) = c == 10
 ends_by_feed (c ∷ d ∷ more) = ends_by_feed (d ∷ more)
 
--- A reader without a fault can have made the given progress. The number of reads limits the line
+-- The given progress is possible for a reader without a fault. The number of reads limits the line
 -- number because each line has at least one octet.
 pub record IsProgress (progress : Progress) (held reads : ℕ) : Type 0 where
   pub holds : IsParsing progress.at (parsing_of progress)
@@ -165,12 +166,12 @@ IsReader fault progress input = (length input.held ≤ 2 * max_line) × (input.r
     × (fault ≡ None → IsProgress progress (length input.held) input.reads)
     × (0 < input.reads → 2 * max_line ≤ input.room)
 
--- Buffered lines were processed, with the given results.
+-- Processing buffered lines produced the given results.
 pub record ParsesHeldLines (old new : ReaderModel) (results : List ParseResult) : Type 0 where
   pub goes : ContinuesParse (position_of old) (position_of new) results
   pub passes : TakesWholeLines old.at old.held new.at new.held
 
--- Buffered lines were processed and gave no result, and the next line adds to the document.
+-- Processing buffered lines produced no result, and processing the next one extends the document.
 pub record WantsHere (old : ReaderModel) : Type 0 where
   pub mid : ReaderModel
   pub taken : ParsesHeldLines old mid []
@@ -178,7 +179,7 @@ pub record WantsHere (old : ReaderModel) : Type 0 where
   pub reads : mid.reads ≡ old.reads
   pub next : AddsNext mid
 
--- Processing the buffered lines had the given result.
+-- Processing the buffered lines produced the given result.
 abbrev pub TakesHeldLines : ReaderModel → ReaderModel → Result (Option Document) ReadFault → Type 0
 TakesHeldLines old new (Ok None) = ParsesHeldLines old new [] × (new.fault ≡ None)
     × (has_no_feed new.held ≡ true)
@@ -198,8 +199,8 @@ abbrev pub text_input : ReaderModel → List ℕ → InputModel
 text_input s held =
     record { held = held; ended = s.ended; reads = s.reads; room = 0; free = s.free; gap = 0 }
 
--- One read appended octets to the buffer or, at the end of the input, a line feed if the last line
--- lacked one. Memory runs out only before the first read.
+-- One read appended octets to the buffer or, at the end of the input, the line feed that the last
+-- line lacked. Memory can run out only before the first read.
 pub record ReadsMoreText (left left' : Option (List ℕ)) (old new : ReaderModel)
     (result : Result (Unit {0}) RunFault) (bs : List ℕ) : Type 0 where
   pub fills : FillsInput left left' (text_input old old.held) (text_input new (old.held ++ bs))
@@ -213,13 +214,13 @@ pub record ReadsMoreText (left left' : Option (List ℕ)) (old new : ReaderModel
   pub parsing : new.parsing ≡ old.parsing
   pub fault : new.fault ≡ None
 
--- a reader that was stopped by a fault; after an invalid line, it reports nothing more
+-- a reader that was stopped by a fault; a fault in a line also stops the parser
 abbrev pub stopped : ReaderModel → ReadFault → ReaderModel
 stopped s (Run fault) = record s { fault = Some (Run fault) }
 stopped s (Line line fault) =
     record s { fault = Some (Line line fault); parsing = (Stopped, s.parsing.1) }
 
--- One read was made, and if it failed, its fault stopped the reader.
+-- One read was made, or a fault occurred. After a fault, the reader stopped.
 abbrev pub FillsBuffer : (left left' : Option (List ℕ)) → ReaderModel → ReaderModel
     → Result (Unit {0}) ReadFault → List ℕ → Type 0
 FillsBuffer left left' old new (Ok u) bs = ReadsMoreText left left' old new (Ok u) bs

@@ -1,5 +1,5 @@
-//! Shared lines, which are the same in every subset of a compressed message. Shared lines are
-//! formatted once per message.
+//! Dump lines that are the same in every subset of a compressed message, and are formatted only
+//! once. Not all such lines are collected (see [`AlikeLines::gather`]).
 ghost use Rattle.std.specs.Prelude.{◌≡◌, ◌≤◌, ◌<◌, ◌*◌, List, [], Ok, true, length, IfOk};
 ghost use Rattle.bufr_tables.specs.Prelude.{Row, places};
 ghost use Rattle.bufr_text.specs.Prelude.{PushesCall, item_lines, PushesAlike, AreStretches, AreGathered};
@@ -11,18 +11,18 @@ use bufr_frame::RunFault;
 use bufr_walk::{PackedItems, Reading, ShowFault, SpecCache, Steps, Visitor};
 use std::alloc::Global;
 
-/// The number of octets reserved for one line. A line has at most 2,061 octets, including up to 4 *
-/// 255 for a string value and up to 512 each for a name and a unit.
+/// The number of octets reserved for one line. A line is at most 2,061 octets long, including up to
+/// 4 * 255 octets for a string and up to 512 octets each for the name and the unit.
 const LINE: usize = 2_560;
 
-/// The maximum total length, in octets, of the shared lines of a message.
+/// The maximum combined length, in octets, of a message's shared lines.
 pub(crate) const TEXT: usize = 16_384;
 
-/// The maximum number of stretches in a message, not counting the last one.
+/// The maximum number of [`Stretch`]es per subset, not counting the last one.
 const MAX_STRETCHES: usize = 1_024;
 
-/// A part of each subset, which consists of shared lines followed by the items whose indices are in
-/// `from..to`. The shared lines end at index `end` of the shared text.
+/// A part of a subset, consisting of shared lines followed by other items. The lines end at index
+/// `end` of the shared text, and the items are at indices `from..to`.
 #[derive(Clone, Copy)]
 pub(crate) struct Stretch {
     end: usize,
@@ -30,8 +30,8 @@ pub(crate) struct Stretch {
     to: usize,
 }
 
-/// Returns whether more than an eighth of the items are the same in every subset. If fewer items
-/// are the same, it is not worth gathering their lines.
+/// Returns whether more than an eighth of the items are the same in every subset. If only a few
+/// items are the same, collecting their lines is not worth the effort.
 fn are_enough_alike(items: &PackedItems<'_, '_>) -> bool {
     let mut alike: usize = 0;
     'items: for index in 0..items.len() {
@@ -42,9 +42,9 @@ fn are_enough_alike(items: &PackedItems<'_, '_>) -> bool {
     alike > items.len() / 8
 }
 
-/// Pushes the lines of consecutive items, starting at index `from`. Stops at the first item that
-/// may differ between subsets, or once at least `room` octets are buffered. Returns the index at
-/// which the function stopped.
+/// Pushes the lines of consecutive items, starting at index `from`. Stops at the first item whose
+/// value may differ between subsets, or when at least `room` octets are buffered. Returns the index
+/// after the last item pushed.
 fn push_alike(
     items: &PackedItems<'_, '_>,
     from: usize,
@@ -64,8 +64,8 @@ fn push_alike(
     Ok(to)
 }
 
-/// Skips the item at index `from` and any items directly after it that may differ between subsets.
-/// Returns the index of the next item.
+/// Skips the item at index `from` and any items directly after it whose values may differ between
+/// subsets. Returns the index of the next item.
 fn skip_different(items: &PackedItems<'_, '_>, from: usize) -> usize
     requires { from < length items.now.items }
     ensures more { from < result }
@@ -79,7 +79,7 @@ fn skip_different(items: &PackedItems<'_, '_>, from: usize) -> usize
     to
 }
 
-/// Pushes lines that have already been formatted for a subset's items.
+/// Pushes item lines that have already been formatted.
 #[inline(always)]
 fn push_made<W: Sink>(
     text: &[u8],
@@ -101,8 +101,9 @@ fn push_made<W: Sink>(
     }
 }
 
-/// The shared lines of a message (at most 16,384 octets) and the stretches of its subsets (at most
-/// 1,025). If no lines were gathered, there are no stretches.
+/// The shared lines of a message (at most 16,384 octets) and the [`Stretch`]es that make up each
+/// subset (at most 1,025). `stretches` is empty if the data are not compressed, if there are no
+/// subsets, or if memory ran out.
 #[derive(Drop)]
 pub(crate) struct AlikeLines {
     text: Vec<u8>,
@@ -119,8 +120,8 @@ impl AlikeLines {
     }
 
     /// Replaces the shared lines with those of another message. The new lines are formatted in
-    /// `block`. If few items are the same in every subset, a single stretch contains all items. If
-    /// memory runs out, there are no stretches.
+    /// `block`. If too few items are the same in every subset, or if there is only one subset, a
+    /// single [`Stretch`] contains all items. If memory runs out, `stretches` is left empty.
     #[inline(never)]
     pub(crate) fn gather(&mut self, reading: &Reading<'_>, block: &mut [u8])
         ensures gathered { AreGathered reading.now self.new.text.items self.new.stretches.items }
@@ -142,7 +143,7 @@ impl AlikeLines {
         }
     }
 
-    /// Gathers the shared lines of the given items. Returns `false` if memory ran out.
+    /// Collects the shared lines of the given items. Returns `false` if memory runs out.
     fn gather_items(&mut self, items: &PackedItems<'_, '_>, room: usize, block: &mut [u8]) -> bool
         requires some { 0 < items.now.subsets }
         requires text { self.old.text.items ≡ [] }
@@ -223,8 +224,8 @@ impl AlikeLines {
         Ok(())
     }
 
-    /// Pushes the lines of a `Reading`, as [`Reading::show_by`] does with `lines` as its visitor,
-    /// but uses the shared lines gathered for this `Reading`.
+    /// Like [`Reading::show_by`] with `lines` as the visitor, but does not format the shared lines
+    /// of `reading` again.
     pub(crate) fn show<W: Sink>(
         &self,
         reading: &Reading<'_>,

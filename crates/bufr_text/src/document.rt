@@ -45,8 +45,7 @@ impl Model for DocumentParts {
 }
 
 impl DocumentParts {
-    /// Creates a document of which only the `message` line has been read. `line` is the number of
-    /// that line.
+    /// Creates an empty document. `line` is the line number of its `message` line.
     pub(crate) fn blank(alloc: Global, line: u64) -> DocumentParts
         ensures { result ≡ blank line }
     {
@@ -86,13 +85,12 @@ impl DocumentParts {
     }
 }
 
-/// The parsed dump of one message, which consists of the header, the octets for local use, the
-/// descriptors, and the items of all subsets in order. The items have not been checked yet. When
-/// the document is encoded, the encoder checks whether the items match the descriptors and whether
-/// their numbers fit.
+/// The parsed dump of one message. It contains the header, the octets for local use, the octets of
+/// section 2, the descriptors, and the items of all subsets in order. The items are not checked
+/// until the document is encoded. Encoding fails if an item does not match the descriptors or if a
+/// value does not fit in its field.
 ///
-/// Only a [`crate::DumpReader`] creates documents. In contracts, a document is represented by the
-/// information in its lines.
+/// Documents are created only by [`crate::DumpReader`].
 #[derive(Drop)]
 pub struct Document {
     pub(crate) parts: DocumentParts,
@@ -110,14 +108,15 @@ impl Model for Document {
 }
 
 impl Document {
-    /// Returns the number of the `message` line. Lines are numbered from 1.
+    /// Returns the line number (counted from 1) of the document's `message` line.
     pub fn line(&self) -> u64
         ensures { result ≡ self.now.line }
     {
         self.parts.line
     }
 
-    /// Returns the value of a header key whose values fit in one octet in both editions.
+    /// Returns the value of a header key as an octet. The key must not allow values greater than
+    /// 255.
     #[tactic(auto, using(crate::proofs::HeaderLemmas::octet_steps))]
     fn octet(&self, key: usize) -> u8
         requires key { key < 20 }
@@ -127,8 +126,8 @@ impl Document {
         self.parts.value(key) as u8
     }
 
-    /// Returns the edition (3 or 4) and the values of section 1. These values can always be written
-    /// to a message.
+    /// Returns the edition (3 or 4) and the values of section 1. Every value fits in its field in
+    /// that edition.
     #[tactic(auto, unfolding(crate::specs::Line::mosts))]
     pub fn head(&self) -> Head
         ensures value { result ≡ (header_in self.now).head }
@@ -154,7 +153,7 @@ impl Document {
         }
     }
 
-    /// Returns whether the data are observed data (octet 7 of section 3, bit 1).
+    /// Returns whether the document contains observed data (octet 7 of section 3, bit 1).
     pub fn observed(&self) -> bool
         ensures { result ≡ (header_in self.now).observed }
     {
@@ -182,8 +181,7 @@ impl Document {
         &self.parts.local1
     }
 
-    /// Returns the octets of the document's section 2, starting at octet 5, or `None` if the
-    /// document has no section 2.
+    /// Returns section 2 from octet 5 onward, or `None` if the document has no section 2.
     pub fn section2(&self) -> Option<&[u8]>
         ensures { option_map (λ octets. octets.now) result ≡ section2_in self.now }
     {
@@ -201,8 +199,7 @@ impl Document {
         &self.parts.descriptors
     }
 
-    /// Returns the number of entries. Each item of a subset is one entry, and so is the end of each
-    /// subset.
+    /// Returns the number of entries, each of which is an item or marks the end of a subset.
     pub fn entries(&self) -> usize
         ensures value { result ≡ length self.now.entries }
         ensures few { result ≤ most_entries }
@@ -210,8 +207,7 @@ impl Document {
         self.parts.entries.len()
     }
 
-    /// Returns the entries, which are the items and the ends of all subsets, each with its line
-    /// number.
+    /// Returns the entries (items and subset ends), along with their line numbers.
     pub(crate) fn items(&self) -> &Entries
         ensures same { result.now ≡ self.now.entries }
         ensures few { length result.now ≤ most_entries }
@@ -221,7 +217,7 @@ impl Document {
     }
 }
 
-/// The groups of lines between the header and the subsets, in the order in which they occur.
+/// The groups of lines between the header and the subsets, in the order in which they appear.
 #[derive(Clone, Copy)]
 pub(crate) enum LineGroup {
     Local1,
@@ -229,16 +225,16 @@ pub(crate) enum LineGroup {
     Descriptors,
 }
 
-/// The state of the parser of dump text.
+/// The state of the parser that reads dump text.
 #[derive(Clone, Copy)]
 pub(crate) enum ParserState {
     /// The parser is between documents.
     Between,
-    /// The parser is within the header lines.
+    /// The parser is reading header lines.
     Heading,
-    /// The parser is in this group of lines, between the header lines and the first subset.
+    /// The parser is reading this group of lines between the header and the first subset.
     BeforeSubsets(LineGroup),
-    /// The parser is within the subset with this number.
+    /// The parser is reading the subset with this number.
     Filling(u32),
     /// A line was invalid, and the remaining text is ignored.
     Stopped,
@@ -255,8 +251,8 @@ pub(crate) enum LineEffect {
     Refuses(TextLineFault),
 }
 
-/// Returns the effect of a `subset` line that follows `read` subsets. `subset` is the number on the
-/// line.
+/// Returns the effect of a `subset` line after `read` subsets have been read. `subset` is the
+/// number on the line.
 // rule: reading-subsets, fault-57
 fn beginning(parts: &DocumentParts, read: u32, subset: u32) -> LineEffect
     requires { read < 65536 }
@@ -269,7 +265,7 @@ fn beginning(parts: &DocumentParts, read: u32, subset: u32) -> LineEffect
     }
 }
 
-/// Returns the effect of an `end` line that follows `read` subsets.
+/// Returns the effect of an `end` line after `read` subsets have been read.
 // rule: reading-subsets, fault-57
 fn closing(parts: &DocumentParts, read: u32) -> LineEffect
     ensures { result ≡ closing read parts.now }
@@ -281,8 +277,8 @@ fn closing(parts: &DocumentParts, read: u32) -> LineEffect
     }
 }
 
-/// Adds a line to the document being read, and returns the line's effect on a parser in the given
-/// state.
+/// Adds a line to the document being read. Returns the effect of the line when the parser is in the
+/// given state.
 #[tactic(auto, unfolding(crate::specs::Documents::line_step))]
 // rule: fault-50, fault-61, fault-order-of-a-line, reading-header-order, reading-section2
 // rule: reading-subset-end, reading-between-documents
@@ -367,8 +363,7 @@ pub(crate) fn line_step(
     Ok(effect)
 }
 
-/// The progress of the parser, which consists of its state, the next line number, and the document
-/// being built.
+/// The state of the parser, the number of the next line, and the document being built.
 #[derive(Drop)]
 pub(crate) struct Progress {
     pub(crate) state: ParserState,
@@ -377,8 +372,8 @@ pub(crate) struct Progress {
     pub(crate) parts: DocumentParts,
 }
 
-/// Processes one complete line. Most lines are items with a short decimal number or a missing
-/// value, so the function first tries to parse such an item.
+/// Processes one complete line. Most lines contain an item whose value is a short decimal number or
+/// is missing, so this case is tried first.
 #[inline(always)]
 // rule: reading-longest-line
 fn take_line(
@@ -411,8 +406,7 @@ fn take_line(
 }
 
 /// Processes complete lines from `held`, stopping after the first line that completes a document or
-/// is invalid. Returns the number of octets in the processed lines, and the effect of the last of
-/// those lines.
+/// is invalid. Returns the number of octets processed, along with the effect of the last line.
 // rule: reading-line-numbers
 pub(crate) fn take_lines(
     progress: &mut Progress,

@@ -1,4 +1,4 @@
-//! The dump of a message, with the lines before the subsets and one line for each item.
+//! Functions that write the dump of a message.
 ghost use Rattle.std.specs.Prelude.{◌≡◌, ◌++◌, [], ◌∷◌, drop, map, take, unwrap_or, ◌≤◌, ◌*◌, vec_len, OnOk};
 ghost use Rattle.bufr_frame.specs.Prelude.{words_left};
 ghost use Rattle.bufr_text.specs.Prelude.{descriptors_line, head_lines, text_of_lines, dump_value_of, form_text, item_text, dump_text_of, dump_items, descriptors_text, hex_text, runs_of, Pushes, CountsFaults, MakesSteps, WritesPrefix, PushesCall, AreGathered};
@@ -20,8 +20,8 @@ const OCTETS: usize = 32;
 /// The maximum number of descriptors in one `descriptors` line.
 const DESCRIPTORS: usize = 8;
 
-/// Pushes lines that each contain a word followed by octets in hexadecimal. Each line contains 32
-/// octets, except that the last line may contain fewer.
+/// Pushes octets in hexadecimal, on lines that begin with `word`. Every line except the last
+/// contains exactly 32 octets.
 #[inline(always)]
 // rule: text-local1
 fn push_octet_lines<W: Sink>(lines: &mut LineWriter<'_, '_, W>, word: &[u8], octets: &[u8])
@@ -39,8 +39,7 @@ fn push_octet_lines<W: Sink>(lines: &mut LineWriter<'_, '_, W>, word: &[u8], oct
     }
 }
 
-/// Pushes the descriptors of one line, each preceded by a space. The line contains the next eight
-/// descriptors, or all remaining descriptors if fewer than eight remain.
+/// Pushes up to eight descriptors from `words`, each preceded by a space.
 fn push_descriptors<W: Sink>(lines: &mut LineWriter<'_, '_, W>, words: &mut Words<'_>)
     ensures pushes { Pushes lines.old (descriptors_text (take 8 (words_left words.old))) lines.new }
     ensures words { words_left words.new ≡ drop 8 (words_left words.old) }
@@ -54,8 +53,8 @@ fn push_descriptors<W: Sink>(lines: &mut LineWriter<'_, '_, W>, words: &mut Word
     }
 }
 
-/// Pushes the lines that list the descriptors. Each line contains eight descriptors, except that
-/// the last line may contain fewer.
+/// Pushes the lines that list the descriptors. Every line except the last contains exactly eight
+/// descriptors.
 // rule: text-descriptors
 fn push_descriptor_lines<W: Sink>(lines: &mut LineWriter<'_, '_, W>, message: &Message<'_>)
     ensures { Pushes lines.old
@@ -104,8 +103,8 @@ pub(crate) fn push_head_lines<W: Sink>(lines: &mut LineWriter<'_, '_, W>, messag
     push_descriptor_lines(lines, message);
 }
 
-/// Pushes a descriptor followed by a space. If `entry` is the table entry for the descriptor, the
-/// text is copied from the entry.
+/// Pushes a descriptor followed by a space. If `entry` is the Table B entry for the descriptor, the
+/// text is copied from that entry.
 #[inline(always)]
 fn push_descriptor<W: Sink>(lines: &mut LineWriter<'_, '_, W>, fxy: Fxy, entry: Option<Entry<'_>>)
     ensures { Pushes lines.old (fxy_text fxy ++ 32 ∷ []) lines.new }
@@ -119,8 +118,8 @@ fn push_descriptor<W: Sink>(lines: &mut LineWriter<'_, '_, W>, fxy: Fxy, entry: 
     }
 }
 
-/// Pushes an item without its comment. The descriptor and the value are pushed, with `R ` before
-/// them if the item is a redefined reference value.
+/// Pushes the descriptor and the value of an item. For a redefined reference value, `R ` is pushed
+/// first.
 #[inline(always)]
 // rule: text-missing, text-number, text-reference
 fn push_any_form<W: Sink>(
@@ -154,7 +153,7 @@ fn push_any_form<W: Sink>(
     }
 }
 
-/// Pushes the line of an item of any kind, with its descriptor, value and comment.
+/// Pushes the complete line for an item of any kind.
 #[inline(never)]
 // rule: text-comment
 fn push_any_item<W: Sink>(
@@ -175,7 +174,7 @@ fn push_any_item<W: Sink>(
 }
 
 /// State that is reused between messages dumped with the same table, such as cached field specs and
-/// a block in which lines are collected.
+/// a buffer for lines.
 ///
 /// ```
 /// let mut memory = DumpMemory::new(alloc, &table_b);
@@ -183,18 +182,19 @@ fn push_any_item<W: Sink>(
 /// ```
 #[derive(Drop)]
 pub struct DumpMemory<'t> {
-    /// The allocator that dumps use.
+    /// The allocator used for dumps.
     pub alloc: Global,
-    /// The cached field specs for the cells of a template.
+    /// The cached field specs, which describe how to read the fields of a template.
     pub specs: SpecCache<'t>,
-    /// The block in which lines are collected. The block is empty until the first dump.
+    /// The block in which lines are buffered. The block is empty until the first dump.
     block: Vec<u8>,
     /// The lines shared by all subsets of the last message.
     alike: AlikeLines,
 }
 
 impl<'t> DumpMemory<'t> {
-    /// Creates an empty state for dumps with `table`. This function does not allocate.
+    /// Creates an empty `DumpMemory` for dumping messages with `table`. This function does not
+    /// allocate.
     pub fn new(alloc: Global, table: &'t TableB) -> DumpMemory<'t>
         ensures { result.specs ≡ table.now }
     {
@@ -206,7 +206,7 @@ impl<'t> DumpMemory<'t> {
         }
     }
 
-    /// Resizes the block to make room for lines.
+    /// Resizes the block to 81,920 octets.
     fn make_room(&mut self) -> Result<(), AllocError>
         ensures same { self.new.specs ≡ self.old.specs }
         ensures block { OnOk result (vec_len self.new.block ≡ 81920) }
@@ -214,7 +214,7 @@ impl<'t> DumpMemory<'t> {
         self.block.resize(PAGE + TEXT, 0)
     }
 
-    /// Makes room for lines in the block, and gathers the shared lines of a `Reading`.
+    /// Prepares to dump `reading` by resizing the block and collecting the shared lines.
     fn prepare(&mut self, reading: &Reading<'_>) -> Result<(), AllocError>
         ensures same { self.new.specs ≡ self.old.specs }
         ensures gathered { OnOk result (AreGathered reading.now self.new.alike.text.items
@@ -266,11 +266,12 @@ impl<'b, 'w, W: Sink> Visitor for LineWriter<'b, 'w, W> {
 
 /// Writes the dump of a message, which consists of the header, the octets for local use, section 2,
 /// the descriptors, the subsets with one line for each item, and an `end` line. If an item was read
-/// using an entry of Table B, its line ends with the name and unit of that entry as a comment.
+/// using a Table B entry, its line ends with a comment that contains the name and unit from that
+/// entry.
 ///
-/// Lines are collected in a block. Every write ends at the end of a line. The block is written when
-/// it contains at least 65,536 octets, and at the end of the dump. Like [`Reading::show`], this
-/// function sets `steps` to the number of steps in the walks over the template.
+/// Lines are buffered, and are written when at least 65,536 octets have accumulated and at the end
+/// of the dump. Every write ends at a line boundary. Like [`Reading::show`], sets `steps` to the
+/// number of steps taken to walk the template.
 ///
 /// ```
 /// let reading = read_message(alloc, &message, &template, &table, &mut steps)?;
@@ -294,7 +295,7 @@ pub fn write_dump<W: Sink>(
     ensures writes { WritesPrefix (W.taken w.old) (W.taken w.new) (dump_text_of message.now
         (dump_items reading.now.table reading.now.source.subsets (values_read reading.now)))
         result }
-    // If the result is `Ok`, `steps` counts all steps of the walks over the template. Otherwise,
+    // If the result is `Ok`, `steps` counts all steps taken to walk the template. Otherwise,
     // `steps` counts either the steps before a call to the visitor, or all steps.
     ensures steps { MakesSteps (calls_of reading.now) (turns_shown reading.now) result steps.new }
     ensures counts { CountsFaults (W.failures w.old) (W.failures w.new) (W.empty_writes w.old)
@@ -306,8 +307,8 @@ pub fn write_dump<W: Sink>(
     write_dump_by(&mut memory, message, reading, steps, w)
 }
 
-/// Writes the dump of a message as [`write_dump`] does, but reuses state from earlier messages.
-/// `memory` must have been created for the table that `reading` uses.
+/// Like [`write_dump`], but reuses state from earlier messages. `memory` must have been created for
+/// the table that `reading` uses.
 ///
 /// # Errors
 ///
@@ -328,7 +329,7 @@ pub fn write_dump_by<W: Sink>(
     ensures writes { WritesPrefix (W.taken w.old) (W.taken w.new) (dump_text_of message.now
         (dump_items reading.now.table reading.now.source.subsets (values_read reading.now)))
         result }
-    // If the result is `Ok`, `steps` counts all steps of the walks over the template. Otherwise,
+    // If the result is `Ok`, `steps` counts all steps taken to walk the template. Otherwise,
     // `steps` counts either the steps before a call to the visitor, or all steps.
     ensures steps { MakesSteps (calls_of reading.now) (turns_shown reading.now) result steps.new }
     ensures counts { CountsFaults (W.failures w.old) (W.failures w.new) (W.empty_writes w.old)

@@ -1,4 +1,4 @@
-//! A reader that returns the documents in an input one at a time.
+//! A reader that splits dump text into documents.
 ghost use Rattle.std.specs.Prelude.{◌≡◌, ◌≢◌, ◌≤◌, ◌<◌, ◌-◌, ◌*◌, ℕ, List, None, Some, Err, true, false, length, max, IfSome, IfOk};
 ghost use Rattle.bufr_text.specs.Prelude.{max_line, IsProper, has_no_feed, ReaderModel, new_reader, unfed, ReturnsNextDocument, failures_by, TakesHeldLines, GivesHeldDocument, FillsBuffer, ReadsMoreText, stopped, text_input};
 ghost use Rattle.bufr_bits.specs.Prelude.{counted};
@@ -14,10 +14,10 @@ use std::marker::Model;
 
 /// A reader that returns the documents in dump text, one after another.
 ///
-/// The reader reads more input only if no complete line is buffered, so it returns each document
-/// before it reads the next one. Each read requests at most 4,096 octets, and at most 8,192 octets
-/// are buffered. Apart from this buffer, the reader allocates memory only for the document. To
-/// reuse that memory, pass the document to [`DumpReader::reuse`].
+/// The reader requests more input only if no complete line is buffered, so it returns each document
+/// without waiting for the next one. Each read requests at most 4,096 octets, and at most 8,192
+/// octets are buffered. Apart from its buffer, the reader allocates memory only for the document
+/// that it is reading. To reuse a document's memory, pass the document to [`DumpReader::reuse`].
 ///
 /// ```
 /// let mut reader = DumpReader::new(rt.alloc());
@@ -32,9 +32,9 @@ pub struct DumpReader {
     /// The octets that have been read but not yet processed. At the end of input, a line feed is
     /// added if the last line has none.
     input: InputBuffer,
-    /// The octets decoded from the hexadecimal digits or the quoted string in a line.
+    /// A buffer for octets decoded from hexadecimal digits or from a quoted string.
     scratch: [u8; MAX_LINE],
-    /// The state of the parser after the lines processed so far.
+    /// The current state of the parser.
     progress: Progress,
     /// The fault that stopped the reader.
     fault: Option<ReadFault>,
@@ -61,7 +61,7 @@ impl Model for DumpReader {
 }
 
 impl DumpReader {
-    /// Creates a reader that has read nothing yet. This function does not allocate.
+    /// Creates a reader that has not read any input yet. This function does not allocate.
     pub fn new(alloc: Global) -> DumpReader
         ensures { result ≡ new_reader }
     {
@@ -78,9 +78,9 @@ impl DumpReader {
         }
     }
 
-    /// Reuses the memory of a document for later documents, which saves one allocation per
-    /// document. Nothing else changes. If another document is being read, or if a fault has
-    /// occurred, the memory is freed instead.
+    /// Reuses the memory of a document for later documents, which saves allocations. Nothing else
+    /// changes. If another document is being read, or if a fault has occurred, the memory is freed
+    /// instead.
     pub fn reuse(&mut self, document: Document)
         ensures { self.new ≡ self.old }
     {
@@ -105,7 +105,7 @@ impl DumpReader {
         }
     }
 
-    /// Stops the reader, so that every later call returns the given fault.
+    /// Stops the reader and returns `fault`. Every later attempt to read returns the same fault.
     fn stop(&mut self, fault: ReadFault) -> ReadFault
         requires { self.old.fault ≡ None }
         ensures new { self.new ≡ stopped self.old fault }
@@ -119,7 +119,7 @@ impl DumpReader {
         fault
     }
 
-    /// Processes the buffered lines, up to the end of a document.
+    /// Processes buffered lines, stopping at the end of a document.
     fn take_held(&mut self) -> Result<Option<Document>, ReadFault>
         requires sound { self.old.fault ≡ None }
         ensures went { TakesHeldLines self.old self.new result }
@@ -152,8 +152,8 @@ impl DumpReader {
         }
     }
 
-    /// Reads once, and appends the octets to the buffer. At the end of input, adds a line feed to
-    /// an incomplete last line.
+    /// Performs one read and appends the octets to the buffer. At the end of input, adds a line
+    /// feed to an incomplete last line.
     #[tactic(auto, using(crate::proofs::ReaderLemmas::more_steps))]
     // rule: reading-last-line
     fn fill<R: Source>(&mut self, r: &mut R) -> Result<(), RunFault>
@@ -181,9 +181,8 @@ impl DumpReader {
         Ok(())
     }
 
-    /// Returns the next document, as [`DumpReader::next_document`] does, if the buffered lines
-    /// complete it. Returns `None` if a read is needed first ([`DumpReader::read_more`]). A read is
-    /// needed if no complete line is buffered and the end of input has not been reached.
+    /// Like [`DumpReader::next_document`], but never reads. If more input is needed, returns
+    /// `None`; call [`DumpReader::read_more`] to read it.
     #[inline(never)]
     pub fn next_held(&mut self) -> Option<Result<Option<Document>, ReadFault>>
         ensures gives { self.old.fault ≡ None → GivesHeldDocument self.old self.new result }
@@ -221,8 +220,8 @@ impl DumpReader {
         None
     }
 
-    /// Reads once from `r`, which must be the same input in every call. Call this function after
-    /// [`DumpReader::next_held`] has returned `None`.
+    /// Performs one read from `r`, which must be the same input in every call. Call this function
+    /// after [`DumpReader::next_held`] has returned `None`.
     ///
     /// # Errors
     ///
@@ -262,22 +261,21 @@ impl DumpReader {
     }
 
     /// Returns the next document from `r`, which must be the same input in every call. Returns
-    /// `None` once the end of input has been reached and no lines remain; every later call also
-    /// returns `None`. Each document agrees with its header. The document has exactly the declared
-    /// number of subsets, nothing follows the subsets, and section 2 octets are present only if the
-    /// header declares a section 2.
+    /// `None` once all the input has been processed; every later call also returns `None`. Each
+    /// document has as many subsets as its header declares, ends after the last subset, and has
+    /// section 2 octets only if the header declares a section 2.
     ///
     /// # Errors
     ///
-    /// [`ReadFault::Line`] if the next document is invalid. [`ReadFault::Run`] with one of the
+    /// [`ReadFault::Line`] if the next document is invalid, or [`ReadFault::Run`] with one of the
     /// following faults:
     ///
     /// - [`RunFault::Read`] if a read fails;
     /// - [`RunFault::InputTooLong`] if the end of input is not reached within 2^32 reads;
-    /// - [`RunFault::Memory`] if a document cannot grow to store a buffered line, or if the buffer
-    ///   cannot be allocated before the first read.
+    /// - [`RunFault::Memory`] if memory runs out while a line is being added to a document, or if
+    ///   the buffer cannot be allocated before the first read.
     ///
-    /// All complete documents before the fault are returned first. After a fault, every call
+    /// Complete documents that precede the fault are returned first. After a fault, every call
     /// returns the same fault and reads nothing.
     // rule: fault-50, input-ends-early
     pub fn next_document<R: Source>(&mut self, r: &mut R) -> Result<Option<Document>, ReadFault>

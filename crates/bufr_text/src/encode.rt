@@ -1,4 +1,4 @@
-//! Functions that encode documents as messages in a selected form.
+//! Functions that encode documents as messages, in plain or compressed form.
 ghost use Rattle.std.specs.Prelude.{ℕ, ◌≡◌, ◌≢◌, ◌≤◌, ◌*◌, ◌+◌, ◌^◌, List, Bool, length, IfOk, IfErr, OnOk, OnErr, Ok, false, true};
 ghost use Rattle.bufr_tables.specs.Prelude.{Tree, places, Record, AreRows, tree_of, tables_of};
 ghost use Rattle.bufr_frame.specs.Prelude.{Sections};
@@ -14,8 +14,7 @@ use bufr_tables::{Fxy, TableB, TableD, Template, TemplateFault};
 use bufr_walk::{SpecCache, Steps, TemplateCache, WalkStop, walk_by};
 use std::alloc::{AllocError, Global};
 
-/// Converts the reason why a walk stopped into a fault. `line` is the line number of the next
-/// entry.
+/// Converts a [`WalkStop`] into a fault. `line` is the line number of the next entry.
 // rule: fault-62
 fn of_stop(stop: WalkStop<DraftFault>, line: u64) -> DraftFault
     ensures { result ≡ stop_fault line stop }
@@ -40,7 +39,8 @@ fn descriptors_of(alloc: Global, words: &[u16]) -> Result<Vec<Fxy>, AllocError>
     Ok(descriptors)
 }
 
-/// Encodes entries as plain data with the given number of subsets. Returns the encoded octets.
+/// Encodes the given number of subsets as plain data. `entries` contains their items. Returns the
+/// encoded octets.
 fn write_plain(
     template: &Template,
     entries: &Entries,
@@ -92,7 +92,7 @@ fn write_packed(
     }
 }
 
-/// Encodes the data of a document in the given form, using the template that was selected for it.
+/// Encodes the data of a document in the given form, using the template selected in `templates`.
 /// Returns the encoded octets.
 // rule: form-option, fault-56
 fn write_data(
@@ -121,7 +121,8 @@ fn write_data(
     }
 }
 
-/// Builds the message for a document. `payload` contains the data, encoded in the given form.
+/// Builds the message for a document. `payload` contains the data, already encoded in the given
+/// form.
 // rule: writes-local-use, fault-60
 fn write_whole(
     alloc: Global,
@@ -156,9 +157,9 @@ fn write_whole(
     }
 }
 
-/// Encodes a document as a message in the given form, using the tables of `templates`. The result
-/// is the same as that of [`encode_form`]. Because `templates` caches the most recent templates,
-/// this function is faster if many documents have the same descriptors.
+/// Encodes a document as a message in the given form, using the tables in `templates`. Returns the
+/// same result as [`encode_form`]. Because `templates` caches the most recent templates, this
+/// function is faster if many documents have the same descriptors.
 ///
 /// ```
 /// let mut templates = TemplateCache::new(alloc, &table_b, &table_d);
@@ -209,25 +210,25 @@ pub fn encode_by(
     write_whole(alloc, document, form, &payload?)
 }
 
-/// Encodes a document as a message in the given form, using the given tables. (WMO-No. 306, Volume
-/// I.2, FM 94: sections 0 to 5)
+/// Encodes a document as a message in the given form, using the given tables (FM 94 BUFR, sections
+/// 0 to 5).
 ///
-/// The template is built first. Then the items are encoded in the order of the template. Finally,
+/// First, the template is built. Then the items are encoded in the order of the template. Finally,
 /// the length of the message is checked. The form determines whether the data are compressed and
-/// how the compression flag is set. A document can therefore be encoded in a form other than its
-/// own, if that form can represent it.
+/// how the compression flag is set. A document can therefore be encoded in a form other than the
+/// one it specifies, provided that the form can represent its values.
 ///
-/// Sets `steps` to the number of steps in the walks over the template, or to `u64::MAX` if the
-/// number is greater. A step processes a descriptor (a replication, a factor, an element or an
-/// operator), the end of a pass, or the end of the template. The template is walked once for each
-/// subset or, if the data are compressed, once for all subsets. If a fault stops a walk, the step
-/// in which the fault occurs is the last one counted. Leftover items are rejected only after the
-/// end of the template. If there are no subsets, or if the descriptors cannot be expanded into a
-/// template, no steps are taken. If memory runs out, fewer steps may be taken.
+/// Sets `steps` to the number of steps taken to walk the template, saturating at `u64::MAX`. Each
+/// step processes a descriptor (a replication, a factor, an element or an operator), the end of one
+/// repetition of a group, or the end of the template. The template is walked once for each subset
+/// or, if the data are compressed, once for all subsets. The step in which a fault occurs is also
+/// counted. Extra items are not rejected until the end of the template is reached. If there are no
+/// subsets, or if the descriptors cannot be expanded into a template, no steps are taken. If memory
+/// runs out, fewer steps may be taken.
 ///
-/// If the template has `p` places and the encoded data are `n` bits long, at most `p * n` steps are
-/// taken. If the document is rejected, at most `p * (n + 1)` steps are taken, where `n` is the
-/// number of data bits before the fault.
+/// If the encoded data are `n` bits long and [`Template::places`] returns `p`, at most `p * n`
+/// steps are taken. If the document is rejected, at most `p * (n + 1)` steps are taken, where `n`
+/// is the number of data bits before the fault.
 ///
 /// ```
 /// let document = reader.next_document(&mut r)?.ok_or("a document")?;
@@ -237,14 +238,14 @@ pub fn encode_by(
 ///
 /// # Errors
 ///
-/// Returns the first of the following faults that occurs:
+/// Returns the first of the following faults to occur:
 /// - [`DocumentFault::Template`] if the descriptors cannot be expanded into a template;
 /// - [`DocumentFault::Item`] if an item cannot be encoded; the variant contains the fault in the
-///   first such item. If this item has several faults, the first in the following order is
-///   returned: [`ItemFault::Walk`]; then [`ItemFault::WrongDescriptor`], [`ItemFault::Number`],
+///   first such item. If this item has several faults, [`ItemFault::Walk`] takes precedence,
+///   followed by [`ItemFault::WrongDescriptor`], [`ItemFault::Number`],
 ///   [`ItemFault::MissingForbidden`], [`ItemFault::TextLong`] and [`ItemFault::OutOfRange`] (for
-///   each subset in turn, if the data are compressed); then [`ItemFault::UnequalFactor`] and
-///   [`ItemFault::Increment`];
+///   each subset in turn, if the data are compressed), and finally by
+///   [`ItemFault::UnequalFactor`] and [`ItemFault::Increment`];
 /// - [`DocumentFault::TooLong`] if the message would be longer than 16,777,215 octets.
 ///
 /// If memory runs out, the fault is always [`DocumentFault::Memory`].
@@ -332,11 +333,11 @@ pub fn encode_document(
     encode_form(alloc, document, Form::AsWritten, table_b, table_d, steps)
 }
 
-/// The form in which the data of a document are encoded. (WMO-No. 306, Volume I.2, FM 94: section
-/// 4, compression. Offering an option for the form is our choice.)
+/// The form (plain or compressed) in which the data of a document are encoded. (FM 94 BUFR, section
+/// 4, defines compression; we chose to let the caller select the form.)
 #[derive(Clone, Copy, Debug, PartialEq, Eq)]
 pub enum Form {
-    /// The form that the `compressed` line of the document specifies.
+    /// The form specified by the document's `compressed` line.
     AsWritten,
     /// The plain form, in which the subsets are encoded one after another.
     Plain,
@@ -345,8 +346,8 @@ pub enum Form {
 }
 
 impl Form {
-    /// Returns whether the data are compressed in this form. `written` indicates whether the
-    /// document itself specifies compressed data.
+    /// Returns whether the encoded data are compressed. `written` indicates whether the document
+    /// specifies compressed data.
     // rule: writes-form
     pub(crate) fn is_compressed(self, written: bool) -> bool
         ensures { result ≡ compressed_by self written }

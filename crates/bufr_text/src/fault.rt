@@ -1,5 +1,5 @@
-//! Faults in dump text, and the reasons why a document cannot be encoded. (The numbers and their
-//! order are our choice.)
+//! Faults in dump text, and the reasons why a document cannot be encoded. (We chose the fault
+//! numbers and the order of the checks.)
 ghost use Rattle.std.specs.Prelude.{◌≡◌};
 ghost use Rattle.bufr_text.specs.Prelude.{document_fault, document_report, line_of_fault, line_report, number_of_read_fault};
 ghost use Rattle.bufr_text.specs.declared.fault.DocumentFault.TheVariants.{Memory};
@@ -13,12 +13,12 @@ use thiserror::Error;
 /// The reason why a line is invalid.
 #[derive(Clone, Copy, Debug, PartialEq, Eq, Error)]
 pub enum TextLineFault {
-    /// The line is not allowed here, is longer than 4,096 octets, or is missing because the input
-    /// ends in the middle of a document.
+    /// The line is not allowed at this point, is longer than 4,096 octets, or is missing because
+    /// the input ends in the middle of a document.
     #[error("line")]
     NotAllowed,
-    /// The number on a `subset` line is not the next one or exceeds the number of subsets in the
-    /// header, or an `end` line comes before all subsets have been read.
+    /// The number on a `subset` line is out of sequence or exceeds the number of subsets given in
+    /// the header, or an `end` line comes before the last subset.
     #[error("subset count")]
     SubsetCount,
     /// The value of a header line is out of range.
@@ -27,7 +27,7 @@ pub enum TextLineFault {
 }
 
 impl TextLineFault {
-    /// Returns the number of this fault (50, 57 or 61).
+    /// Returns the fault number (50, 57 or 61).
     pub fn number(self) -> u8
         ensures { result ≡ (line_report self).0 }
     {
@@ -42,8 +42,8 @@ impl TextLineFault {
 /// The reason why dump text cannot be read any further.
 #[derive(Clone, Copy, Debug, PartialEq, Eq, Error)]
 pub enum ReadFault {
-    /// The number of an invalid line and the fault in that line. Lines are numbered from 1 across
-    /// all documents in the input.
+    /// The line number of an invalid line, and the fault in that line. Lines are numbered from 1
+    /// across all documents in the input.
     #[error("{1}")]
     Line(u64, TextLineFault),
     /// A read failed, the input is too long, or memory ran out.
@@ -52,7 +52,7 @@ pub enum ReadFault {
 }
 
 impl ReadFault {
-    /// Returns the number of the line fault or run fault that this fault contains.
+    /// Returns the fault number.
     pub fn number(self) -> u8
         ensures { result ≡ number_of_read_fault self }
     {
@@ -66,15 +66,15 @@ impl ReadFault {
 /// The reason why a document cannot be encoded.
 #[derive(Clone, Copy, Debug, PartialEq, Eq, Error)]
 pub enum DocumentFault {
-    /// The line number of an item, counted from 1, and the fault in that item. If an item is
-    /// missing, the line number is that of the line that ends the subset.
+    /// The line number of an item (counted from 1), and the fault in that item. If an item is
+    /// missing, the line number refers to the line that ends the subset.
     #[error("{1}")]
     Item(u64, ItemFault),
-    /// The descriptors cannot be expanded into a template. The line number is that of the `message`
+    /// The descriptors cannot be expanded into a template. The line number refers to the `message`
     /// line.
     #[error("template {number} {why}", number = .1.number(), why = .1)]
     Template(u64, TemplateFault),
-    /// The message would be longer than 16,777,215 octets. The line number is that of the `message`
+    /// The message would be longer than 16,777,215 octets. The line number refers to the `message`
     /// line.
     #[error("too long")]
     TooLong(u64),
@@ -84,7 +84,7 @@ pub enum DocumentFault {
 }
 
 impl DocumentFault {
-    /// Returns the number of this fault (51 to 56, 58 to 60, 62 or 73).
+    /// Returns the fault number (51 to 56, 58 to 60, 62 or 73).
     pub fn number(self) -> u8
         ensures { result ≡ (document_report self).0 }
     {

@@ -7,8 +7,8 @@ ghost use Rattle.std.specs.List.{position_from};
 use crate::slices::{is, prefix, suffix};
 use bufr_tables::Fxy;
 
-/// A header key, which consists of the octets before its value, its minimum value, and its maximum
-/// values in editions 3 and 4.
+/// A header key. The fields are its name (between a line feed and a space), its minimum value, and
+/// its maximum values in editions 3 and 4.
 pub(crate) struct Key(pub(crate) &'static [u8], u16, u16, u16);
 
 /// The header keys, in the order in which they are written.
@@ -35,7 +35,7 @@ pub(crate) static KEYS: [Key; 20] = [
     Key(b"\nsubsets ", 0, 65535, 65535),
 ];
 
-/// Returns the header keys, in the order in which they are written.
+/// Returns all header keys, in the order in which they are written.
 fn keys() -> &'static [Key]
     ensures count { length result.now ≡ 20 }
     ensures leads { map (λ key. key.0.now) result.now ≡ map lead_of keys }
@@ -46,8 +46,8 @@ fn keys() -> &'static [Key]
     &KEYS
 }
 
-/// Returns whether a key has the given name. `lead` contains the octets before the key's value,
-/// which are a line feed, the key's name, and a space.
+/// Returns whether a key has the given name. `lead` contains the octets that precede the key's
+/// value (a line feed, the key's name, and a space).
 fn is_named(lead: &[u8], name: &[u8]) -> bool
     ensures { result ≡ is_named lead.now name.now }
 {
@@ -83,7 +83,7 @@ pub(crate) fn key_index(name: &[u8]) -> Option<usize>
     position(keys(), name)
 }
 
-/// Returns whether a value is within the range for its key. The range depends on the edition.
+/// Returns whether a value is valid for a header key in the given edition.
 #[tactic(auto, unfolding(crate::specs::Line::mosts))]
 // rule: reading-header-ranges
 pub(crate) fn in_range(edition: u16, key: usize, value: u32) -> bool
@@ -103,7 +103,7 @@ const SPACED: usize = 7;
 pub(crate) const MOST_WORDS: usize = 8;
 
 /// Parses a descriptor from the first six octets of `text`. Returns the descriptor as a 16-bit
-/// word, and the remaining octets.
+/// word, along with the octets after it.
 #[tactic(auto, using(crate::proofs::ItemLemmas::by_six))]
 pub(crate) fn fxy_prefix<'a>(text: &'a [u8]) -> Option<(u16, &'a [u8])>
     ensures value { option_map (λ read. (read.0, read.1.now)) result ≡ fxy_read text.now }
@@ -117,7 +117,7 @@ pub(crate) fn fxy_prefix<'a>(text: &'a [u8]) -> Option<(u16, &'a [u8])>
 }
 
 /// Parses 1 to 8 descriptors, each preceded by one space. Stores the descriptors at the start of
-/// `out`, and returns their number.
+/// `out`, and returns how many it stored.
 #[tactic(auto, using(crate::proofs::ItemLemmas::describing_steps))]
 // rule: reading-descriptor
 pub(crate) fn describe(text: &[u8], out: &mut [u16]) -> Option<usize>

@@ -1,4 +1,4 @@
-//! Laws about dumps, about encoding dumped messages again, and about reading encoded documents.
+//! Theorems about dumping messages, encoding the dumps, and reading the encoded messages.
 ghost use Rattle.std.specs.Prelude.{◌≡◌, ℕ, ◌+◌, true, false, List, [], ◌∷◌, ◌++◌, length, Option, None, Result, Ok};
 ghost use Rattle.bufr_frame.specs.Prelude.{Sections};
 ghost use Rattle.bufr_text.specs.Prelude.{between, ParseResult, Complete, documents_of, open_documents_of, lines_of, parse_lines, Document, document_of, dump_lines, dump_text_of, IsDumpable, TakesWholeLines, parse, parse_open, ReaderModel, new_reader, unfed, position_of, IsMissingFeed, ReadsLines, ReturnsNextDocument, HasNoMoreLines, HasNoWholeLine, AreReported, numbered_lines, AreProper, normal, IsProper, ReadFault, DocumentFault, IsCanonical, HasSameReading, IsAccepted, IsEncodedAgain, dump_items, HasReadingIn, IsFaultIn, IsFormed, IsReadAs, encoding_in, encoding_of, IsDocumentRefusal, compressed_by, form_of_flag, Form, AsWritten};
@@ -6,8 +6,9 @@ ghost use Rattle.bufr_tables.specs.Prelude.{Record, AreRows, Row, Sequence, Tree
 ghost use Rattle.bufr_walk.specs.Prelude.{Values, View};
 ghost use Rattle.bufr_text.specs.declared.fault.DocumentFault.TheVariants.{Memory};
 
-/// Parsing the dump of a message produces the document of that message. Parsing then continues with
-/// the text after the dump. Parsing text that consists of one dump produces exactly one document.
+/// Parsing the dump of a message produces the document that represents the message. Parsing then
+/// continues with the text after the dump. Parsing text that consists of one dump produces exactly
+/// one document.
 pub fn dump_text_spells_its_document()
     ensures { (s : Sections) (subsets : List (List View)) → IsDumpable s subsets
         → ((at : ℕ) (t : List ℕ) → parse_lines at between (lines_of (dump_text_of s subsets ++ t))
@@ -16,12 +17,12 @@ pub fn dump_text_spells_its_document()
         × (documents_of (dump_text_of s subsets) ≡ Complete (document_of 1 s subsets) ∷ []) }
 {}
 
-/// Every document in dump text is proper. A proper document has a complete header and exactly the
-/// declared number of subsets, nothing follows the subsets, and section 2 octets are present only
-/// if the header declares a section 2. The lines that are neither comments nor empty are exactly
-/// the lines of the documents. The documents follow one another up to the end of the text or the
-/// first invalid line. The documents that are reported after only part of the text has been read
-/// are always the first ones, whatever text follows.
+/// Every document in dump text is valid. A valid document has a complete header with values in
+/// range, as many subsets as the header declares, nothing after the last subset, and section 2
+/// octets only if the header declares a section 2. The lines that are neither comments nor empty
+/// are exactly the lines of the documents. The documents follow one another until the text ends or
+/// a line is invalid. The documents found in part of a text, while more may follow, are the first
+/// ones found in the whole text.
 #[tactic(auto, using(crate::proofs::LawLemmas::proper_steps))]
 pub fn texts_are_their_documents()
     ensures proper { (text : List ℕ) → AreProper (documents_of text) }
@@ -31,8 +32,8 @@ pub fn texts_are_their_documents()
         → (more : List ParseResult) × (documents_of (s ++ t) ≡ open_documents_of s ++ more) }
 {}
 
-/// The effects of consecutive calls to a reader add up to the effect of a single call that reads
-/// the same octets and reports the same results.
+/// Consecutive calls to a reader have the same effect as a single call that reads the same octets
+/// and reports the same results.
 pub fn calls_compose()
     ensures { (left mid left' : Option (List ℕ)) (old s s' : ReaderModel)
         (results results' : List ParseResult) (bs bs' : List ℕ)
@@ -40,16 +41,16 @@ pub fn calls_compose()
         → ReadsLines left left' old s' (results ++ results') (bs ++ bs') }
 {}
 
-/// The results reported so far are the first documents in the octets that were read, whatever
-/// octets follow. (No octets follow the end of input.) Until the end of input is reached, the
-/// results are the first open documents, which are the documents in text that may continue. At the
-/// end of input, the results are all documents in the octets that were read. After a failed read,
-/// or after the last allowed read, the results are all open documents in the octets that were read.
+/// The documents that a reader has reported are the first documents in its input, no matter what
+/// input follows. Once the end of input has been reported, all documents in the input have been
+/// reported. An open document is one that can be reported before it is known whether more input
+/// follows. Before the end of input is reached, the documents reported so far are the first open
+/// documents in the input. If the end of input has not been reached and no complete line is
+/// buffered, every open document in the octets read so far has been reported.
 ///
-/// The octets that were read consist of the processed lines, followed by exactly the buffered
-/// octets. The line number has increased by the number of processed lines. If the last line has no
-/// line feed, one is added at the end of input. The added line feed is not counted among the
-/// buffered octets.
+/// The octets that were read consist of the processed lines, followed by the buffered octets. The
+/// line number has increased by one for each processed line. At the end of input, a line feed is
+/// added to an incomplete last line, but it does not count as a buffered octet.
 pub fn documents_reported_are_the_first()
     ensures { (left left' : Option (List ℕ)) (s : ReaderModel) (results : List ParseResult)
         (bs : List ℕ) → ReadsLines left left' new_reader s results bs
@@ -72,12 +73,12 @@ pub fn none_comes_again()
         → (result ≡ Ok None) × (new.reads ≡ old.reads) }
 {}
 
-/// An accepted message can be dumped, and the dump contains exactly the message's document.
-/// Wherever this document occurs in an input, it is encoded as a message with the same edition,
-/// section 1 values, octets for local use, section 2, descriptors, number of subsets, flags and
-/// values. The encoded message is not longer than the accepted one, except that in edition 3 up to
-/// two octets are added to make the lengths of sections 3 and 4 even. The document is rejected only
-/// if memory runs out; the fault is then [`DocumentFault::Memory`](crate::DocumentFault::Memory).
+/// An accepted message can be dumped, and the dump consists of exactly one document. Wherever this
+/// document occurs in an input, it is encoded as a message with the same edition, section 1 values,
+/// octets for local use, section 2, descriptors, number of subsets, flags and values. The encoded
+/// message is not longer than the accepted one, except that in edition 3 up to two octets are added
+/// to make the lengths of sections 3 and 4 even. The document is rejected only if memory runs out,
+/// with the fault [`DocumentFault::Memory`](crate::DocumentFault::Memory).
 // rule: becomes-canonical
 pub fn dumped_messages_are_encoded_again()
     ensures { (records : List Record) (table : List Row) (sequences : List Sequence) (m : List ℕ)
@@ -90,12 +91,12 @@ pub fn dumped_messages_are_encoded_again()
         (encoding_of table sequences (document_of at s items)) → why ≡ Memory) }
 {}
 
-/// If the dump of an accepted message is encoded, the encoded message is accepted, and it can be
-/// read and dumped with the same results. At the start of a stream, the encoded message is
-/// recognized as one message. The encoded message has the same sections and template as the dumped
-/// message, and the same items are read from both. A message that was encoded in another form is
-/// also accepted and has the same items in each subset. The dump of that message differs only in
-/// the compression flag, which depends on the form.
+/// If the dump of an accepted message is encoded, the encoded message is also accepted, and reading
+/// and dumping it gives the same results as for the original. At the start of a stream, the encoded
+/// message is recognized as one message. The encoded message has the same sections and template as
+/// the dumped message, and the same items are read from both. A message that was encoded in another
+/// form is also accepted and has the same items in each subset. The dump of that message differs
+/// only in the compression flag, which depends on the form.
 pub fn encoded_messages_are_accepted()
     ensures same_text { (table : List Row) (m : List ℕ) (s : Sections) (template : Tree)
         (values : Values) (octets : List ℕ)
@@ -120,19 +121,19 @@ pub fn encoded_messages_are_accepted()
         (dump_items table s.subsets values) }
 {}
 
-/// The document in the dump of an accepted message can be encoded in any form, unless it is
-/// rejected for one of the reasons below. Reading the encoded message gives the same result as
-/// reading the accepted message, except for the compression flag. The encoded message has the same
-/// edition, section 1 values, octets for local use, section 2, descriptors and number of subsets,
-/// and the same items in each subset. The document is never rejected in the form that it specifies.
-/// In plain form, the document can be rejected because the message would be too long. In compressed
-/// form, the document can be rejected because the message would be too long, because factors differ
-/// between subsets, or because no increments can distinguish the values of a field.
+/// The dump of an accepted message can be encoded in any form, with the exceptions described below.
+/// Reading the encoded message gives the same result as reading the accepted message, except for
+/// the compression flag. The encoded message has the same edition, section 1 values, octets for
+/// local use, section 2, descriptors and number of subsets, and the same items in each subset.
+/// Encoding the dump in the form that it specifies fails only if memory runs out. Encoding it in
+/// plain or compressed form can also fail because the message would be too long. Encoding it in
+/// compressed form can also fail because a factor differs between subsets, or because the values of
+/// an item differ between subsets and cannot be stored as increments.
 ///
-/// Apart from [`DocumentFault::Memory`](crate::DocumentFault::Memory), only the following faults
-/// are possible: [`DocumentFault::TooLong`](crate::DocumentFault::TooLong) in plain and compressed
-/// form, and [`ItemFault::UnequalFactor`](bufr_fill::ItemFault::UnequalFactor) and
-/// [`ItemFault::Increment`](bufr_fill::ItemFault::Increment) in compressed form.
+/// The only possible faults are [`DocumentFault::Memory`](crate::DocumentFault::Memory),
+/// [`DocumentFault::TooLong`](crate::DocumentFault::TooLong) (in plain or compressed form), and
+/// [`ItemFault::UnequalFactor`](bufr_fill::ItemFault::UnequalFactor) and
+/// [`ItemFault::Increment`](bufr_fill::ItemFault::Increment) (in compressed form).
 pub fn dumped_messages_are_encoded_in_each_form()
     ensures { (records : List Record) (table : List Row) (sequences : List Sequence) (m : List ℕ)
         (s : Sections) (template : Tree) (values : Values) (used at : ℕ) (form : Form)
@@ -143,10 +144,9 @@ pub fn dumped_messages_are_encoded_in_each_form()
         → IsDocumentRefusal why result → IsFaultIn form why) }
 {}
 
-/// Encoding the dump of a canonical message reproduces the octets of the message. Suppose that the
-/// dump is instead encoded in another form, that the resulting message is dumped, and that this
-/// second dump is encoded in the form of the original message. The result is the original message,
-/// octet for octet.
+/// Encoding the dump of a canonical message reproduces the message octet for octet. The same is
+/// true if the dump is first encoded in another form, and the dump of that message is then encoded
+/// in the form of the original message.
 // rule: canonical
 pub fn canonical_messages_are_encoded_to_themselves()
     ensures { (records : List Record) (table : List Row) (sequences : List Sequence) (m : List ℕ)
@@ -164,12 +164,13 @@ pub fn canonical_messages_are_encoded_to_themselves()
 /// If a document is encoded in any form, the encoded message is accepted and contains the same
 /// information as the document. The encoded message has the same edition, section 1 values, octets
 /// for local use, section 2, descriptors, number of subsets and flags, except that the compression
-/// flag depends on the form. The value of each item is the value on the document's line for that
-/// item. In a stream, the encoded message is recognized as one message.
+/// flag depends on the form. Each item has the value that is given on its line in the document. In
+/// a stream, the encoded message is recognized as one message.
 ///
-/// The dump of the encoded message is the text of the document in the normal spelling, which all
-/// dumps use. Text that is already in the normal spelling is left unchanged. The dump contains one
-/// document, and encoding that document in the form that it specifies gives the same octets.
+/// The dump of the encoded message has, except for that flag, the document's content in the normal
+/// spelling, which all dumps use. Text that is already in the normal spelling is left unchanged.
+/// The dump contains one document, and encoding that document in the form that it specifies gives
+/// the same octets.
 pub fn encoded_documents_are_read()
     ensures { (form : Form) (records : List Record) (table : List Row) (sequences : List Sequence)
         (d : Document) (octets : List ℕ) → AreRows records table → IsProper d

@@ -1,5 +1,5 @@
-//! The text formats for FM 94 BUFR messages. This crate writes the line that lists a message and
-//! the dump of a message. The crate also reads dumps and encodes them as messages.
+//! Text formats for FM 94 BUFR messages. This crate lists messages, dumps them, and encodes dumps
+//! as messages.
 #![tactic(auto)]
 
 mod alike;

@@ -15,7 +15,7 @@ use memchr::memchr;
 /// The maximum length of a line, in octets, without its line feed.
 pub(crate) const MAX_LINE: usize = 4096;
 
-/// A parsed line. Hexadecimal digits and quoted strings are already decoded to octets.
+/// A parsed line. Hexadecimal digits and quoted strings have already been decoded into octets.
 #[derive(Clone, Copy)]
 pub(crate) enum ParsedLine<'a> {
     Passed,
@@ -30,7 +30,7 @@ pub(crate) enum ParsedLine<'a> {
     Wrong,
 }
 
-/// Decodes the hexadecimal digits that follow one space, and stores the octets in `scratch`. The
+/// Decodes hexadecimal digits that follow a single space, and stores the octets in `scratch`. The
 /// digits must encode 1 to 32 octets.
 // rule: reading-long-lists
 fn octets_after<'a>(rest: &[u8], scratch: &'a mut [u8]) -> Option<&'a [u8]>
@@ -87,8 +87,8 @@ fn worded<'a>(
     Some(ParsedLine::Header { key, value })
 }
 
-/// Parses a line of at most 4,096 octets. A header line with the key at index `next` is the most
-/// likely line, so that key is tried before the other words.
+/// Parses a line of at most 4,096 octets. If the line begins with a word, the header key at index
+/// `next` is tried first, because it is the most likely word.
 #[tactic(auto, using(crate::proofs::ItemLemmas::read_steps))]
 fn line_said<'a>(
     line: &'a [u8],
@@ -138,7 +138,7 @@ pub(crate) fn read_line<'a>(
     }
 }
 
-/// Parses a decimal number. All numbers greater than 65,535 give the same result.
+/// Parses a decimal number. If the number is greater than 65,535, returns 65,536.
 // rule: reading-header-number
 pub(crate) fn number(text: &[u8]) -> Option<u32>
     ensures { result ≡ number_read text.now }
@@ -156,7 +156,7 @@ pub(crate) fn number(text: &[u8]) -> Option<u32>
     Some(number)
 }
 
-/// Returns whether an octet may occur in a number token.
+/// Returns whether an octet can be part of a number.
 fn is_number_octet(octet: u8) -> bool
     ensures { result ≡ is_number_octet octet }
 {
@@ -177,8 +177,8 @@ fn token(text: &[u8]) -> usize
     at
 }
 
-/// Parses a value. Returns the value and the octets after it. The octets of a quoted string are
-/// stored in `scratch`.
+/// Parses a value. Returns the value, along with the octets after it. The octets of a quoted string
+/// are stored in `scratch`.
 #[tactic(auto, using(crate::proofs::ItemLemmas::value_steps))]
 fn value<'a>(text: &'a [u8], scratch: &'a mut [u8]) -> Option<(DraftValue<'a>, &'a [u8])>
     requires { length text.now ≤ length scratch.old }
@@ -211,8 +211,8 @@ fn is_hashed(text: &[u8]) -> bool
     false
 }
 
-/// Returns whether a value is followed by nothing or only by a comment. `text` contains the octets
-/// after the value.
+/// Returns whether `text`, the rest of a line after a value, is empty or consists of spaces and a
+/// comment.
 #[tactic(auto, using(crate::proofs::ItemLemmas::hash_steps))]
 // rule: reading-after-a-value
 fn is_passed_after(text: &[u8]) -> bool
@@ -224,8 +224,8 @@ fn is_passed_after(text: &[u8]) -> bool
     text.is_empty() || text[0] == b' ' && is_hashed(text)
 }
 
-/// Parses the descriptor at the start of an item line, if a space and at least one more octet
-/// follow the descriptor.
+/// Parses the descriptor at the start of an item line. The descriptor must be followed by a space
+/// and at least one more octet.
 #[inline(always)]
 fn spaced_fxy(line: &[u8]) -> Option<Fxy>
     ensures within { IfSome result (λ _. 7 ≤ length line.now) }
@@ -257,8 +257,8 @@ fn spaced_fxy(line: &[u8]) -> Option<Fxy>
     Some(Fxy::from_word(u16::from(a) * 16384 + x * 256 + y))
 }
 
-/// Parses an item line if its value is a short decimal number or missing, as is usually the case.
-/// Returns the descriptor and the number, or `None` instead of the number if the value is missing.
+/// Parses an item line whose value is a short decimal number or is missing. Most item lines are of
+/// this kind. Returns the descriptor and the number, which is `None` if the value is missing.
 #[inline(always)]
 pub(crate) fn short_item(line: &[u8]) -> Option<(Fxy, Option<ShortDecimal>)>
     ensures { IfSome result (λ read. line_of line.now ≡ ItemLine read.0 (short_form read.1)) }
@@ -301,7 +301,8 @@ pub(crate) fn item<'a>(text: &'a [u8], scratch: &'a mut [u8]) -> Option<ParsedLi
     Some(ParsedLine::Item { fxy, form })
 }
 
-/// Parses the part of a redefined reference value's line that follows `R` and a space.
+/// Parses the line for a redefined reference value. `text` is the remainder of the line after `R`
+/// and a space.
 #[tactic(auto, using(crate::proofs::ItemLemmas::reference_steps))]
 // rule: reading-reference
 pub(crate) fn reference<'a>(text: &'a [u8]) -> Option<ParsedLine<'a>>
@@ -327,7 +328,7 @@ pub(crate) enum QuotedToken {
     Closed,
     /// An octet of the string, and the number of octets that represent it in the line.
     Octet { octet: u8, written: usize },
-    /// Octets that are not allowed in a quoted string.
+    /// There is no valid token.
     Nothing,
 }
 
@@ -343,8 +344,8 @@ fn upper_value(octet: u8) -> Option<u8>
     }
 }
 
-/// For each octet, `1` if the octet can appear unescaped in a quoted string, and `0` if it needs an
-/// escape.
+/// A table that contains `1` for each octet that can appear unescaped in a quoted string, and `0`
+/// for each octet that must be escaped.
 static UNESCAPED: [u8; 256] =
     *b"0000000000000000000000000000000011011111111111111111111111111111111111111111111111111111111101111111111111111111111111111111111000000000000000000000000000000000000000000000000000000000000000000000000000000000000000000000000000000000000000000000000000000000";
 
@@ -356,7 +357,7 @@ pub(crate) fn is_unescaped(octet: u8) -> bool
     UNESCAPED[octet as usize] == b'1'
 }
 
-/// Returns the first token of `text`, which is the remainder of a quoted string.
+/// Returns the first token of `text`, the remainder of a quoted string.
 // rule: reading-quoted
 fn first_part(text: &[u8]) -> QuotedToken
     ensures { result ≡ quoting_of text.now }
@@ -388,7 +389,7 @@ fn first_part(text: &[u8]) -> QuotedToken
 }
 
 /// Decodes a quoted string, and stores its octets at the start of `out`. Returns the number of
-/// octets, and the index after the closing quote.
+/// octets stored and the index after the closing quote.
 pub(crate) fn decode_quoted(text: &[u8], out: &mut [u8]) -> Option<(usize, usize)>
     requires { length text.now ≤ length out.old }
     ensures { Unquotes text.now out.new result }
@@ -422,7 +423,7 @@ fn either_value(octet: u8) -> Option<u8>
 }
 
 /// Decodes hexadecimal digits, and stores the octets at the start of `out`. Returns the number of
-/// octets.
+/// octets stored.
 #[tactic(auto, using(crate::proofs::ItemLemmas::unhexing_steps))]
 pub(crate) fn decode_hex(text: &[u8], out: &mut [u8]) -> Option<usize>
     requires { length text.now ≤ 2 * length out.old }
@@ -445,7 +446,7 @@ pub(crate) fn octet_at(text: &[u8], index: usize) -> u8
     if index < text.len() { text[index] } else { 0 }
 }
 
-/// Returns the octets after `word`, if `text` begins with that word.
+/// Returns the octets after `word`, or `None` if `text` does not begin with that word.
 pub(crate) fn without_prefix<'a>(text: &'a [u8], word: &[u8]) -> Option<&'a [u8]>
     ensures value { option_map (λ s. s.now) result ≡ without_prefix word.now text.now }
     ensures within { IfSome result (λ s. length s.now ≤ length text.now) }
@@ -453,7 +454,7 @@ pub(crate) fn without_prefix<'a>(text: &'a [u8], word: &[u8]) -> Option<&'a [u8]
     text.strip_prefix(word)
 }
 
-/// Returns the octets after the first octet, if that octet is a space.
+/// Returns `text` without its leading space, or `None` if it does not begin with a space.
 #[tactic(auto, using(crate::proofs::ItemLemmas::space_steps))]
 #[inline(always)]
 pub(crate) fn without_space<'a>(text: &'a [u8]) -> Option<&'a [u8]>

@@ -19,9 +19,9 @@ pub(crate) const PAGE: usize = 65_536;
 
 /// A writer that buffers lines in a block of memory and writes them to a sink.
 ///
-/// The block can be of any size. If pushed octets do not fit in the block, the buffered octets are
-/// written first, followed by the pushed octets. [`LineWriter::status`] reports the first fault.
-/// After a fault, nothing more is written.
+/// The block can be of any size. If the pushed octets do not fit in the block, the writer first
+/// writes the buffered octets and then the pushed octets. [`LineWriter::status`] reports the first
+/// fault. After a fault, nothing more is written.
 #[derive(Drop)]
 pub struct LineWriter<'b, 'w, W: Sink> {
     octets: &'b mut [u8],
@@ -99,8 +99,8 @@ fn hex_digit(n: u8) -> u8
     if n < 10 { b'0' + n } else { b'A' - 10 + n }
 }
 
-/// Copies octets to `free`, stopping at the first octet that needs an escape or when `free` is
-/// full. Returns the number of octets copied.
+/// Copies octets to `free`, stopping if `free` is full or the next octet must be escaped. Returns
+/// the number of octets copied.
 #[tactic(auto, using(crate::proofs::NumberLemmas::run_steps))]
 #[inline(always)]
 fn fill_run(octets: &[u8], free: &mut [u8]) -> usize
@@ -116,8 +116,8 @@ fn fill_run(octets: &[u8], free: &mut [u8]) -> usize
     len
 }
 
-/// Escapes an octet of a string if necessary. Returns an array that begins with the result, and the
-/// length of the result (1, 2 or 4).
+/// Escapes an octet of a string if necessary. Returns the result at the start of an array, along
+/// with its length (1, 2 or 4 octets).
 #[inline(always)]
 // rule: text-escapes
 fn escape(octet: u8) -> ([u8; 4], usize)
@@ -134,8 +134,9 @@ fn escape(octet: u8) -> ([u8; 4], usize)
     ([b'\\', b'x', high, low], 4)
 }
 
-/// Writes an octet of a string to `free` at index `at`, escaped if necessary. There must be room
-/// for the longest escape (4 octets). Returns the index after the octets that were written.
+/// Escapes an octet of a string if necessary, and writes it to `free`, starting at index `at`.
+/// There must be room for the longest escape sequence (4 octets). Returns the index after the
+/// escaped octet.
 #[inline(always)]
 fn put_escaped(octet: u8, free: &mut [u8], at: usize) -> usize
     requires { at + 4 ≤ length free.old }
@@ -147,7 +148,7 @@ fn put_escaped(octet: u8, free: &mut [u8], at: usize) -> usize
 }
 
 /// Copies as much of a string as possible to the start of `free`, escaping octets if necessary.
-/// Returns the number of octets taken from the string, and the number of octets written to `free`.
+/// Returns the number of octets copied from the string, and the number of octets written to `free`.
 #[inline(always)]
 fn fill_text(octets: &[u8], free: &mut [u8]) -> (usize, usize)
     ensures within { result.0 ≤ length octets.now }
@@ -174,7 +175,6 @@ fn fill_text(octets: &[u8], free: &mut [u8]) -> (usize, usize)
 
 impl<'b, 'w, W: Sink> LineWriter<'b, 'w, W> {
     /// Creates a writer that buffers octets in the block `octets` and writes them to the sink `w`.
-    /// The buffer is empty at first.
     pub fn new(octets: &'b mut [u8], w: &'w mut W) -> LineWriter<'b, 'w, W>
         ensures held { result.held ≡ [] }
         ensures taken { result.taken ≡ W.taken w.old }
@@ -249,7 +249,7 @@ impl<'b, 'w, W: Sink> LineWriter<'b, 'w, W> {
         }
     }
 
-    /// Pushes octets as [`LineWriter::push`] does, but is never inlined.
+    /// Like [`LineWriter::push`], but never inlined.
     #[inline(never)]
     fn push_out_of_line(&mut self, octets: &[u8])
         ensures { Pushes self.old octets.now self.new }
@@ -289,7 +289,7 @@ impl<'b, 'w, W: Sink> LineWriter<'b, 'w, W> {
         }
     }
 
-    /// Pushes a name and then a number in decimal, in two separate pushes.
+    /// Like [`LineWriter::push_named`], but pushes the name and the number separately.
     #[inline(never)]
     fn push_named_parts(&mut self, name: &[u8], value: u64)
         ensures { Pushes self.old (name.now ++ decimal value) self.new }
@@ -298,7 +298,7 @@ impl<'b, 'w, W: Sink> LineWriter<'b, 'w, W> {
         self.push(Buffer::new().format(value).as_bytes());
     }
 
-    /// Pushes the line of a numeric item. The descriptor and the comment come from `entry`, the
+    /// Pushes the line for a numeric item. The descriptor and the comment come from `entry`, the
     /// item's entry in Table B.
     #[inline(always)]
     pub(crate) fn push_number_line(&mut self, entry: Entry<'_>, number: i64, scale: i16)
@@ -311,7 +311,7 @@ impl<'b, 'w, W: Sink> LineWriter<'b, 'w, W> {
         }
     }
 
-    /// Pushes the line of a numeric item in several separate pushes.
+    /// Like [`LineWriter::push_number_line`], but pushes each part of the line separately.
     #[inline(never)]
     fn push_long_line(&mut self, entry: Entry<'_>, number: i64, scale: i16)
         ensures { Pushes self.old (row_line_start (row_of_entry entry.entry)
@@ -322,8 +322,8 @@ impl<'b, 'w, W: Sink> LineWriter<'b, 'w, W> {
         self.push(entry.comment());
     }
 
-    /// Pushes `value` divided by 10 to the power of `scale`, in decimal. If the scale is negative,
-    /// zeros are appended unless the value is 0.
+    /// Pushes `value / 10^scale` in decimal. If the scale is negative and the value is not 0,
+    /// `-scale` zeros are appended.
     #[inline(never)]
     // rule: decimal-sign, decimal-point, decimal-zeros-after
     pub(crate) fn push_scaled(&mut self, value: i128, scale: i16)
@@ -350,7 +350,7 @@ impl<'b, 'w, W: Sink> LineWriter<'b, 'w, W> {
         self.push_zeros(if size == 0 { 0 } else { places });
     }
 
-    /// Pushes the line of an item whose value is missing. The descriptor and the comment come from
+    /// Pushes the line for an item whose value is missing. The descriptor and the comment come from
     /// `entry`, the item's entry in Table B.
     #[inline(always)]
     pub(crate) fn push_missing_line(&mut self, entry: Entry<'_>)
@@ -363,7 +363,7 @@ impl<'b, 'w, W: Sink> LineWriter<'b, 'w, W> {
         }
     }
 
-    /// Pushes the line of an item whose value is missing, in several separate pushes.
+    /// Like [`LineWriter::push_missing_line`], but pushes each part of the line separately.
     #[inline(never)]
     fn push_long_missing(&mut self, entry: Entry<'_>)
         ensures { Pushes self.old (row_line_start (row_of_entry entry.entry)
@@ -374,7 +374,7 @@ impl<'b, 'w, W: Sink> LineWriter<'b, 'w, W> {
         self.push(entry.comment());
     }
 
-    /// Pushes the digit `0`, repeated `count` times.
+    /// Pushes `count` zeros.
     #[inline(always)]
     pub(crate) fn push_zeros(&mut self, count: usize)
         ensures { Pushes self.old (replicate count 48) self.new }
@@ -396,7 +396,7 @@ impl<'b, 'w, W: Sink> LineWriter<'b, 'w, W> {
         self.push(text);
     }
 
-    /// Pushes octets in hexadecimal, as two upper-case digits per octet.
+    /// Pushes octets in hexadecimal, with two upper-case digits per octet.
     // rule: text-hexadecimal
     pub(crate) fn push_hex(&mut self, octets: &[u8])
         ensures { Pushes self.old (hex_text octets.now) self.new }
@@ -416,7 +416,7 @@ impl<'b, 'w, W: Sink> LineWriter<'b, 'w, W> {
     }
 
     /// Pushes as much of a string as fits in the block, escaping octets if necessary. Returns the
-    /// number of octets taken from the string.
+    /// number of octets copied from the string.
     #[tactic(auto, using(crate::proofs::PushLemmas::held_steps))]
     #[inline(always)]
     fn push_start(&mut self, octets: &[u8]) -> usize
@@ -446,7 +446,7 @@ impl<'b, 'w, W: Sink> LineWriter<'b, 'w, W> {
         self.push(b"\"");
     }
 
-    /// Reports whether everything pushed so far has been written or is still buffered.
+    /// Returns `Ok` if everything pushed so far has been written or is still buffered.
     ///
     /// # Errors
     ///
@@ -471,7 +471,8 @@ impl<'b, 'w, W: Sink> LineWriter<'b, 'w, W> {
     }
 }
 
-/// A sink that accepts no octets. With this sink, a writer collects octets only in its block.
+/// A sink that accepts no octets. A [`LineWriter`] with this sink can only collect octets in its
+/// block.
 #[derive(Drop)]
 pub(crate) struct NoSink {
     pub(crate) empty_writes: u64,

@@ -34,7 +34,8 @@ fn push_source<W: Sink>(line: &mut LineWriter<'_, '_, W>, offset: u64, message: 
     line.push_named(b"/", u64::from(head.local_version));
 }
 
-/// Pushes the time from section 1, in a single push if no value has more digits than usual.
+/// Pushes the time from section 1. The text is pushed in one piece unless a value has more digits
+/// than usual.
 #[inline(always)]
 // rule: listing-time
 fn push_time<W: Sink>(line: &mut LineWriter<'_, '_, W>, message: &Message<'_>)
@@ -75,8 +76,8 @@ fn push_time<W: Sink>(line: &mut LineWriter<'_, '_, W>, message: &Message<'_>)
     ]);
 }
 
-/// Writes the line that lists a message. `offset` is the position of the message in the stream, in
-/// octets, counted from 0. This function does not allocate.
+/// Writes the line that `bufr ls` prints for a message. `offset` is the position of the message in
+/// the stream, in octets counted from 0. This function does not allocate.
 ///
 /// ```
 /// write_ls(21, &message, &mut w)?; // offset=21 length=48 edition=4 ..

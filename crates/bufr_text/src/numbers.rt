@@ -1,7 +1,7 @@
-//! Functions that write numbers directly to the free octets of a block, if there is room.
+//! Functions that write numbers directly to the free space in a block.
 //!
-//! Each function returns the index after the octets that it wrote, or `None` if it cannot write
-//! them.
+//! Functions with a `free` argument return the index after the text that they wrote, or `None` if
+//! they cannot write all of it.
 #![tactic(auto, using(crate::proofs::NumberLemmas::number_steps))]
 
 ghost use Rattle.std.specs.Prelude.{◌≡◌, ◌≤◌, ◌<◌, ◌+◌, ◌/◌, ◌%◌, ◌++◌, [], ◌∷◌, decimal, take, ◌==◌, codes};
@@ -12,20 +12,21 @@ ghost use Rattle.bufr_text.specs.Prelude.{Puts};
 use bufr_tables::Entry;
 use itoa::Buffer;
 
-/// The number of decimal digits in the greatest `u64`.
+/// The maximum number of decimal digits in a `u64`.
 const DIGITS: usize = 20;
 
-/// The number of octets reserved for a 64-bit number with a common scale.
+/// The number of octets reserved for a 64-bit number with a scale of -1, 0, 1, 2 or 5.
 const NUMBER: usize = 24;
 
-/// The size, in octets, of the block that is copied for the start of a line. The block is one octet
-/// larger than the start of a line.
+/// The size, in octets, of the block that is copied for the descriptor at the start of a line. The
+/// block is one octet longer than the descriptor and the space after it.
 const START: usize = 8;
 
 /// The size, in octets, of the block that is copied for a comment. Few comments are longer.
 const COMMENT: usize = 80;
 
-/// The number of octets reserved for the line of a numeric item, including some spare room.
+/// The number of octets reserved for the line of a numeric item. This is slightly more than a line
+/// needs.
 const LINE: usize = 128;
 
 /// The two decimal digits of each number below 100.
@@ -155,8 +156,7 @@ pub(crate) fn fill_named(name: &[u8], value: u64, free: &mut [u8]) -> Option<usi
     put_decimal(value, free, name.len())
 }
 
-/// Writes a number of tenths to `free`, starting at index `at`, with a decimal point before its
-/// last digit.
+/// Writes `value / 10` with one decimal place to `free`, starting at index `at`.
 #[inline(always)]
 fn put_tenths(value: u64, free: &mut [u8], at: usize) -> Option<usize>
     ensures { Puts free.old at (pointed 1 (decimal value)) free.new result }
@@ -165,8 +165,7 @@ fn put_tenths(value: u64, free: &mut [u8], at: usize) -> Option<usize>
     put([b'.', b'0' + (value % 10) as u8], free, at)
 }
 
-/// Writes a number of hundredths to `free`, starting at index `at`, with a decimal point before its
-/// last two digits.
+/// Writes `value / 100` with two decimal places to `free`, starting at index `at`.
 #[inline(always)]
 fn put_hundredths(value: u64, free: &mut [u8], at: usize) -> Option<usize>
     ensures { Puts free.old at (pointed 2 (decimal value)) free.new result }
@@ -176,8 +175,8 @@ fn put_hundredths(value: u64, free: &mut [u8], at: usize) -> Option<usize>
     put([b'.', tens, ones], free, at)
 }
 
-/// Writes `value`, divided by 10 to the power of `scale`, to the start of `free`. Returns `None` if
-/// there is not enough room, if the scale is uncommon, or if the value is 0 and the scale is -1.
+/// Writes `value / 10^scale` in decimal to the start of `free`. Returns `None` if there is not
+/// enough room, if the scale is not -1, 0, 1, 2 or 5, or if the value is 0 and the scale is -1.
 #[inline(never)]
 fn fill_scaled(value: u64, scale: i16, free: &mut [u8]) -> Option<usize>
     ensures { Puts free.old 0 (unsigned_text value scale) free.new result }
@@ -208,9 +207,10 @@ fn fill_scaled(value: u64, scale: i16, free: &mut [u8]) -> Option<usize>
     None
 }
 
-/// Writes the line of a numeric item to the start of `free`. `entry` is the table entry that was
+/// Writes the line for a numeric item to the start of `free`. `entry` is the table entry that was
 /// used to read the item. Returns `None` if there is not enough room, if the comment is longer than
-/// 80 octets, if the entry is near the end of the table, or if the scale is uncommon.
+/// 80 octets, if the table ends less than 80 octets after the start of the comment, or if
+/// `fill_scaled` cannot write the number.
 #[inline(always)]
 // rule: decimal-sign
 pub(crate) fn fill_number_line(
@@ -247,9 +247,9 @@ pub(crate) fn fill_number_line(
     put_block::<COMMENT>(&row[7..], len, free, at)
 }
 
-/// Writes the line of a missing value to the start of `free`. `entry` is the table entry that was
+/// Writes the line for a missing value to the start of `free`. `entry` is the table entry that was
 /// used to read the value. Returns `None` if there is not enough room, if the comment is longer
-/// than 80 octets, or if the entry is near the end of the table.
+/// than 80 octets, or if the table ends less than 80 octets after the start of the comment.
 #[inline(always)]
 pub(crate) fn fill_missing_line(entry: Entry<'_>, free: &mut [u8]) -> Option<usize>
     ensures { Puts free.old 0 (row_line_start (row_of_entry entry.entry)

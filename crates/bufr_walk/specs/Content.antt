@@ -1,6 +1,6 @@
--- The specification and the content of a field, the value that is shown for the field, and how the
--- field is read from plain or compressed data. (WMO-No. 306, Volume I.2, FM 94: section 4, Tables B
--- and C; what the compression rules leave open is our choice)
+-- How fields are specified, how they are read from plain or compressed data, and how their values
+-- are shown (FM 94 BUFR, section 4 and Tables B and C; details that the compression rules leave
+-- open are our choice).
 -- Cited by public contracts.
 use Rattle.std.specs.Prelude.{ℕ, ◌≡◌, ◌≤◌, ◌^◌, ◌%◌, Bool, ℤ, unsigned_abs, ◌<◌, ◌&&◌, ◌||◌, nat_le, nat_lt, not, true, false, zero, suc, ◌-◌, ◌/◌, if◌then◌else◌, List, [], ◌∷◌, take, drop, replicate, pos, negsuc, neg_ℤ, nat_abs, ◌+ℤ◌, length, Result, Ok, Err, ◌+◌, ◌*◌, ◌==◌, ◌++◌, map}
 use Rattle.bufr_tables.specs.declared.table_b.Kind.{Kind}
@@ -28,8 +28,7 @@ pub record FieldSpec : Type 0 where
   pub width : ℕ
   pub scale : ℤ
   pub reference : ℤ
-  -- whether a number whose bits are all ones is missing (a string whose bits are all ones is always
-  -- missing)
+  -- whether a number is missing if all its bits are ones (a string always is)
   pub may_be_missing : Bool
   -- whether the field is read according to its row in Table B, in which case a dump shows the row's
   -- name and unit
@@ -42,21 +41,21 @@ HasWidth kind.Character width = (8 ≤ width) × (width ≤ 2040) × (width % 8 
 HasWidth kind.Coded width = (1 ≤ width) × (width ≤ 63)
 HasWidth kind.Numeric width = (1 ≤ width) × (width ≤ 63)
 
--- A field with the given role may have the given kind. Inserted characters are text. Replication
--- factors and redefined reference values are numeric and never missing.
+-- The kind and the `may_be_missing` flag are valid for the given role. Inserted characters are
+-- text. Replication factors and redefined reference values are numeric and never missing.
 abbrev pub HasRole : Role → Kind → Bool → Type 0
 HasRole role.Element k m = Unit {0}
 HasRole role.Inserted k m = k ≡ kind.Character
 HasRole role.Factor k m = (k ≡ kind.Numeric) × (m ≡ Bool.false)
 HasRole role.Reference k m = (k ≡ kind.Numeric) × (m ≡ Bool.false)
 
--- A text field may be missing.
+-- The `may_be_missing` flag is valid for the given kind. For text, it must be true.
 abbrev pub HasMissing : Kind → Bool → Type 0
 HasMissing kind.Character m = m ≡ Bool.true
 HasMissing kind.Coded m = Unit {0}
 HasMissing kind.Numeric m = Unit {0}
 
--- Every specification of a field has the following properties.
+-- The specification of the field is valid.
 pub record IsSpec (a : FieldSpec) : Type 0 where
   pub width : HasWidth a.kind a.width
   pub role : HasRole a.role a.kind a.may_be_missing
@@ -64,7 +63,7 @@ pub record IsSpec (a : FieldSpec) : Type 0 where
   pub scale : unsigned_abs a.scale ≤ 300
   pub reference : unsigned_abs a.reference ≤ 2 ^ 125
 
--- The specification is valid and has a 16-bit descriptor.
+-- The specification is valid, and its descriptor fits in 16 bits.
 pub record IsField (a : FieldSpec) : Type 0 where
   pub spec : IsSpec a
   pub word : a.fxy < 2 ^ 16
@@ -78,9 +77,9 @@ IsWithin (taken.Reference r) = unsigned_abs r ≤ 2 ^ 63
 abbrev pub AreWithin : List Taken → Type 0
 AreWithin answers = AllByRecursion (λ (t : Taken). IsWithin t) answers
 
--- The answer of a field, which is the part of its content that affects the walk, fits the field's
--- role. A replication factor gives a count, a field that redefines a reference value gives the new
--- value, and any other field gives `Plain`.
+-- A field's answer (the part of its content that affects the walk) matches the field's role. The
+-- answer is `Count` for a replication factor, `Reference` for a redefined reference value, and
+-- `Plain` for any other field.
 abbrev pub IsForRole : Role → Taken → Type 0
 IsForRole role.Element taken.Plain = Unit {0}
 IsForRole role.Inserted taken.Plain = Unit {0}
@@ -88,7 +87,7 @@ IsForRole role.Factor (taken.Count n) = Unit {0}
 IsForRole role.Reference (taken.Reference r) = Unit {0}
 IsForRole _ _ = ⊥
 
--- The answer fits the field's role.
+-- The answer matches the role in the field's specification.
 abbrev pub IsFor : FieldSpec → Taken → Type 0
 IsFor spec t = IsForRole spec.role t
 
@@ -96,9 +95,9 @@ abbrev pub is_reference : Role → Bool
 is_reference role.Reference = Bool.true
 is_reference _ = Bool.false
 
--- ---- Fields that are numbers.
+-- ---- Fields that are not text.
 
--- the specification of a field that is a number, with the given parts
+-- the specification of a non-text field with the given descriptor, role and `NumberParts`
 abbrev pub number_field : (fxy : ℕ) → Role → NumberParts → FieldSpec
 number_field fxy role n =
     record {
@@ -112,8 +111,8 @@ number_field fxy role n =
       listed = n.listed;
     }
 
--- whether a number is plain, that is, whether it is an element that is read according to its row in
--- Table B, has at most 62 bits, and has a reference value whose magnitude is less than 2^62
+-- Whether a non-text field is a plain number. A plain number is an element that is read according
+-- to its row in Table B. It has at most 62 bits and a reference value of magnitude less than 2^62.
 abbrev pub is_plain_number : Role → (width : ℕ) → (reference : ℤ) → (listed : Bool) → Bool
 is_plain_number role.Element width r listed =
     listed && (nat_le width 62 && nat_lt (unsigned_abs r) (2 ^ 62))
@@ -136,8 +135,8 @@ pub record IsSpecWith (plain : Bool) (a : FieldSpec) : Type 0 where
   pub spec : IsSpec a
   pub same : is_plain a ≡ plain
 
--- the content of a field, which is a number (before the reference value is added), a string, a
--- missing value, or a redefined reference value
+-- the content of a field (a number before the reference value is added, a string, a missing value,
+-- or a redefined reference value)
 pub data Content : Type 0 where
   number : (raw : ℕ) → Content
   text : (octets : List ℕ) → Content
@@ -156,7 +155,7 @@ abbrev pub signed_by : List Bool → ℤ
 signed_by [] = pos 0
 signed_by (sign ∷ bits) = if sign then neg_ℤ (pos (number_of bits)) else pos (number_of bits)
 
--- how a field is coded (as a number, a string of `octets` octets, or a redefined reference value)
+-- how a field is coded (as a number, a string of the given length, or a redefined reference value)
 pub data Coding : Type 0 where
   numbers : (width : ℕ) → (may_be_missing : Bool) → Coding
   texts : (octets : ℕ) → Coding
@@ -172,9 +171,8 @@ coding_by _ _ spec = numbers spec.width spec.may_be_missing
 abbrev pub coding_of : FieldSpec → Coding
 coding_of spec = coding_by spec.role spec.kind spec
 
--- The content of a field with the given bits. If all bits are ones, a string is missing, and so is
--- a number that may be missing. It is our choice that characters inserted by 2 05 Y can be missing
--- (own).
+-- The content of a field with the given bits. If all bits are ones, a string is missing, as is a
+-- number if `may_be_missing` is true. Text inserted by 2 05 Y can also be missing (our choice).
 -- rule: missing, missing-inserted-text
 abbrev pub content_by : Coding → List Bool → Content
 content_by (numbers width m) bits =
@@ -191,7 +189,7 @@ sign_bit (pos n) = false
 sign_bit (negsuc n) = true
 
 -- the bits that represent a field's content in the given data width; a redefined reference value of
--- zero gets a plus sign
+-- zero is written with the sign bit 0
 -- rule: writes-plus-zero
 abbrev pub bits_for : ℕ → Content → List Bool
 bits_for width (number raw) = bits_in raw width
@@ -217,15 +215,15 @@ answer_by_role _ c = taken.Plain
 abbrev pub answer_of : FieldSpec → Content → Taken
 answer_of spec c = answer_by_role spec.role c
 
--- the value that is shown for an item, which is a number (value / 10^scale), a string, a missing
--- value, or a redefined reference value
+-- the value shown for an item (a number equal to value / 10^scale, a string, a missing value, or a
+-- redefined reference value)
 pub data ShownValue : Type 0 where
   shown_number : (value scale : ℤ) → ShownValue
   shown_text : (octets : List ℕ) → ShownValue
   shown_missing : ShownValue
   shown_reference : (value : ℤ) → ShownValue
 
--- the value that is shown for a field's content; numbers include the reference value
+-- the value shown for a field's content; if the content is a number, the reference value is added
 -- rule: value
 abbrev pub shown : FieldSpec → Content → ShownValue
 shown spec (number raw) = shown_number (pos raw +ℤ spec.reference) spec.scale
@@ -257,8 +255,8 @@ plain_field spec bits =
     if nat_lt (length bits) spec.width then Err data_end
     else Ok (found (content_in spec (take spec.width bits)) (drop spec.width bits))
 
--- ---- One item of compressed data, which consists of a base (the minimum value), a six-bit number
--- k, and an increment (a local difference) for each subset.
+-- ---- One item of compressed data. An item consists of a base (the minimum value), a six-bit
+-- increment width k and, unless k is 0, one increment for each subset.
 
 -- the k-bit number whose bits are all ones
 abbrev pub ones : ℕ → ℕ
@@ -277,20 +275,21 @@ step_of (texts octets) k = 8 * k
 step_of references k = 0
 
 -- The content whose raw value is the sum of a base and an increment, or `None` if the sum does not
--- fit in the data width. A number that may be missing is missing if all bits of the sum are ones
--- (own).
+-- fit in the data width. If `may_be_missing` is true and all bits of the sum are ones, the number
+-- is missing (our choice).
 -- rule: compressed-past-width, compressed-class-31, compressed-sum-of-ones
 abbrev pub sum_within : (width : ℕ) → (may_be_missing : Bool) → (sum : ℕ) → Option Content
 sum_within width m sum =
     if nat_lt (ones width) sum then None
     else Some (if m && (sum == ones width) then missing else number sum)
 
--- The content of an item in one subset if k is not 0, or `None` if the increment is invalid (fault
--- 34). A number that may be missing is missing if all bits of its base or of its increment are
--- ones. Any other number is the sum of its base and its increment. A string consists of the k
--- octets of its increment, followed by spaces (own). The string is missing if all k octets are 255
--- (own), and invalid if k is greater than the string's length (own). A string's base is ignored
--- (own). A redefined reference value must not have increments (own).
+-- The content of an item with increments (k > 0) in one subset. The result is `None` if the
+-- increment is invalid (fault 34). If a number may be missing and all bits of its base or increment
+-- are ones, it is missing. Any other number is the sum of its base and its increment. A string
+-- consists of the k octets of its increment, followed by spaces (our choice). The string is missing
+-- if all k octets are 255, and invalid if k exceeds the string's length (both our choice). A
+-- string's base is ignored (our choice). A redefined reference value must not have increments (our
+-- choice).
 -- rule: compressed-all-missing, compressed-missing-increment, compressed-text
 -- rule: compressed-text-missing, compressed-text-past-width, compressed-text-base
 -- rule: compressed-references
@@ -304,14 +303,14 @@ increased (texts octets) k base i =
     else text (octets_in k i ++ replicate (octets - k) 32))
 increased references k base i = None
 
--- the values in a list of options, or `None` if any option is `None`
+-- the values in a list of options, or `None` if any of them is `None`
 abbrev pub all_there : {A : Type 0} → List (Option A) → Option (List A)
 all_there [] = Some []
 all_there (None ∷ more) = None
 all_there (Some a ∷ more) = option_map (λ others. a ∷ others) (all_there more)
 
 -- The content of an item in each of n subsets, or `None` if an increment is invalid (fault 34). If
--- k is 0, the base is the content in every subset.
+-- k is 0, the base encodes the content for every subset.
 -- rule: compressed-equal
 abbrev pub contents_across : Coding → (k subsets : ℕ) → (base suffix : List Bool)
     → Option (List Content)
@@ -327,15 +326,15 @@ same (reference a) (reference b) = int_eq a b
 same _ _ = false
 
 -- the content of an item in each subset, or a fault if the item is a replication factor that
--- differs between subsets (own)
+-- differs between subsets (our choice)
 -- rule: compressed-factors
 abbrev pub if_equal : Role → List Content → Result (List Content) FieldFault
 if_equal role.Factor (c ∷ cs) =
     if list_all (same c) cs then Ok (c ∷ cs) else Err unequal_factor
 if_equal _ cs = Ok cs
 
--- The item at the beginning of compressed data with n subsets, or its first fault in the order 30,
--- 34, 33. An item consists of a base, six bits for k, and, if k is not 0, n increments.
+-- The first item in compressed data with n subsets, or its fault (30, 34 or 33, checked in this
+-- order). An item consists of a base, six bits for k and, if k is not 0, n increments.
 -- rule: compressed-item, compressed-increments-there, fault-30-before-34, fault-34-before-33
 abbrev pub packed_field : (subsets : ℕ) → FieldSpec → List Bool
     → Result (FieldRead (List Content)) FieldFault
@@ -351,8 +350,8 @@ packed_field n spec bits =
       equal ← if_equal spec.role contents
       Ok (found equal (drop used suffix))
 
--- the answer of an item, which is taken from the first subset because replication factors and
--- redefined reference values are the same in all subsets
+-- the answer of an item, taken from the first subset because replication factors and redefined
+-- reference values are the same in all subsets
 abbrev pub answer_first : FieldSpec → List Content → Taken
 answer_first spec [] = taken.Plain
 answer_first spec (c ∷ cs) = answer_of spec c

@@ -1,26 +1,25 @@
--- Only laws need this file. A walk needs no row that Table B lacks. (WMO-No. 306, Volume I.2, FM
--- 94: section 3)
+-- Only laws need this file. Table B contains every row that a walk needs (FM 94 BUFR, section 3).
 use Rattle.std.specs.Prelude.{◌≡◌, true, false, List, [], ◌∷◌, Result, Ok, Err, is_some}
 use Rattle.bufr_tables.specs.Prelude.{Row, entry_of, is_inserted_text}
 use Rattle.bufr_walk.specs.Content.{Taken, FieldSpec}
 use Rattle.bufr_walk.specs.Rules.{TurnRefusal, OperatorModel, after_operator, after_field, element_spec, factor_spec, inserted_spec}
 use Rattle.bufr_walk.specs.Course.{Turns, finish, open_end, group, pass_end, factor_turn, element_turn, operator_turn}
 
--- If the field has already been read or written, `holds` is true of its answer and the answers that
--- follow.
+-- If the field has already been read or written, its answer and the following answers satisfy
+-- `holds`.
 abbrev pub IfTaken : Result FieldSpec TurnRefusal → (Taken → List Taken → Type 0) → List Taken
     → Type 0
 IfTaken (Err why) holds answers = Unit {0}
 IfTaken (Ok spec) holds [] = Unit {0}
 IfTaken (Ok spec) holds (t ∷ answers) = holds t answers
 
--- If the operator is not refused, `holds` is true of the operators that are then in effect.
+-- If the operator is not refused, the operators that are then in effect satisfy `holds`.
 abbrev pub IfApplied : Result OperatorModel TurnRefusal → (OperatorModel → Type 0) → Type 0
 IfApplied (Err why) holds = Unit {0}
 IfApplied (Ok settings) holds = holds settings
 
--- Table B has a row for every replication factor and element that a walk with the given answers
--- reaches in a list of steps. An element after 2 06 Y need not have a row.
+-- Table B has a row for every replication factor and element that a walk reaches, given its steps
+-- and answers. An element after 2 06 Y does not need a row.
 abbrev pub HasRows : List Row → Turns → OperatorModel → List Taken → Type 0
 HasRows table finish s answers = Unit {0}
 HasRows table open_end s answers = Unit {0}

@@ -2,19 +2,19 @@
 pub mod Rules
 -- the steps of a walk, and how the preceding fields determine the next step
 pub mod Course
--- the number of steps that a walk takes to reach what comes next
+-- how the steps of a walk are counted
 pub mod Steps
--- the rows of Table B that a walk needs
+-- the condition that Table B contains every row that a walk needs
 pub mod KnownRows
--- the specification and the content of a field, the value that is shown for it, and how it is read
+-- how fields are specified, how they are read, and how their values are shown
 pub mod Content
--- the items of the data, the reasons why data cannot be read, and the calls that show the items
+-- the items and faults in the data of a message, and the visitor calls that show the items
 pub mod Reading
 -- one pass over a template, and how data are read in passes
 pub mod Pass
 -- the readers of plain and compressed data, and what is stored when a message is read
 pub mod Readers
--- the cached descriptor lists with their templates, and the cached specifications of fields
+-- the cache of descriptor lists and their templates, and the cache of field specifications
 pub mod TemplateCache
 -- re-exports of the names that proofs and other crates use
 pub mod Prelude

@@ -1,6 +1,6 @@
--- One pass over a whole template, for one subset or for all subsets of compressed data, and how
--- data are read in passes. (WMO-No. 306, Volume I.2, FM 94: sections 3 and 4; the order of the
--- faults in an item is our choice)
+-- One pass over a template, and how data are read in passes (one for each subset of plain data, or
+-- a single pass over compressed data) (FM 94 BUFR, sections 3 and 4; the order of the checks for
+-- faults is our choice).
 -- Cited by public contracts.
 use Rattle.std.specs.Prelude.{ℕ, zero, suc, ◌+◌, ◌-◌, Bool, true, false, List, [], ◌∷◌, length, Result, Ok, Err, Option, Some, None, option_map, map, get_or, if◌then◌else◌, ◌≡◌, ◌<◌, ◌++◌, ◌%◌, ◌⊎◌, ◌==◌, is_none, is_some}
 use Rattle.bufr_walk.specs.Content.{Taken, FieldSpec, Content, FieldFault, FieldRead, answer_of, answer_first}
@@ -23,17 +23,17 @@ pub record Step (S C : Type 0) : Type 0 where
   pub state : S
 
 -- How a pass reads fields (`reading`) or writes them (`filling`). S is the type of the state
--- between two fields, and E is the type of the reasons to stop.
+-- between two fields, and E is the type of the reason for stopping.
 pub record Passing (S C E : Type 0) : Type 0 where
-  -- the result of reading or writing a field, or the reason why the field cannot be read or written
+  -- the result of reading or writing a field, or the reason why this failed
   pub step : FieldSpec → S → Result (Step S C) E
-  -- the reason to stop if the walk refuses a step
+  -- the reason for stopping if the walk refuses a step
   pub refuses : TurnRefusal → S → E
-  -- the reason, if any, why the pass must not end in the given state (for example, because items
-  -- remain to be written)
+  -- the reason, if any, why the pass must not end in the given state (for example, some items have
+  -- not been written)
   pub ends : S → Option E
-  -- the reason to stop if the walk is `astray` or if the bound of `pass` is reached, neither of
-  -- which ever happens
+  -- the reason for stopping if the walk is `astray` or if the bound of `pass` is reached (neither
+  -- ever happens)
   pub lost : E
 
 -- the items of a pass, the state after it, and the reason why it stopped, if any
@@ -46,20 +46,19 @@ pub record Pass (S C E : Type 0) : Type 0 where
 abbrev pub empty_pass : {S C E : Type 0} → S → Option E → Pass S C E
 empty_pass state stop = record { items = []; state = state; stop = stop }
 
--- the pass that begins with an item and continues as p
+-- the pass p with an item added at its beginning
 abbrev pub item_then : {S C E : Type 0} → FieldSpec → C → Pass S C E → Pass S C E
 item_then spec content p =
     record p { items = record { spec = spec; content = content } ∷ p.items }
 
 module _ {S C E : Type 0} (how : Passing S C E) where
-  -- the pass from a field on, which either stops at the field or continues as `rest`
+  -- a pass that begins with a field and either stops there or continues with `rest`
   abbrev pub pass_field : FieldSpec → S → Result (Step S C) E → (Step S C → Pass S C E)
       → Pass S C E
   pass_field spec s (Err why) rest = empty_pass s (Some why)
   pass_field spec s (Ok f) rest = item_then spec f.content (rest f)
 
-  -- the pass from a point where a field, the end, or a refusal comes next; `rest` is the pass after
-  -- the field
+  -- a pass that begins at the given point in a walk; after a field, the pass continues with `rest`
   abbrev pub pass_next : Next → S → (Step S C → Pass S C E) → Pass S C E
   pass_next (take_next spec) s rest = pass_field spec s (how.step spec s) rest
   pass_next at_end s rest = empty_pass s (how.ends s)
@@ -67,7 +66,7 @@ module _ {S C E : Type 0} (how : Passing S C E) where
   -- The walk is never `astray` because each replication factor returns its count.
   pass_next astray s rest = empty_pass s (Some how.lost)
 
-  -- The pass ends at the next point of the walk, or stops there for the given reason.
+  -- The pass ends at the given point in the walk, either normally or for the given reason.
   abbrev pub EndsPass : Next → S → Option E → Type 0
   EndsPass (take_next spec) s None = ⊥
   EndsPass (take_next spec) s (Some why) = how.step spec s ≡ Err why
@@ -75,10 +74,10 @@ module _ {S C E : Type 0} (how : Passing S C E) where
   EndsPass (refused why) s stop = stop ≡ Some (how.refuses why s)
   EndsPass astray s stop = ⊥
 
-  -- The pass over the fields of a course. If `course []`, which comes first, is a field with the
-  -- answer t, then `course (t ∷ [])` comes next, and so on. `most`, which bounds the recursion, is
-  -- greater than the number of bits to read or items to write, and each field uses at least one bit
-  -- or item.
+  -- The pass over the fields of a `Course`. `course []` comes first. If `course []` is a field with
+  -- the answer t, `course (t ∷ [])` comes next, and so on. `most` bounds the recursion. The bound
+  -- is never reached, because it exceeds the number of bits to read or items to write, and each
+  -- field uses at least one.
   abbrev pub pass : (most : ℕ) → Course → S → Pass S C E
   pass zero course s = empty_pass s (Some how.lost)
   pass (suc more) course s =
@@ -91,7 +90,7 @@ pub record Place : Type 0 where
   pub items : ℕ
   pub left : List Bool
 
--- the item that results from reading a field, or the field's fault
+-- the item that was read from a field, or the reason for stopping if the field cannot be read
 abbrev pub read_field : {C : Type 0} → DataCoding C → FieldSpec → (items : ℕ)
     → Result (FieldRead C) FieldFault → Result (Step Place C) Stop
 read_field coding spec items (Err why) = Err (stops.Field (wrong_of spec.fxy why))
@@ -101,8 +100,8 @@ read_field coding spec items (Ok f) = Ok (record {
   state = record { items = items + 1; left = f.suffix };
 })
 
--- How a pass reads data. `many` returns whether one more item would be too many. Once the walk has
--- accepted a field, the number of items is checked before the field is read.
+-- How a pass reads data. `many` returns whether one more item would exceed the limit. The number of
+-- items is checked after the walk accepts a field but before the field is read.
 -- rule: compressed-fault-order
 abbrev pub reading : {C : Type 0} → DataCoding C → (many : ℕ → Bool) → Passing Place C Stop
 reading coding many = record {
@@ -120,13 +119,13 @@ abbrev pub read_pass : {C : Type 0} → DataCoding C → (many : ℕ → Bool) �
 read_pass coding many course bits =
     pass (reading coding many) (suc (length bits)) course (record { items = 0; left = bits })
 
--- ---- Reading data in one pass for each subset, or in a single pass over compressed data.
+-- ---- The passes that read plain or compressed data.
 
 abbrev pub DataPass : Type 0 → Type 0
 DataPass C = Pass Place C Stop
 
--- the passes over plain data, one for each of n subsets; each starts at the beginning of the
--- template, and a pass that stops because of a fault is the last one
+-- the passes over plain data, one for each of n subsets, up to the first fault; each pass starts at
+-- the beginning of the template
 -- rule: operators-end-with-subset, subsets-without-padding
 abbrev pub passes_apart : Course → (n : ℕ) → List Bool → List (DataPass Content)
 passes_apart course zero bits = []
@@ -134,15 +133,15 @@ passes_apart course (suc n) bits =
     let p = read_pass plain (λ items. false) course bits in
     p ∷ (if is_none p.stop then passes_apart course n p.state.left else [])
 
--- the single pass over compressed data with n subsets, or no pass if n is 0, in which case no bits
--- are read (own)
+-- the single pass over compressed data with n subsets; if n is 0, there is no pass, and no bits are
+-- read (our choice)
 -- rule: no-subsets
 abbrev pub passes_together : Course → (n : ℕ) → List Bool → List (DataPass (List Content))
 passes_together course zero bits = []
 passes_together course (suc n) bits =
     read_pass (packed (suc n)) (would_be_many (suc n)) course bits ∷ []
 
--- the first reason why a pass stopped, if any
+-- the reason why the first incomplete pass stopped, or `None` if all passes were completed
 abbrev pub stop_of : {C : Type 0} → List (DataPass C) → Option Stop
 stop_of [] = None
 stop_of (p ∷ passes) = if is_some p.stop then p.stop else stop_of passes
@@ -152,16 +151,16 @@ abbrev pub left_after : {C : Type 0} → List Bool → List (DataPass C) → Lis
 left_after bits [] = bits
 left_after bits (p ∷ passes) = left_after p.state.left passes
 
--- The result of reading data, which consists of the items, the reason why reading stopped (if it
--- did), the number of the subset in which it stopped (counted from 1, or 0 for compressed data),
--- and the bits after the items.
+-- The result of reading data. `stop` is the reason why reading stopped early, if it did. `subset`
+-- is the number of the subset in which reading stopped or ended (counted from 1), or 0 for
+-- compressed data. `left` contains the bits after the last item.
 pub record DataReading : Type 0 where
   pub values : Values
   pub stop : Option Stop
   pub subset : ℕ
   pub left : List Bool
 
--- the result of reading data in the given passes, with the values that were read
+-- the result of reading data in the given passes; `values` contains the items of these passes
 abbrev pub reading_by : {C : Type 0} → Values → (subset : ℕ) → List Bool → List (DataPass C)
     → DataReading
 reading_by values subset bits passes = record {
@@ -171,9 +170,9 @@ reading_by values subset bits passes = record {
   left = left_after bits passes;
 }
 
--- The result of reading data according to a course. With plain data, only the last pass can stop,
--- so the number of passes is the number of the subset in which reading stops. Compressed data are
--- read in one pass, or in none if the message has no subsets.
+-- The result of reading the fields of a `Course`. With plain data, reading can stop only in the
+-- last pass, so the number of passes identifies the subset. Compressed data are read in one pass,
+-- or in none if the message has no subsets.
 abbrev pub reading_in : Course → (compressed : Bool) → (subsets : ℕ) → List Bool → DataReading
 reading_in course false n bits =
     let passes = passes_apart course n bits in
@@ -185,19 +184,19 @@ reading_in course true n bits =
 abbrev pub reading_of : Course → Data → DataReading
 reading_of course d = reading_in course d.compressed d.subsets d.bits
 
--- the fault in the data, if reading stopped
+-- the fault at which reading stopped, if any
 -- rule: stream-fault-place
 abbrev pub fault_of : Data → DataReading → Option WalkFault
 fault_of d r =
     option_map (λ why. fault_at why r.subset (length d.bits - length r.left)) r.stop
 
--- ---- The items read from a message, and the calls that show them.
+-- ---- The items read from a message, and the visitor calls that show them.
 
 -- the items read from a message
 abbrev pub values_read : Read → Values
 values_read r = (reading_of (course_of r) r.source).values
 
--- the calls that show the items read from a message
+-- the visitor calls that show the items read from a message
 abbrev pub calls_of : Read → List Timed
 calls_of r = calls_for r (values_read r)
 
@@ -221,9 +220,9 @@ pub record ReadsTo {C : Type 0} (form : DataCoding C) (many : ℕ → Bool) (cou
   pub count : p.state.items ≡ from.items + length p.items
   pub ends : EndsPass (reading form many) (course (answers_in form.gives p.items)) p.state p.stop
 
--- ---- The number of steps in passes.
+-- ---- The number of steps needed to read data.
 
--- the number of steps needed to read data according to a course
+-- the total number of steps in all passes over the data
 abbrev pub turns_read_in : CountedCourse → (compressed : Bool) → (subsets : ℕ) → List Bool → ℕ
 turns_read_in course false n bits =
     turns_in answer_of course (map (λ p. p.items) (passes_apart (uncounted course) n bits))
@@ -233,11 +232,11 @@ turns_read_in course true n bits =
 abbrev pub turns_read : CountedCourse → Data → ℕ
 turns_read course d = turns_read_in course d.compressed d.subsets d.bits
 
--- ---- When memory may run out.
+-- ---- Points at which memory may run out.
 
--- Memory may run out in one of the given passes, just before a field is read. Memory is allocated
--- at that point if the field is a redefined reference value, which must be stored, or if the number
--- of preceding items requires it (`wants`). `turns` is the number of steps up to that field.
+-- In one of the given passes, memory may run out just before a field is read. Memory may be needed
+-- if the field contains a redefined reference value or if `wants` returns true for the number of
+-- preceding items. `turns` is the number of steps up to that field.
 pub record RunsShort {C : Type 0} (form : DataCoding C) (wants : ℕ → Bool) (course : CountedCourse)
     (passes : List (DataPass C)) (turns : ℕ) : Type 0 where
   pub done : List (DataPass C)
@@ -280,7 +279,7 @@ ReadsData course d (Err why) steps =
     ⊎ ((why ≡ walk_fault.Memory) × (turns : ℕ)
     × MayRunShort course d.compressed d.subsets d.bits turns × (steps ≡ ticked 0 turns))
 
--- A call returned a fault, or a `Reading` with the given table, template and data.
+-- A call returned either a fault or a `Reading` with the given table, template and data.
 abbrev pub AnswersReading : List Row → Tree → Data → Result Read WalkFault → (steps : ℕ) → Type 0
 AnswersReading table template d (Ok r) steps =
     (r.table ≡ table) × (r.template ≡ template) × (r.source ≡ d)

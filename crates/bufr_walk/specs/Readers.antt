@@ -18,8 +18,8 @@ use Rattle.bufr_walk.specs.declared.compressed.ItemBits.{ItemBits}
 use Rattle.bufr_walk.specs.declared.reading.StoredItems.{StoredItems}
 use Rattle.bufr_walk.specs.declared.reading.StoredItems.TheVariants as stored
 
--- data with the given parts; the next three definitions likewise construct a `Read`, a `View`, and
--- a `Place`
+-- a `Data` record for the given octets; the next three definitions create `Read`, `View` and
+-- `Place` records
 abbrev pub data_in : (compressed : Bool) → (subsets : ℕ) → (octets : List ℕ) → Data
 data_in compressed subsets octets =
     record { compressed = compressed; subsets = subsets; bits = bits_of octets }
@@ -34,7 +34,7 @@ view fxy entry value = record { fxy = fxy; entry = entry; value = value }
 abbrev pub place_at : ℕ → List Bool → Place
 place_at items left = record { items = items; left = left }
 
--- the content of an item in one subset; subsets are counted from 0
+-- the content of an item in the given subset (counted from 0)
 abbrev pub content_at : (subset : ℕ) → List Content → Content
 content_at j contents = get_or contents j missing
 
@@ -42,8 +42,8 @@ content_at j contents = get_or contents j missing
 abbrev pub items_by_pass : {C : Type 0} → List (DataPass C) → List (List (Item C))
 items_by_pass passes = map (λ p. p.items) passes
 
--- the items of the first pass, which is the only pass over compressed data, or an empty list if no
--- pass was made
+-- the items of the first pass, or an empty list if there is none; compressed data are read in at
+-- most one pass
 abbrev pub first_items : {C : Type 0} → List (List (Item C)) → List (Item C)
 first_items passes = get_or passes 0 []
 
@@ -52,7 +52,7 @@ pub record Cursor : Type 0 where
   pub bits : List Bool
   pub at : ℕ
 
--- the remaining bits
+-- the bits that the reader has not read yet
 abbrev pub rest_of : Cursor → List Bool
 rest_of s = drop s.at s.bits
 
@@ -60,8 +60,8 @@ rest_of s = drop s.at s.bits
 abbrev pub past : Cursor → FieldSpec → Cursor
 past s spec = record { bits = s.bits; at = s.at + spec.width }
 
--- The remaining bits begin with a field that has the given specification, t is its answer, and s'
--- is the reader after the field.
+-- The remaining bits begin with a field that has the given specification. The field's answer is t,
+-- and s' is the reader after the field.
 pub record IsTaken (s : Cursor) (spec : FieldSpec) (t : Taken) (s' : Cursor) : Type 0 where
   pub content : Content
   pub some : 1 ≤ spec.width
@@ -69,21 +69,21 @@ pub record IsTaken (s : Cursor) (spec : FieldSpec) (t : Taken) (s' : Cursor) : T
   pub gives : t ≡ answer_of spec content
   pub next : s' ≡ past s spec
 
--- A call read a field, or changed nothing because the data end inside the field.
+-- A call read a field or failed because the data end too early. A call that fails changes nothing.
 abbrev pub PlainTakes : Cursor → FieldSpec → Result Taken DataFault → Cursor → Type 0
 PlainTakes s spec (Ok t) s' = IsTaken s spec t s'
 PlainTakes s spec (Err e) s' =
     (plain_field spec (rest_of s) ≡ Err data_end) × (e ≡ data_fault.DataEnd spec.fxy) × (s' ≡ s)
 
--- the state while data are shown, which consists of the reader, the visitor, Table B, and the ghost
--- names of the reader and the visitor
+-- the state while items are being shown (the reader, the visitor, Table B, and the ghost names of
+-- the reader and the visitor)
 pub record Stage (V : Type 0) : Type 0 where
   pub cursor : Cursor
   pub visitor : V
   pub table : List Row
   pub names : ℕ × ℕ
 
--- the state with the given parts
+-- a `Stage` with the given reader, visitor, table and ghost names
 abbrev pub stage : {V : Type 0} → Cursor → V → List Row → ℕ → ℕ → Stage V
 stage cursor visitor table a b =
     record { cursor = cursor; visitor = visitor; table = table; names = (a, b) }
@@ -105,8 +105,8 @@ pub record IsUnshown {V E : Type 0} (sees : V → Call → Result (Unit {0}) E �
   pub cursor : s'.cursor ≡ s.cursor
   pub names : s'.names ≡ s.names
 
--- A call showed a field, or failed because the data end inside it or because the visitor refused
--- it.
+-- A call either showed a field or failed. It fails if the data end inside the field or if the
+-- visitor refuses the field.
 abbrev pub ShowingTakes : {V E : Type 0} → (V → Call → Result (Unit {0}) E → V → Type 0) → Stage V
     → FieldSpec → Result Taken (ShowStop E) → Stage V → Type 0
 ShowingTakes sees s spec (Ok t) s' = IsShown sees s spec t s'
@@ -114,21 +114,21 @@ ShowingTakes sees s spec (Err show_stop.DataEnd) s' =
     (plain_field spec (rest_of s.cursor) ≡ Err data_end) × (s' ≡ s)
 ShowingTakes sees s spec (Err (show_stop.Visitor e)) s' = IsUnshown sees s spec e s'
 
--- A fault leaves the reader at the same bit.
+-- A call that fails does not advance the reader.
 pub refusal_keeps : {V E : Type 0} (sees : V → Call → Result (Unit {0}) E → V → Type 0)
     (s : Stage V) (spec : FieldSpec) (e : ShowStop E) (s' : Stage V)
     → ShowingTakes sees s spec (Err e) s' → s'.cursor.at ≡ s.cursor.at
 refusal_keeps sees s spec show_stop.DataEnd s' h = ap (λ x. x.cursor.at) h.1
 refusal_keeps sees s spec (show_stop.Visitor e) s' h = ap (λ c. c.at) h.cursor
 
--- The calls before `rest` were made. If the calls in `rest` follow, their result is the result of
--- all calls.
+-- None of the calls before `rest` returned a fault, so the calls in `rest` determine the overall
+-- result.
 pub record Sofar {S E : Type 0} (sees : S → Call → Result (Unit {0}) E → S → Type 0) (s : S)
     (calls : List Timed) (s1 : S) (rest : List Timed) : Type 0 where
   pub on : (turns : ℕ) (r : Result (Unit {0}) (ShowFault E)) (s' : S) (steps : ℕ)
       → Shows sees s1 rest turns r s' steps → Shows sees s calls turns r s' steps
 
--- The items of a pass were shown, regardless of the calls that follow.
+-- All items of a pass were shown. Other calls may follow.
 pub record IsAllShown {S E : Type 0} (sees : S → Call → Result (Unit {0}) E → S → Type 0)
     (table : List Row) (course : CountedCourse) (s : S) (steps : ℕ) (p : DataPass Content)
     (c' : Cursor) (s' : S) (steps' : ℕ) : Type 0 where
@@ -137,7 +137,7 @@ pub record IsAllShown {S E : Type 0} (sees : S → Call → Result (Unit {0}) E 
   pub left : rest_of c' ≡ p.state.left
   pub ticks : steps' ≡ ticked steps (course (answers_in answer_of p.items)).turns
 
--- The items of the next subset were shown, either all of them or only those before a fault.
+-- All items of the next subset were shown, or only those before a fault.
 abbrev pub ItemsGo : {S E : Type 0} → (S → Call → Result (Unit {0}) E → S → Type 0) → List Row
     → CountedCourse → Cursor → S → ℕ → Result (Unit {0}) (ShowFault E) → Cursor → S → ℕ → Type 0
 ItemsGo sees table course c s steps (Ok _) c' s' steps' =
@@ -160,11 +160,11 @@ pub record PackedCursor : Type 0 where
 abbrev pub new_packed_in : (bits : List Bool) (subsets : ℕ) → PackedCursor
 new_packed_in bits n = record { bits = bits; at = 0; subsets = n; items = [] }
 
--- the remaining bits
+-- the bits that the reader has not read yet
 abbrev pub remaining_bits : PackedCursor → List Bool
 remaining_bits s = drop s.at s.bits
 
--- the content of an item in each subset, or an empty list if the item has a fault
+-- the content of an item in each subset, or an empty list if the item is invalid
 abbrev pub contents_found : Result (FieldRead (List Content)) FieldFault → List Content
 contents_found (Ok f) = f.content
 contents_found (Err why) = []
@@ -174,24 +174,24 @@ abbrev pub was_found : Result (FieldRead (List Content)) FieldFault → Bool
 was_found (Ok f) = true
 was_found (Err why) = false
 
--- the position of the first bit of the item that an index entry locates
+-- the bit position of an item, which its index entry stores as two numbers
 abbrev pub start_of : IndexedItem → ℕ
 start_of e = 2 ^ 32 * e.at_high + e.at_low
 
--- the item that an index entry locates
+-- the item that an index entry describes
 abbrev pub item_at : (bits : List Bool) (subsets : ℕ) → IndexedItem → Item (List Content)
 item_at bits n e = record {
   spec = e.spec;
   content = contents_found (packed_field n e.spec (drop (start_of e) bits));
 }
 
--- the items that the given index entries locate
+-- the items that the given index entries describe
 abbrev pub items_at : (bits : List Bool) (subsets : ℕ) → List IndexedItem
     → List (Item (List Content))
 items_at bits n [] = []
 items_at bits n (e ∷ kept) = item_at bits n e ∷ items_at bits n kept
 
--- whether an index entry stores the base that the bits contain; always true for strings
+-- whether the base in an index entry matches the data; the bases of strings are not compared
 abbrev pub has_base : (bits : List Bool) → IndexedItem → Bool
 has_base bits e =
     is_character e.spec.kind || (e.base == number_of (take e.spec.width (drop (start_of e) bits)))
@@ -201,26 +201,25 @@ abbrev pub are_valid : Coding → (k subsets : ℕ) → (base suffix : List Bool
 are_valid c k n base suffix =
     list_all (λ i. is_some (increased c k base i)) (increments n (step_of c k) suffix)
 
--- whether the item that an index entry locates is valid and has the k and the base that the entry
--- stores
+-- whether an index entry describes a valid item and matches the item's k and base
 abbrev pub fits_at : (bits : List Bool) (subsets : ℕ) → IndexedItem → Bool
 fits_at bits n e =
     was_found (packed_field n e.spec (drop (start_of e) bits))
     && ((e.step == number_of (take 6 (drop (start_of e + e.spec.width) bits))) && has_base bits e)
 
--- compressed data whose items are located by the given index entries
+-- the `PackedValues` with the items in the given index
 abbrev pub packed_values : List Row → (bits : List Bool) (subsets : ℕ) → List IndexedItem
     → PackedValues
 packed_values table bits n kept =
     record { table = table; subsets = n; items = items_at bits n kept }
 
--- a reader of compressed data whose items are located by the given index entries
+-- a reader of compressed data that has read the items in the given index
 abbrev pub packed_view : (bits : List Bool) (at subsets : ℕ) → List IndexedItem → PackedCursor
 packed_view bits at n kept =
     record { bits = bits; at = at; subsets = n; items = items_at bits n kept }
 
--- Every reader of compressed data has the following properties. Each item has at least 7 bits (one
--- for the base and six for k) and at most 2,550 bits for each subset.
+-- The invariant of a reader of compressed data. Each item has at least 7 bits (one for the base and
+-- six for k) and at most 2,550 bits for each subset.
 pub record IsPackedIn (bits : List Bool) (at subsets : ℕ) (kept : List IndexedItem) : Type 0 where
   pub within : at ≤ length bits
   pub some : 1 ≤ subsets
@@ -229,8 +228,8 @@ pub record IsPackedIn (bits : List Bool) (at subsets : ℕ) (kept : List Indexed
   pub near : at ≤ 2550 * (length kept * subsets)
   pub fit : list_all (fits_at bits subsets) kept ≡ true
 
--- The remaining bits begin with an item for the given field, and t is its answer. The item was
--- added to the items that the reader has read.
+-- The remaining bits begin with an item for the given field, and t is the item's answer. The item
+-- was added to the reader's items.
 pub record IsPackedTaken (s : PackedCursor) (spec : FieldSpec) (t : Taken)
     (s' : PackedCursor) : Type 0 where
   pub contents : List Content
@@ -250,8 +249,8 @@ pub record IsUnseen (bits : List Bool) (at n : ℕ) (spec : FieldSpec)
   pub field : packed_field n spec (drop at bits) ≡ Err why
   pub fault : e ≡ wrong_of spec.fxy why
 
--- A call read and stored an item, or failed because the data would have too many values, because
--- the item is invalid, or because memory for more items ran out. A call that fails changes nothing.
+-- A call either read and stored an item or failed. It fails if the data would contain too many
+-- values, if the item is invalid, or if memory runs out. A call that fails changes nothing.
 abbrev pub PackedTakes : PackedCursor → FieldSpec → Result Taken DataFault → PackedCursor → Type 0
 PackedTakes s spec (Ok t) s' = IsPackedTaken s spec t s'
 PackedTakes s spec (Err (data_fault.TooManyValues fxy)) s' =
@@ -271,7 +270,7 @@ refuses_packed s spec (data_fault.Increment fxy) s' h = h.1
 refuses_packed s spec (data_fault.UnequalFactor fxy) s' h = h.1
 
 -- The item that begins at the given bit was read. `s` contains the item's answer, its k, its base
--- (if the item is a number), and the index of the bit after the item.
+-- (except for strings), and the position of the bit after the item.
 pub record IsSeen (bits : List Bool) (at n : ℕ) (spec : FieldSpec) (s : ItemBits) : Type 0 where
   pub contents : List Content
   pub field : packed_field n spec (drop at bits) ≡ Ok (found contents (drop s.end bits))
@@ -281,18 +280,18 @@ pub record IsSeen (bits : List Bool) (at n : ℕ) (spec : FieldSpec) (s : ItemBi
   pub within : s.end ≤ length bits
   pub least : at + 7 ≤ s.end
 
--- The index has one entry for each item of compressed data, and each entry locates its item.
+-- The index has one entry for each item of compressed data, and each entry matches its item.
 abbrev pub AreKept : Data → List IndexedItem → List (Item (List Content)) → Type 0
 AreKept d entries items =
     (items_at d.bits d.subsets entries ≡ items)
     × (list_all (fits_at d.bits d.subsets) entries ≡ true)
 
--- the content of a stored item in one subset; subsets are counted from 0
+-- the content of a stored item in the given subset (counted from 0)
 abbrev pub content_kept : (bits : List Bool) (subsets : ℕ) → IndexedItem → (subset : ℕ) → Content
 content_kept bits n e j =
     content_at j (contents_found (packed_field n e.spec (drop (start_of e) bits)))
 
--- the call that shows a stored item
+-- the call that shows a stored item in the given subset (counted from 0)
 abbrev pub call_kept : List Row → (bits : List Bool) (subsets : ℕ) → IndexedItem → (subset : ℕ)
     → Call
 call_kept table bits n e j = item_call (view_of table e.spec (content_kept bits n e j))
@@ -331,8 +330,8 @@ pub record IsStoredReading (r : Read) (k : StoredItems) : Type 0 where
 -- ---- The index of the items in compressed data.
 
 -- The capacity of the index is at least the number of entries, rounded up to a multiple of 64,
--- because memory is allocated for 64 entries at a time. The capacity is at most 64 more than twice
--- the number of entries.
+-- because memory is allocated for 64 entries at a time. The capacity is at most twice the number of
+-- entries, plus 64.
 pub record HasRoom (entries room : ℕ) : Type 0 where
   pub enough : (entries + (items_at_once - 1)) / items_at_once * items_at_once ≤ room
   pub most : room ≤ 2 * entries + items_at_once

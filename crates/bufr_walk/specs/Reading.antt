@@ -1,5 +1,5 @@
--- The items in the data of a message, and the reasons why data cannot be read. (WMO-No. 306, Volume
--- I.2, FM 94: sections 3 and 4)
+-- The items and faults in the data of a message, and the visitor calls that show the items. (FM 94
+-- BUFR, sections 3 and 4)
 -- Cited by public contracts.
 use Rattle.std.specs.Prelude.{ℕ, zero, suc, ◌≡◌, ◌+◌, ◌*◌, Bool, List, [], ◌∷◌, length, drop, take, ◌<◌, Result, Ok, ◌⊎◌, nat_lt, Option, None, Err, codes, decimal, if◌then◌else◌, ◌++◌, option_map, map, get_or}
 use Rattle.bufr_walk.specs.Content.{Taken, FieldSpec, Content, answer_of, FieldFault, FieldRead, found, plain_field, data_end, increment, unequal_factor, packed_field, answer_first, ShownValue, shown, missing, shown_number, shown_text, shown_missing, shown_reference}
@@ -31,7 +31,7 @@ pub record Item (C : Type 0) : Type 0 where
 pub record DataCoding (C : Type 0) : Type 0 where
   -- the item at the beginning of the given bits, or its fault
   pub field : FieldSpec → List Bool → Result (FieldRead C) FieldFault
-  -- the answer of an item
+  -- the answer of an item (the part of its content that affects the walk)
   pub gives : FieldSpec → C → Taken
 
 abbrev pub plain : DataCoding Content
@@ -40,16 +40,16 @@ plain = record { field = plain_field; gives = answer_of }
 abbrev pub packed : ℕ → DataCoding (List Content)
 packed n = record { field = packed_field n; gives = answer_first }
 
--- the answers of items, which are the parts of their content that affect the walk
+-- the answers of the given items
 abbrev pub answers_in : {C : Type 0} → (FieldSpec → C → Taken) → List (Item C) → List Taken
 answers_in gives items = map (λ i. gives i.spec i.content) items
 
--- the course after one more item, with or without step counts
+-- the rest of a `Course` or `CountedCourse` after one more item
 abbrev pub after : {C N : Type 0} → DataCoding C → (List Taken → N) → Item C → List Taken → N
 after form course i answers = course (form.gives i.spec i.content ∷ answers)
 
--- Each item belongs to the field that comes next, and begins where the preceding item ends.
--- `suffix` contains the bits after the last item.
+-- The items are in the order of the fields in the `Course`, and each item begins where the
+-- preceding one ends. `suffix` contains the bits after the last item.
 abbrev pub ReadsItems : {C : Type 0} → DataCoding C → Course → List (Item C)
     → (bits suffix : List Bool) → Type 0
 ReadsItems form course [] bits suffix = bits ≡ suffix
@@ -58,28 +58,28 @@ ReadsItems form course (i ∷ items) bits suffix =
     × (form.field i.spec bits ≡ Ok (found i.content mid))
     × ReadsItems form (after form course i) items mid suffix
 
--- the maximum number of values in compressed data, which is 2^27 (own)
+-- the maximum number of values in compressed data, which is 2^27 (our choice)
 -- rule: too-many-values
 abbrev pub max_values : ℕ
 max_values = 134217728
 
--- the number of items of compressed data for which memory is allocated at a time (own)
+-- the minimum number of compressed items for which memory is reserved at a time (our choice)
 abbrev pub items_at_once : ℕ
 items_at_once = 64
 
--- whether the data of a message are compressed, the number of subsets, and the bits of the data
+-- the data of a message, the number of subsets, and whether the data are compressed
 pub record Data : Type 0 where
   pub compressed : Bool
   pub subsets : ℕ
   pub bits : List Bool
 
--- the items in the data, in a separate list for each subset of plain data or in a single list for
--- all subsets of compressed data
+-- the items in the data (for plain data, one list for each subset; for compressed data, a single
+-- list)
 pub data Values : Type 0 where
   apart : (subsets : List (List (Item Content))) → Values
   together : (items : List (Item (List Content))) → Values
 
--- the items of compressed data, with their content in one subset (counted from 0)
+-- the items of compressed data, with their content in the given subset (counted from 0)
 abbrev pub items_of_subset : (subset : ℕ) → List (Item (List Content)) → List (Item Content)
 items_of_subset j items =
     map (λ i. record { spec = i.spec; content = get_or i.content j missing }) items
@@ -102,20 +102,19 @@ abbrev pub items_kept : Values → ℕ
 items_kept (apart subsets) = 0
 items_kept (together items) = length items
 
--- The reason why reading stops. Either the walk refuses a step, or a field cannot be read. A
--- `FieldFault` becomes a `DataFault`, which includes the descriptor. A `DataFault` or a
--- `TurnRefusal` becomes a `WalkStop`. A `WalkStop` becomes a `WalkFault`, which includes the
--- location.
+-- The reason why reading stops. Either the walk refuses a step, or a field cannot be read. Adding
+-- the descriptor to a `FieldFault` gives a `DataFault`. A `DataFault` or a `TurnRefusal` becomes a
+-- `WalkStop`, and adding the location to a `WalkStop` gives a `WalkFault`.
 abbrev pub Stop : Type 0
 Stop = WalkStop DataFault
 
--- the fault in the field with the given descriptor
+-- the `DataFault` for a fault in the field with the given descriptor
 abbrev pub wrong_of : (fxy : ℕ) → FieldFault → DataFault
 wrong_of fxy data_end = data_fault.DataEnd fxy
 wrong_of fxy increment = data_fault.Increment fxy
 wrong_of fxy unequal_factor = data_fault.UnequalFactor fxy
 
--- whether one more item would exceed the maximum number of values
+-- whether one more item would raise the number of values above the maximum
 -- rule: too-many-values
 abbrev pub would_be_many : (subsets items_before : ℕ) → Bool
 would_be_many subsets items_before = nat_lt max_values ((items_before + 1) * subsets)
@@ -126,8 +125,8 @@ would_be_many subsets items_before = nat_lt max_values ((items_before + 1) * sub
 abbrev pub spot : (subset fxy bit : ℕ) → Spot
 spot subset fxy bit = record { subset = subset; fxy = fxy; bit = bit }
 
--- the fault in the data, if reading stopped for the given reason in the given subset, after `bit`
--- bits of the data
+-- the fault in the data, given the reason why reading stopped, the subset, and the number of bits
+-- before the fault
 -- rule: stream-fault-place
 abbrev pub fault_at : WalkStop DataFault → (subset bit : ℕ) → WalkFault
 fault_at (stops.Width fxy) subset bit = walk_fault.Width (spot subset fxy bit)
@@ -143,8 +142,7 @@ fault_at (stops.Field (data_fault.TooManyValues f)) subset bit =
 fault_at (stops.Field data_fault.Memory) subset bit = walk_fault.Memory
 fault_at stops.Memory subset bit = walk_fault.Memory
 
--- the number of bits before the invalid item; if memory ran out, no item is invalid, and the result
--- is `all` because up to `all` bits may have been read
+-- the number of bits before the fault, or `all` if memory ran out
 abbrev pub bits_before : WalkFault → (all : ℕ) → ℕ
 bits_before (walk_fault.DataEnd s) all = s.bit
 bits_before (walk_fault.Width s) all = s.bit
@@ -167,7 +165,7 @@ spot_text name s =
 abbrev pub data_report : WalkFault → ℕ × List (List ℕ)
 -- The data end inside an item.
 data_report (walk_fault.DataEnd s) = (30, spot_text (codes "data end") s)
--- The data width of a field that is not text is less than 1 bit or greater than 63 bits.
+-- The width of a non-text field is 0 bits or more than 63 bits.
 data_report (walk_fault.Width s) = (31, spot_text (codes "width") s)
 -- The descriptor is not allowed while 2 03 Y redefines reference values.
 data_report (walk_fault.Defining s) = (32, spot_text (codes "defining") s)
@@ -184,8 +182,8 @@ data_report walk_fault.Memory = (73, [])
 abbrev pub data_of : Sections → Data
 data_of m = record { compressed = m.compressed; subsets = m.subsets; bits = bits_of m.payload }
 
--- the result of reading a message, which consists of the table, the template, the data, the number
--- of bits that the items occupy, and the number of items that are stored
+-- the result of reading a message (the table, the template, the data, the number of bits that the
+-- items occupy, and the number of stored items)
 pub record Read : Type 0 where
   pub table : List Row
   pub template : Tree
@@ -193,26 +191,25 @@ pub record Read : Type 0 where
   pub bits : ℕ
   pub held : ℕ
 
--- the course of the template that was used to read a message
+-- the `Course` of the template that was used to read a message
 abbrev pub course_of : Read → Course
 course_of r = next_item r.table r.template
 
 -- ---- The number of steps needed to read a message. (Only contracts need this number.)
 
--- the course of the template that was used to read a message, with step counts
+-- a version of `course_of` that also counts steps
 abbrev pub counted_course_of : Read → CountedCourse
 counted_course_of r = counted_item r.table r.template
 
--- the total number of steps in the passes with the given items; each pass is counted up to what
--- comes next after its items
+-- the total number of steps in several passes, given the items of each pass; each pass is counted
+-- up to the point where it ends
 abbrev pub turns_in : {C : Type 0} → (FieldSpec → C → Taken) → CountedCourse
     → List (List (Item C)) → ℕ
 turns_in gives course [] = 0
 turns_in gives course (items ∷ more) =
     (course (answers_in gives items)).turns + turns_in gives course more
 
--- ---- The calls to a visitor that show the items read from a message, in order, if the visitor
--- accepts all calls.
+-- ---- The visitor calls that show the items read from a message, if the visitor accepts them all.
 
 -- the descriptor of an item to be shown, its row in Table B (if the item was read according to that
 -- row), and its value
@@ -234,16 +231,16 @@ view_of table spec c =
       value = shown spec c;
     }
 
--- a call, and the number of steps that the walk takes before the call
+-- a call and the number of steps that the walk takes before it
 pub record Timed : Type 0 where
   pub turns : ℕ
   pub call : Call
 
--- a call with its number of steps
+-- a call with the given number of steps before it
 abbrev pub timed : ℕ → Call → Timed
 timed turns call = record { turns = turns; call = call }
 
--- the calls for the items of one subset; the walk takes `before` steps before that subset
+-- the calls for the items of one subset, which begins after `before` steps of the walk
 abbrev pub item_calls : List Row → (before : ℕ) → CountedCourse → List (Item Content)
     → List Timed
 item_calls table before course [] = []
@@ -251,8 +248,8 @@ item_calls table before course (i ∷ items) =
     timed (before + (course []).turns) (item_call (view_of table i.spec i.content))
     ∷ item_calls table before (after plain course i) items
 
--- the calls for consecutive subsets; `number` is the number of the first subset (counted from 1),
--- and the walk takes `before` steps before that subset
+-- the calls for consecutive subsets; the first subset begins after `before` steps of the walk, and
+-- `number` is its number (counted from 1)
 abbrev pub subset_calls : List Row → CountedCourse → (before number : ℕ)
     → List (List (Item Content)) → List Timed
 subset_calls table course before number [] = []
@@ -261,17 +258,17 @@ subset_calls table course before number (items ∷ subsets) =
     ++ subset_calls table course (before + (course (answers_in answer_of items)).turns) (number + 1)
     subsets
 
--- the course for showing compressed data; it counts no steps because no walk is needed
+-- the `CountedCourse` for showing compressed data; it counts no steps because no walk is needed
 abbrev pub without_turns : CountedCourse
 without_turns answers = record { turns = 0; next = at_end }
 
--- compressed data to be shown, with the table, the number of subsets, and the items of all subsets
+-- the information needed to show compressed data (the table, the number of subsets, and all items)
 pub record PackedValues : Type 0 where
   pub table : List Row
   pub subsets : ℕ
   pub items : List (Item (List Content))
 
--- the items whose indices are in `from..to`, in one subset (counted from 0)
+-- the items with indices `from..to` in the given subset (counted from 0)
 abbrev pub items_between : PackedValues → (subset from to : ℕ) → List (Item Content)
 items_between p j from to = items_of_subset j (drop from (take to p.items))
 
@@ -280,7 +277,7 @@ abbrev pub IsSameInAll : PackedValues → (index : ℕ) → Type 0
 IsSameInAll p i = (j : ℕ) → j < p.subsets
     → items_between p j i (i + 1) ≡ items_between p 0 i (i + 1)
 
--- the calls that show the items in `items_between`
+-- the calls that show the items with indices `from..to` in the given subset (counted from 0)
 abbrev pub range_calls : PackedValues → (subset from to : ℕ) → List Timed
 range_calls p j from to = item_calls p.table 0 without_turns (items_between p j from to)
 
@@ -288,12 +285,12 @@ range_calls p j from to = item_calls p.table 0 without_turns (items_between p j 
 abbrev pub packed_calls : PackedValues → List Timed
 packed_calls p = subset_calls p.table without_turns 0 1 (subsets_from p.subsets 0 p.items)
 
--- the course for showing the items read from a message
+-- the `CountedCourse` for showing the items read from a message
 abbrev pub walk_shown : Read → Values → CountedCourse
 walk_shown r (apart subsets) = counted_course_of r
 walk_shown r (together items) = without_turns
 
--- the calls that show the items read from a message
+-- the visitor calls that show the items read from a message
 abbrev pub calls_for : Read → Values → List Timed
 calls_for r values =
     subset_calls r.table (walk_shown r values) 0 1 (each_subset r.source.subsets values)
@@ -303,7 +300,7 @@ abbrev pub turns_for : Read → Values → ℕ
 turns_for r values =
     turns_in answer_of (walk_shown r values) (each_subset r.source.subsets values)
 
--- 1 for a call that shows an item, or 0 for a call that begins a subset
+-- 1 if the call shows an item, or 0 if it begins a subset
 abbrev pub item_or_not : Call → ℕ
 item_or_not (subset_call number) = 0
 item_or_not (item_call item) = 1
@@ -313,7 +310,7 @@ abbrev pub items_called : List Timed → ℕ
 items_called [] = 0
 items_called (t ∷ calls) = item_or_not t.call + items_called calls
 
--- ---- The calls that are made up to the first fault, and the steps that they take.
+-- ---- The calls up to the first fault, and the number of steps.
 
 -- The value is a redefined reference value, which is the only kind of value that the walk stores.
 abbrev pub IsReferenceValue : ShownValue → Type 0
@@ -327,15 +324,14 @@ abbrev pub NeedsMemory : Call → Type 0
 NeedsMemory (subset_call number) = ⊥
 NeedsMemory (item_call item) = IsReferenceValue item.value
 
--- The calls ended at the given call because the visitor refused it or because memory ran out before
--- it.
+-- No further calls are made because the visitor refused the given call or memory ran out before it.
 abbrev pub EndsAt : {S E : Type 0} → (S → Call → Result (Unit {0}) E → S → Type 0) → S → Call
     → ShowFault E → S → Type 0
 EndsAt sees s call (show_fault.Visitor e) s' = sees s call (Err e) s'
 EndsAt sees s call show_fault.Memory s' = (s' ≡ s) × NeedsMemory call
 
 -- If the result is `Ok`, all calls were made. Otherwise, only the calls up to the fault were made.
--- `steps` counts the steps of the walk up to the end or the fault.
+-- `steps` is the number of steps up to the end or the fault.
 abbrev pub Shows : {S E : Type 0} → (S → Call → Result (Unit {0}) E → S → Type 0) → S → List Timed
     → (turns : ℕ) → Result (Unit {0}) (ShowFault E) → S → (steps : ℕ) → Type 0
 Shows sees s [] turns (Ok _) s' steps = (s' ≡ s) × (steps ≡ ticked 0 turns)

@@ -1,5 +1,5 @@
--- The operators in effect, and how they determine the specification of a field. (WMO-No. 306,
--- Volume I.2, FM 94: Tables B and C; what the tables leave open is our choice)
+-- The operators in effect, and how they determine the specification of a field (FM 94 BUFR, Tables
+-- B and C; details that the tables leave open are our choice).
 -- Cited by public contracts.
 use Rattle.std.specs.Prelude.{ℕ, ◌==◌, ◌&&◌, not, nat_lt, Bool, if◌then◌else◌, List, [], ◌∷◌, ℤ, Result, Ok, Err, ◌+◌, ◌-◌, ◌*◌, ◌/◌, ◌^◌, nat_le, true, false, pos, ◌+ℤ◌, ◌-ℤ◌, ◌*ℤ◌, Option, Some, None, ◌≤◌, ◌≡◌, ◌<◌}
 use Rattle.bufr_tables.specs.Prelude.{x_of, y_of, Row, entry_of}
@@ -16,26 +16,26 @@ use Rattle.bufr_tables.specs.declared.table_b.Kind.TheVariants as kind
 use Rattle.bufr_walk.specs.declared.spec.Role.TheVariants as role
 use Rattle.bufr_walk.specs.declared.operators.TableField.TheVariants as field
 
--- ---- The operators in effect in one subset. (WMO-No. 306, Volume I.2, FM 94: Table C)
+-- ---- The operators in effect in one subset (FM 94 BUFR, Table C).
 
--- an element and its redefined reference value, which the data contain after 2 03 Y
+-- an element's descriptor and its redefined reference value
 pub record Redefined : Type 0 where
   pub fxy : ℕ
   pub reference : ℤ
 
 -- The operators in effect, and the redefined reference values. Each operator is represented by its
--- operand Y, or by 0 if it is not in effect. No operator in effect has the operand 0, because Y = 0
--- cancels 2 01, 2 02, 2 07 and 2 08. Likewise, 2 03 000 cancels all redefined reference values, and
--- 2 06 000 is rejected. Each operator except 2 06 Y stays in effect until it is cancelled, until
--- another operator with the same X replaces it (own), or until the subset ends.
+-- operand Y, or by 0 if it is not in effect. No operator in effect has the operand 0, which cancels
+-- 2 01, 2 02, 2 07 and 2 08. 2 03 000 cancels all redefined reference values, and 2 06 000 is
+-- rejected. Each operator except 2 06 Y stays in effect until it is canceled, until another
+-- operator with the same X replaces it (our choice), or until the subset ends.
 pub record OperatorModel : Type 0 where
   -- 2 01 Y, which adds Y - 128 to the data width of quantities
   pub width_change : ℕ
   -- 2 02 Y, which adds Y - 128 to the scale of quantities
   pub scale_change : ℕ
-  -- 2 03 Y, after which redefined reference values follow, each Y bits wide (0 after 2 03 255)
+  -- 2 03 Y, which is followed by Y-bit redefined reference values (stored as 0 after 2 03 255)
   pub new_reference_width : ℕ
-  -- 2 07 Y, which gives quantities Y more decimal digits
+  -- 2 07 Y, which increases the precision of quantities by Y decimal digits
   pub precision_increase : ℕ
   -- 2 08 Y, which makes text elements Y octets long
   pub character_octets : ℕ
@@ -44,7 +44,7 @@ pub record OperatorModel : Type 0 where
   -- the redefined reference values, at most one for each element, sorted by descriptor
   pub new_references : List Redefined
 
--- the operators at the beginning of a subset, when no operator is in effect
+-- the state at the beginning of a subset, when no operator is in effect
 -- rule: operators-end-with-subset
 abbrev pub begin : OperatorModel
 begin =
@@ -71,7 +71,7 @@ with_references y s =
     else if y == 0 then record s { new_references = [] }
     else record s { new_reference_width = y }
 
--- the operators in effect after 2 X Y; 2 05 Y changes nothing
+-- the operators in effect after 2 X Y (2 05 Y does not change them)
 -- rule: later-operator-replaces
 abbrev pub with_operator : (x y : ℕ) → OperatorModel → OperatorModel
 with_operator x y s =
@@ -84,15 +84,15 @@ with_operator x y s =
     else s
 
 -- the operators in effect after one more operator, which must be 2 03 255 while reference values
--- are being redefined (own)
+-- are being redefined (our choice)
 -- rule: defining-no-other-operator, fault-32-before-31
 abbrev pub after_operator : OperatorModel → ℕ → Result OperatorModel TurnRefusal
 after_operator s fxy =
     if is_defining s && not (x_of fxy == 3 && y_of fxy == 255) then Err (refusal.Defining fxy)
     else Ok (with_operator (x_of fxy) (y_of fxy) s)
 
--- The redefined reference values, including a new one, which replaces an earlier value for the same
--- element (own). The values are sorted by descriptor, as in the code.
+-- The redefined reference values, including a new one. A new value replaces an earlier one for the
+-- same element (our choice). The values are sorted by descriptor, as in the code.
 -- rule: last-reference-counts
 abbrev pub with_reference : (fxy : ℕ) → (reference : ℤ) → List Redefined → List Redefined
 with_reference fxy reference [] = record { fxy = fxy; reference = reference } ∷ []
@@ -101,22 +101,23 @@ with_reference fxy reference (r ∷ more) =
     else if fxy == r.fxy then record r { reference = reference } ∷ more
     else r ∷ with_reference fxy reference more
 
--- the operators in effect after a field, which ends the effect of 2 06 Y; if the field is a
--- redefined reference value, it is stored
+-- The operators in effect after a field. The field ends the effect of 2 06 Y. If the field contains
+-- a redefined reference value, the value is stored.
 -- rule: 2-06-y-used-up
 abbrev pub after_field : OperatorModel → ℕ → Taken → OperatorModel
 after_field s fxy (taken.Reference r) =
     record s { local_width = 0; new_references = with_reference fxy r s.new_references }
 after_field s fxy _ = record s { local_width = 0 }
 
--- the reference value of an element, which is the redefined value, if any, or else `listed` (the
--- value in Table B)
+-- the redefined reference value of an element, or `listed` (the value in Table B) if the value has
+-- not been redefined
 abbrev pub current_reference : List Redefined → ℕ → ℤ → ℤ
 current_reference [] fxy listed = listed
 current_reference (r ∷ more) fxy listed =
     if r.fxy == fxy then r.reference else current_reference more fxy listed
 
--- the specification of a field that is not text; its data width must be 1 to 63 bits (own)
+-- the given specification of a non-text field, which is rejected unless its data width is 1 to 63
+-- bits (our choice)
 -- rule: widths
 abbrev pub if_valid_width : FieldSpec → Result FieldSpec TurnRefusal
 if_valid_width a = if nat_le 1 a.width && nat_le a.width 63 then Ok a else Err (refusal.Width a.fxy)
@@ -134,9 +135,9 @@ operator_width width precision change =
     let wider = width + (10 * precision + 2) / 3 in
     if change == 0 then wider else (wider + change) - 128
 
--- The specification of an unsigned number with the given data width, scale 0 and reference value 0.
--- In class 31, which contains the replication factors, a number is not missing even if all its bits
--- are ones (own).
+-- The specification of an unsigned number with the given data width, a scale of 0 and a reference
+-- value of 0. In class 31, which contains the replication factors, a number is not missing even if
+-- all its bits are ones (our choice).
 -- rule: 2-06-y-of-class-31, class-31-never-missing
 abbrev pub unsigned_field : (fxy width : ℕ) → FieldSpec
 unsigned_field fxy width =
@@ -152,7 +153,7 @@ unsigned_field fxy width =
     }
 
 -- The specification of a code table or flag table element. 2 01 Y, 2 02 Y and 2 07 Y do not apply
--- to such elements (own), but redefined reference values do (own).
+-- to code and flag tables, but redefined reference values do (both our choice).
 -- rule: new-reference-of-figures, figures-unchanged
 abbrev pub coded_spec : OperatorModel → Row → FieldSpec
 coded_spec s row = record (unsigned_field row.fxy row.width) {
@@ -164,7 +165,7 @@ coded_spec s row = record (unsigned_field row.fxy row.width) {
 
 -- The specification of a quantity, to which 2 01 Y, 2 02 Y, 2 03 Y and 2 07 Y apply. Parts that are
 -- not set here are the same as in `coded_spec`. If several operators are in effect, their changes
--- add up (own), and 2 07 Y also multiplies a redefined reference value by 10^Y (own).
+-- add up (our choice). 2 07 Y also multiplies a redefined reference value by 10^Y (our choice).
 -- rule: 2-07-y, 2-01-2-02-2-07-add-up, 2-07-y-of-a-new-reference, new-reference-of-quantities
 abbrev pub numeric_spec : OperatorModel → Row → FieldSpec
 numeric_spec s row = record (coded_spec s row) {
@@ -176,13 +177,12 @@ numeric_spec s row = record (coded_spec s row) {
 }
 
 -- the specification of a text field that is `width` bits wide and may be missing; the last argument
--- becomes the field `listed`
+-- is the value of `listed`
 abbrev pub text_spec : Role → (fxy width : ℕ) → Bool → FieldSpec
 text_spec r fxy width listed = record (unsigned_field fxy width)
     { role = r; kind = kind.Character; may_be_missing = true; listed = listed }
 
--- the data width of a text element, which is the width in its row, or Y octets if 2 08 Y is in
--- effect
+-- the data width of a text element (the width in its row, or Y octets if 2 08 Y is in effect)
 -- rule: 2-08-y, cancel-2-07-and-2-08
 abbrev pub text_width : OperatorModel → ℕ → ℕ
 text_width s width = if s.character_octets == 0 then width else 8 * s.character_octets
@@ -194,23 +194,23 @@ spec_by_kind kind.Coded s row = if_valid_width (coded_spec s row)
 spec_by_kind kind.Character s row = Ok
     (text_spec role.Element row.fxy (text_width s row.width) true)
 
--- the specification of a redefined reference value, with the data width that 2 03 Y specifies; its
--- kind is not used because `coding_by` checks the role first
+-- the specification of a redefined reference value, with the data width that 2 03 Y specifies; the
+-- kind does not affect the coding because `coding_by` checks the role first
 abbrev pub defined_field : OperatorModel → ℕ → FieldSpec
 defined_field s fxy = record (unsigned_field fxy s.new_reference_width)
     { role = role.Reference; may_be_missing = false }
 
 -- the specification of an element's redefined reference value; text elements are rejected because
--- they have no reference value (own)
+-- they have no reference value (our choice)
 -- rule: defining-no-text
 abbrev pub new_reference_spec : Kind → OperatorModel → ℕ → Result FieldSpec TurnRefusal
 new_reference_spec kind.Character s fxy = Err (refusal.Defining fxy)
 new_reference_spec _ s fxy = if_valid_width (defined_field s fxy)
 
--- The specification of an element after 2 06 Y. If the element is Y bits wide in Table B, it is
--- read according to its row alone, and no other operator applies (own). Otherwise, the element is
--- read as an unsigned Y-bit number (own). Numbers with more than 63 bits are rejected (own), so 2
--- 06 Y cannot be used to skip 64 to 255 bits.
+-- The specification of an element that follows 2 06 Y. If the element is Y bits wide in Table B, it
+-- is read according to its row alone, and no other operator applies (our choice). Otherwise, the
+-- element is read as an unsigned Y-bit number (our choice). Numbers with more than 63 bits are
+-- rejected (our choice), so 2 06 Y cannot be used to skip unknown elements of 64 to 255 bits.
 -- rule: 2-06-y, 2-06-y-width-of-table-b, 2-06-y-other-width
 abbrev pub local_width_spec : Option Row → OperatorModel → ℕ → Result FieldSpec TurnRefusal
 local_width_spec None s fxy = if_valid_width (unsigned_field fxy s.local_width)
@@ -218,9 +218,9 @@ local_width_spec (Some row) s fxy =
     if row.width == s.local_width then spec_by_kind row.kind begin row
     else if_valid_width (unsigned_field fxy s.local_width)
 
--- The specification of an element that does not follow 2 06 Y. The element is either a redefined
--- reference value or an ordinary value. The law `elements_have_their_rows` states that the
--- element's row always exists, so the case `None` does not matter.
+-- The specification of an element that does not follow 2 06 Y. While reference values are being
+-- redefined, the field contains a new reference value. The law `elements_have_their_rows` states
+-- that the element's row always exists, so `None` never occurs.
 -- rule: fault-32-before-31
 abbrev pub listed_by : Option Row → OperatorModel → ℕ → Result FieldSpec TurnRefusal
 listed_by None s fxy = Err (refusal.Width fxy)
@@ -232,9 +232,9 @@ element_spec table s fxy =
     if nat_lt 0 s.local_width then local_width_spec (entry_of table fxy) s fxy
     else listed_by (entry_of table fxy) s fxy
 
--- The specification of a replication factor, according to its row. No operator applies to a
--- replication factor (own). A replication factor is never missing (own) and is treated as a
--- quantity, whatever its unit.
+-- The specification of a replication factor, as defined by its row. No operator applies to a
+-- replication factor (our choice). A replication factor is never missing (our choice) and is
+-- treated as a quantity, whatever its unit.
 abbrev pub factor_field : Row → ℕ → FieldSpec
 factor_field row fxy = record (coded_spec begin row)
     { fxy = fxy; role = role.Factor; kind = kind.Numeric; may_be_missing = false }
@@ -245,35 +245,34 @@ factor_by None fxy = Err (refusal.Width fxy)
 factor_by (Some row) fxy = if_valid_width (factor_field row fxy)
 
 -- the specification of a replication factor, which is rejected while reference values are being
--- redefined (own)
+-- redefined (our choice)
 -- rule: factor-by-entry, defining-no-delayed-group
 abbrev pub factor_spec : List Row → OperatorModel → ℕ → Result FieldSpec TurnRefusal
 factor_spec table s fxy =
     if is_defining s then Err (refusal.Defining fxy) else factor_by (entry_of table fxy) fxy
 
--- the specification of the Y characters that 2 05 Y inserts, which are rejected while reference
--- values are being redefined (own)
+-- the specification of the Y characters that 2 05 Y inserts; the operator is rejected while
+-- reference values are being redefined (our choice)
 -- rule: 2-05-y, defining-no-inserted-text
 abbrev pub inserted_spec : OperatorModel → ℕ → Result FieldSpec TurnRefusal
 inserted_spec s fxy =
     if is_defining s then Err (refusal.Defining fxy)
     else Ok (text_spec role.Inserted fxy (8 * y_of fxy) false)
 
--- ---- The operators in effect, in the form in which the walk stores them.
+-- ---- The operators in effect, as the walk stores them.
 
--- the redefined reference values in a list of pairs; each pair contains a descriptor and a
--- reference value
+-- the redefined reference values in a list of (descriptor, reference value) pairs
 abbrev pub known_by : List (ℕ × ℤ) → List Redefined
 known_by [] = []
 known_by (e ∷ more) = record { fxy = e.0; reference = e.1 } ∷ known_by more
 
--- `known`, with the redefined reference values in a list added to it one by one
+-- the list `known` after the given reference values have been added one by one
 abbrev pub with_all : List NewReference → List Redefined → List Redefined
 with_all [] known = known
 with_all (n ∷ more) known = with_all more (with_reference n.word n.reference known)
 
--- the redefined reference values that the walk stores, which are the values in `sorted`, updated
--- with the values in `recent`
+-- the redefined reference values that the walk stores (those in `sorted`, updated with those in
+-- `recent`)
 abbrev pub known_of : References → List Redefined
 known_of r = with_all r.recent.items (known_by r.sorted.entries)
 
@@ -301,16 +300,16 @@ operator_model o known = record {
   new_references = known;
 }
 
--- The operands do not exceed the limits for valid operators.
+-- The operands of 2 03 Y and 2 07 Y do not exceed their limits.
 pub record AreOperands (o : OperatorOperands) : Type 0 where
   pub new_reference_width : o.new_reference_width ≤ 63
   pub precision_increase : o.precision_increase ≤ 18
 
--- ---- The key under which a specification is cached. The key represents the operators in effect
--- and a descriptor as one number.
+-- ---- The key under which a specification is cached. The key combines the operators in effect and
+-- a descriptor into one number.
 
--- a number whose low 40 bits contain the operands of the operators in effect and whose higher bits
--- contain the given word (see `key_word`)
+-- a number that contains the operands of the operators other than 2 03 Y in its low 40 bits and the
+-- given word (see `key_word`) in its higher bits
 abbrev pub spec_key : OperatorModel → ℕ → ℕ
 spec_key s word =
     s.width_change + 256 * s.scale_change + 65536 * s.precision_increase + 16777216
@@ -333,7 +332,7 @@ pub record IsKey (s : OperatorModel) (word key : ℕ) : Type 0 where
   pub new_references : s.new_references ≡ []
   pub octets : HasOctetOperands s
 
--- `key` is the key for the given operators alone, or 2^62 if they have no such key.
+-- `key` is the key for the given operators and the word 0, or 2^62 if there is no such key.
 pub record IsOperatorKey (s : OperatorModel) (key : ℕ) : Type 0 where
   pub most : key ≤ 2 ^ 62
   pub is : key < 2 ^ 62 → IsKey s 0 key
@@ -343,7 +342,7 @@ abbrev pub descriptor_of : TableField → ℕ
 descriptor_of (field.Element fxy) = fxy
 descriptor_of (field.Factor fxy) = fxy
 
--- the word that represents a field in the field's key
+-- the part of a key that identifies the field
 abbrev pub key_word : TableField → ℕ
 key_word (field.Element fxy) = fxy
 key_word (field.Factor fxy) = fxy + 65536
@@ -353,14 +352,14 @@ abbrev pub spec_of : List Row → OperatorModel → TableField → Result FieldS
 spec_of table s (field.Element fxy) = element_spec table s fxy
 spec_of table s (field.Factor fxy) = factor_spec table s fxy
 
--- `key` is the field's key, or a number that is at least 2^62 if the field has none.
+-- `key` is the field's key or, if the field has no key, a number of at least 2^62.
 pub record IsFieldKey (s : OperatorModel) (f : TableField) (key : ℕ) : Type 0 where
   pub most : key < 2 ^ 63
   pub word : descriptor_of f < 65536
   pub is : key < 2 ^ 62 → IsKey s (key_word f) key
 
--- what a field's specification depends on besides the descriptor and the operands (nothing, the
--- data width of a reference value that is being redefined, or a redefined reference value)
+-- what a field's specification depends on besides the descriptor and the operands in its key
+-- (nothing, the data width that 2 03 Y specifies, or a redefined reference value)
 pub data Dependence : Type 0 where
   OnNothing : Dependence
   OnWidth : (width : ℕ) → Dependence

@@ -1,5 +1,5 @@
-//! Functions that read and show compressed data. In compressed data, each item is stored once for
-//! all subsets.
+//! Functions that read compressed data and pass the items to a visitor. In compressed data, each
+//! item encodes one value per subset.
 ghost use Rattle.std.specs.Prelude.{unwrap_or, option_map, ◌≡◌, ◌≤◌, ◌<◌, ◌+◌, ◌*◌, ◌^◌, false, true, length, IfSome, ◌-◌, ◌/◌, ◌++◌, drop, MatchResult, IfOk, ◌==◌, ◌&&◌, ◌||◌, not, nat_lt, take, get_or, replicate};
 ghost use Rattle.bufr_bits.specs.Prelude.{bits_at, number_of, bits_of, octets_of};
 ghost use Rattle.bufr_tables.specs.Prelude.{is_character};
@@ -93,8 +93,8 @@ fn are_equal(bits: &BitSlice<'_>, at: u64, subsets: u16, k: u32, first: u64) -> 
     true
 }
 
-/// Returns the width, in bits, of each subset's increment. The increments come after the base and
-/// `k`.
+/// Returns the width of each increment in bits. If the field is text, `k` is the number of octets
+/// in each increment. The result is 0 for a redefined reference value, which has no increments.
 fn increment_bits_of(spec: &Spec, k: u32) -> u32
     requires { k ≤ 63 }
     ensures value { result ≡ step_of (coding_of spec.now) k }
@@ -109,17 +109,20 @@ fn increment_bits_of(spec: &Spec, k: u32) -> u32
     }
 }
 
-/// An item found in compressed data, with the part of its value that affects the walk, its `k`, its
-/// base (0 if the field is text), and the index of the first bit after it.
+/// A valid item, as returned by [`valid_item_at`].
 #[derive(Clone, Copy)]
 struct ItemBits {
+    /// The part of the item's value that affects the walk.
     answer: Taken,
+    /// The increment width `k`, in bits or, if the field is text, in octets.
     step: u8,
+    /// The base, or 0 if the field is text.
     base: u64,
+    /// The index of the first bit after the item.
     end: u64,
 }
 
-/// Finds the item that begins at bit `at` and checks that it is valid.
+/// Reads the item that begins at bit `at` and checks that it is valid.
 // rule: compressed-item, compressed-increments-there, fault-30-before-34, fault-34-before-33
 // rule: compressed-equal, compressed-references, compressed-factors
 // rule: compressed-text-past-width, compressed-text-base
@@ -186,15 +189,14 @@ fn valid_item_at(
     })
 }
 
-/// The maximum number of values in a compressed message, both for reading and for writing. The
-/// number of values is the number of items multiplied by the number of subsets. This limit is our
-/// choice (own).
+/// The maximum number of values (items times subsets) in a compressed message. We chose this limit,
+/// which applies to both reading and writing; FM 94 BUFR sets none.
 pub const MAX_VALUES: u64 = 134_217_728;
 
-/// A reader for the fields of compressed data. In compressed data, each item is stored once for all
-/// subsets. An item consists of a base, a 6-bit number `k` and, if `k` is not 0, an increment for
-/// each subset. The reader stores each item with its location. (WMO-No. 306, Volume I.2, FM 94:
-/// section 4, compression)
+/// A reader for the fields of compressed data. In compressed data, each item encodes one value per
+/// subset. An item consists of a base, a 6-bit increment width `k` and, if `k` is not 0, an
+/// increment for each subset. The reader builds an index of the items (FM 94 BUFR, section 4,
+/// compression).
 #[derive(Drop)]
 pub struct PackedIn<'a> {
     bits: BitSlice<'a>,
@@ -215,7 +217,7 @@ impl<'a> Model for PackedIn<'a> {
 }
 
 impl<'a> PackedIn<'a> {
-    /// Creates a reader that starts at bit 0 of compressed data. The data must have at least one
+    /// Creates a reader that starts at bit 0 of compressed data. The data must contain at least one
     /// subset.
     pub fn new(alloc: Global, bits: BitSlice<'a>, subsets: u16) -> PackedIn<'a>
         requires { 1 ≤ subsets }
@@ -265,7 +267,7 @@ impl<'a> Fields for PackedIn<'a> {
     }
 }
 
-/// Compressed data, the number of subsets, and the table that was used to read the data.
+/// Compressed data, the number of subsets in it, and the table used to read it.
 #[derive(Clone, Copy)]
 pub(crate) struct PackedData<'a> {
     pub(crate) bits: BitSlice<'a>,
@@ -273,8 +275,8 @@ pub(crate) struct PackedData<'a> {
     pub(crate) table: &'a TableB,
 }
 
-/// Returns the number that a stored item's bits encode for one subset, or `None` if the value is
-/// missing. Subsets are counted from 0. The reference value is not added.
+/// Returns the raw number of an item in one subset, before the reference value is added, or `None`
+/// if the value is missing. Subsets are counted from 0.
 #[inline(always)]
 // rule: compressed-equal, compressed-all-missing, compressed-missing-increment
 // rule: compressed-sum-of-ones, compressed-class-31
@@ -310,7 +312,7 @@ fn number_of(pack: &PackedData<'_>, item: &IndexedItem, subset: u16) -> Option<u
     Some(sum)
 }
 
-/// Pads the text with spaces from index `from` up to a length of `count` octets.
+/// Fills `text[from..count]` with spaces.
 #[tactic(auto, using(crate::proofs::PackedShowing::pad_none, crate::proofs::PackedShowing::pad_more))]
 fn pad(text: &mut [u8; 255], from: usize, count: usize)
     requires few { count ≤ 255 }
@@ -322,8 +324,8 @@ fn pad(text: &mut [u8; 255], from: usize, count: usize)
     }
 }
 
-/// Returns the value that a stored item has in one subset. Subsets are counted from 0. If a string
-/// cannot be borrowed from the data, it is copied to `text`.
+/// Returns an item's value in one subset. Subsets are counted from 0. If a string cannot be
+/// borrowed from the data, it is copied to `text`.
 // rule: compressed-text, compressed-text-missing
 fn value_of<'a: 't, 't>(
     pack: &PackedData<'a>,
@@ -358,8 +360,8 @@ fn value_of<'a: 't, 't>(
     Value::Text(&text[..count])
 }
 
-/// Shows a stored item that [`show_item`] cannot show as a plain field. The item is looked up by
-/// its index, because passing it as an argument would copy it again.
+/// The slow path of [`show_item`], for items that are not plain numbers. This function takes an
+/// index rather than the item itself, because passing the item would copy it again.
 #[inline(never)]
 fn show_other<V: Visitor>(
     pack: &PackedData<'_>,
@@ -382,7 +384,7 @@ fn show_other<V: Visitor>(
     show_value(pack.table, &item.spec, value, visitor)
 }
 
-/// Shows the stored item at an index for one subset. Subsets are counted from 0.
+/// Passes an item, with its value in one subset, to a visitor. Subsets are counted from 0.
 #[inline(always)]
 fn show_item<V: Visitor>(
     pack: &PackedData<'_>,
@@ -418,8 +420,8 @@ fn show_item<V: Visitor>(
     show_other(pack, kept, index, subset, visitor)
 }
 
-/// The items of compressed data, as returned by [`Reading::packed`]. Each item represents the
-/// values of all subsets.
+/// The items of compressed data, as returned by [`Reading::packed`]. Each item encodes one value
+/// per subset.
 ///
 /// [`Reading::packed`]: crate::Reading::packed
 #[derive(Drop)]
@@ -461,8 +463,8 @@ impl<'r, 'a> PackedItems<'r, 'a> {
         self.data.subsets
     }
 
-    /// Returns whether the item at an index has no increments. Such an item has the same value in
-    /// every subset.
+    /// Returns whether the item at the given index has no increments. Such an item has the same
+    /// value in every subset.
     #[inline(always)]
     // rule: compressed-equal
     pub fn is_alike(&self, index: usize) -> bool
@@ -472,12 +474,11 @@ impl<'r, 'a> PackedItems<'r, 'a> {
         self.kept.item(index).step == 0
     }
 
-    /// For one subset, shows the items whose indices are in the range `from..to`. Subsets are
-    /// counted from 0.
+    /// Passes items `from..to` of one subset to a visitor. Items and subsets are counted from 0.
     ///
     /// # Errors
     ///
-    /// [`ShowFault::Visitor`] with the visitor's fault, if the visitor returns one.
+    /// [`ShowFault::Visitor`] if the visitor returns a fault.
     // This function is not inlined, so that its loop contains the code that formats the line of an
     // item.
     #[inline(never)]
@@ -504,7 +505,7 @@ impl<'r, 'a> PackedItems<'r, 'a> {
         Ok(())
     }
 
-    /// Shows all subsets and their items to a visitor.
+    /// Passes all subsets and their items to a visitor.
     #[tactic(auto, using(crate::proofs::PackedShowing::subsets_start, crate::proofs::PackedShowing::subsets_done))]
     #[inline(never)]
     pub(crate) fn show_all<V: Visitor>(&self, visitor: &mut V) -> Result<(), ShowFault<V::Fault>>

@@ -1,4 +1,4 @@
-//! Faults in the data of a message. (We chose the numbers and the order of the faults.)
+//! Faults in the data of a message. We chose the fault numbers and the order of the checks.
 ghost use Rattle.std.specs.Prelude.{◌≡◌};
 ghost use Rattle.bufr_walk.specs.Prelude.{data_report, fault_at};
 ghost use Rattle.bufr_walk.specs.declared.walker.WalkStop.TheVariants as stops;
@@ -12,7 +12,7 @@ use thiserror::Error;
 /// The location of an item in the data.
 #[derive(Clone, Copy, Debug, PartialEq, Eq)]
 pub struct Spot {
-    /// The subset number, counted from 1. For compressed data, the number is 0.
+    /// The subset number, counted from 1 (0 for compressed data).
     pub subset: u16,
     /// The descriptor of an element, a replication factor, or an operator.
     pub fxy: Fxy,
@@ -28,31 +28,30 @@ impl fmt::Display for Spot {
     }
 }
 
-/// The fault number for an invalid width. This fault can also occur in a document.
+/// The fault number for an invalid width. Encoding a document can also cause this fault.
 pub const WIDTH: u8 = 31;
 
 /// The fault number for a descriptor that is not allowed while 2 03 Y redefines reference values.
-/// This fault can also occur in a document.
+/// Encoding a document can also cause this fault.
 pub const DEFINING: u8 = 32;
 
-/// The fault number for too many values in compressed data. This fault can also occur in a
-/// document.
+/// The fault number for too many values in compressed data. Encoding a document can also cause this
+/// fault.
 pub const TOO_MANY_VALUES: u8 = 35;
 
 /// The reason why the data of a message cannot be read.
 #[derive(Clone, Copy, Debug, PartialEq, Eq, Error)]
 pub enum WalkFault {
-    /// The data end within the item.
+    /// The item extends past the end of the data.
     #[error("data end {0}")]
     DataEnd(Spot),
-    /// The width of a non-text field is outside the range of 1 to 63 bits, or Table B does not
-    /// contain the element.
+    /// A non-text field is not 1 to 63 bits wide, or Table B does not contain the element.
     #[error("width {0}")]
     Width(Spot),
     /// The descriptor is not allowed while 2 03 Y redefines reference values.
     #[error("defining {0}")]
     Defining(Spot),
-    /// A replication factor is not the same in all subsets of compressed data.
+    /// A replication factor in compressed data differs between subsets.
     #[error("unequal factor {0}")]
     UnequalFactor(Spot),
     /// The increments of an item in compressed data are invalid.
@@ -67,7 +66,7 @@ pub enum WalkFault {
 }
 
 impl WalkFault {
-    /// Returns the number of this fault (30 to 35, or 73 if memory ran out).
+    /// Returns the fault number (30 to 35, or 73 if memory ran out).
     pub fn number(self) -> u8
         ensures { result ≡ (data_report self).0 }
     {
@@ -87,14 +86,14 @@ impl WalkFault {
 /// item's descriptor.
 #[derive(Clone, Copy, Debug, PartialEq, Eq, Error)]
 pub enum DataFault {
-    /// The data end within the item.
+    /// The item extends past the end of the data.
     #[error("the data end inside an item")]
     DataEnd(Fxy),
-    /// The sum of a base and an increment does not fit in the field, `k` is greater than the length
-    /// of a text field, or a redefined reference value has increments.
+    /// The sum of the base and an increment does not fit in the field, a text increment is longer
+    /// than its field, or a redefined reference value has increments.
     #[error("an increment that cannot be")]
     Increment(Fxy),
-    /// A replication factor is not the same in all subsets of compressed data.
+    /// A replication factor in compressed data differs between subsets.
     #[error("a factor is not the same in all subsets")]
     UnequalFactor(Fxy),
     /// With this item, the compressed data would contain more than 134,217,728 values.
@@ -106,8 +105,8 @@ pub enum DataFault {
 }
 
 impl DataFault {
-    /// Returns the number of the corresponding [`WalkFault`] (30, 33 to 35, or 73 if memory ran
-    /// out).
+    /// Returns the fault number of the corresponding [`WalkFault`] (30, 33 to 35, or 73 if memory
+    /// ran out).
     pub fn number(self) -> u8
         ensures { result ≡ (data_report (fault_at (stops.Field self) 0 0)).0 }
     {
@@ -115,8 +114,8 @@ impl DataFault {
     }
 }
 
-/// Converts the reason why a walk stopped into a fault, given the subset number and the number of
-/// bits read before the walk stopped.
+/// Converts a [`WalkStop`] to a [`WalkFault`]. `bit` is the number of bits that were read before
+/// the walk stopped.
 pub(crate) fn fault_at(why: WalkStop<DataFault>, subset: u16, bit: u64) -> WalkFault
     ensures { result ≡ fault_at why subset bit }
 {
@@ -134,7 +133,7 @@ pub(crate) fn fault_at(why: WalkStop<DataFault>, subset: u16, bit: u64) -> WalkF
     }
 }
 
-/// The reason why a `Reading` was not shown completely.
+/// The error returned by functions that pass items to a visitor.
 #[derive(Debug, PartialEq, Eq, Drop, Error)]
 pub enum ShowFault<E> {
     /// The fault that the visitor returned.

@@ -8,9 +8,9 @@ use crate::spec::Spec;
 use std::alloc::Global;
 use std::marker::Model;
 
-/// A stored item, which consists of its spec, its base (0 if the field is text), the position of
-/// its first bit, and its `k`.
-// The position of the first bit is below 2^48. It is stored in two parts, so that an item takes up
+/// An index entry for an item. `base` is 0 if the field is text, and `step` is the 6-bit increment
+/// width `k`.
+// The position of the first bit is below 2^48. It is stored in two parts, so that an entry takes up
 // only 48 octets.
 #[derive(Clone, Copy)]
 pub(crate) struct IndexedItem {
@@ -31,11 +31,11 @@ impl IndexedItem {
     }
 }
 
-/// The number of items for which memory is reserved at a time.
+/// Memory is reserved for at least this many items at a time.
 const ITEMS_AT_ONCE: usize = 64;
 
-/// Reserves memory for at least 64 more items. If a reallocation is needed, the capacity roughly
-/// doubles.
+/// Reserves memory for at least 64 more items. If the vector has to be reallocated, its capacity
+/// roughly doubles.
 #[inline(always)]
 fn reserve(items: &mut Vec<IndexedItem>) -> Result<(), DataFault>
     ensures same { items.new.items ≡ items.old.items }
@@ -92,7 +92,7 @@ impl ItemIndex {
         self.items.len()
     }
 
-    /// Returns the item at an index.
+    /// Returns the item at the given index.
     #[inline(always)]
     pub(crate) fn item(&self, index: usize) -> IndexedItem
         requires { index < length self.now }
@@ -101,7 +101,7 @@ impl ItemIndex {
         self.items[index]
     }
 
-    /// Appends an item. If necessary, memory for 64 items is reserved first.
+    /// Appends an item. Memory is reserved only once every 64 items.
     #[inline(always)]
     pub(crate) fn keep(&mut self, item: IndexedItem) -> Result<(), DataFault>
         ensures kept { OnOk result (self.new ≡ self.old ++ item ∷ []) }

@@ -1,5 +1,5 @@
-//! Laws about reading data. Each item is the next field of the template and begins where the
-//! previous item ended.
+//! Laws about reading data. Items are read in template order, and each item begins where the
+//! previous one ends.
 ghost use Rattle.std.specs.Prelude.{◌≡◌, ◌≤◌, ℕ, List, Bool, false, length, drop, is_some};
 ghost use Rattle.bufr_tables.specs.Prelude.{IsLegal, Record, Row, AreRows, Tree, entry_of};
 ghost use Rattle.bufr_tables.specs.Expansion.{IsKnown};
@@ -8,13 +8,12 @@ ghost use Rattle.bufr_walk.specs.Course.{turns_of, counts_of};
 ghost use Rattle.bufr_walk.specs.Rules.{begin};
 ghost use Rattle.bufr_walk.specs.Prelude.{next_item, Data, Content, Taken, FieldSpec, AreWithin, IsField, take_next, reading_of, read_pass, DataPass, ReadsTo, plain, packed, would_be_many};
 
-/// Law: for every legal template and every Table B that can be read, a pass over any bits reads one
-/// item after another. Each item is the next field of the template and begins where the previous
-/// item ended. The pass ends at the end of the template, or it stops if the next field cannot be
-/// read. No other pass is possible. If items can be read to the end of the template and the number
-/// of items is within the limit, the pass consists of those items. Therefore, reading data gives
-/// either one list of items or one fault, but never both. The bits that remain after the items are
-/// the last bits of the data. (WMO-No. 306, Volume I.2, FM 94: sections 3 and 4)
+/// Law: given a legal template and a valid Table B, the items are read from the data in template
+/// order. Each item begins where the previous one ends. Each pass stops at the end of the template,
+/// or earlier if the next item cannot be read or, in compressed data, would exceed the limit on the
+/// number of values. These rules fully determine the result, so reading the same data always
+/// produces the same items and the same fault, if any. Any unread bits are at the end of the data
+/// (FM 94 BUFR, sections 3 and 4).
 pub fn data_are_read_item_by_item()
     ensures plain { (records : List Record) (table : List Row) (template : Tree) (bits : List Bool)
         → AreRows records table → IsLegal template
@@ -43,9 +42,8 @@ pub fn data_are_read_item_by_item()
         × ((reading_of (next_item table template) d).left ≡ drop used d.bits) }
 {}
 
-/// Law: whenever the next step of a walk over a legal template processes a field, that field has a
-/// valid spec and a 16-bit descriptor. This law holds for every Table B that can be read, provided
-/// that the reference values redefined so far fit in 64 bits.
+/// Law: in a walk over a legal template, every field has a valid spec and a 16-bit descriptor if
+/// Table B is valid and no reference value redefined so far has a magnitude greater than 2^63.
 pub fn next_fields_are_fields()
     ensures { (records : List Record) (table : List Row) (template : Tree) (answers : List Taken)
         (spec : FieldSpec) → AreRows records table → IsLegal template → AreWithin answers
@@ -53,10 +51,10 @@ pub fn next_fields_are_fields()
 {}
 
 /// Law: if [`Template::build`](bufr_tables::Template::build) returns a template, a walk over that
-/// template finds every element and every replication factor in the table. (Every template that
-/// `build` returns satisfies `IsLegal` and `IsKnown`.) The only exception is the descriptor after 2
-/// 06 Y, which gets its width from that operator. Therefore, a width is never rejected because a
-/// row is missing from the table. (WMO-No. 306, Volume I.2, FM 94: section 3)
+/// template finds every element and every replication factor in the table. The only exception is
+/// the descriptor after 2 06 Y, which gets its width from that operator. Therefore, a walk never
+/// rejects a field because the table has no entry for it. Every template that `build` returns
+/// satisfies `IsLegal` and `IsKnown` (FM 94 BUFR, section 3).
 pub fn elements_have_their_rows()
     ensures { (table : List Row) (template : Tree) (answers : List Taken) → IsLegal template
         → IsKnown (λ fxy. is_some (entry_of table fxy)) template

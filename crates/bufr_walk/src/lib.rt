@@ -1,13 +1,13 @@
-//! This crate walks over the templates of FM 94 BUFR messages and reads the messages' data.
+//! This crate reads the data of FM 94 BUFR messages by walking over their templates.
 //!
 //! [`read_message`] reads the data of a message, and [`Reading::show`] passes each subset and item
 //! to a [`Visitor`]. Higher-level crates use visitors to write dumps.
 //!
 //! [`walk`] traverses a template and processes each field through the [`Fields`] trait. [`PlainIn`]
 //! and [`PackedIn`] implement this trait to read data, and the writers in `bufr_fill` implement it
-//! to write data. [`TemplateCache`] caches recently used templates, together with the specs of
-//! their cells. A spec describes how the bits of a field are read. [`read_by`],
-//! [`Reading::show_by`] and [`walk_by`] use cached specs.
+//! to write data. [`TemplateCache`] caches recently used templates and their field specs. A spec
+//! describes how a field is encoded. [`read_by`], [`Reading::show_by`] and [`walk_by`] use cached
+//! specs.
 #![tactic(auto)]
 
 mod compressed;

@@ -1,5 +1,5 @@
-//! A cache of recently used descriptor lists. Each list is cached with its template and the specs
-//! of the template's cells.
+//! A cache of recently used descriptor lists. Each list is cached together with its template and
+//! the template's field specs.
 ghost use Rattle.std.specs.Prelude.{◌≡◌, ◌<◌, Ok, IfOk, IfSome, ◌≢◌, ◌≤◌, ◌++◌, ◌∷◌, [], ℕ, length, vec_len, vec_capacity, true, false, IfErr, OnOk, OnErr, List, Err, Contains, IfNone, get_or};
 ghost use Rattle.bufr_tables.specs.Prelude.{Row, Sequence, tree_of, tables_of};
 ghost use Rattle.std.specs.List.{All};
@@ -19,8 +19,8 @@ const MAX_OTHERS: usize = 127;
 /// template. Neither limit applies to the list that was selected last.
 const MAX_KEPT: usize = 1024;
 
-/// A descriptor list, the result of expanding it (a template or a fault), and the specs of the
-/// template's cells.
+/// A cached descriptor list, the template or fault that results from expanding it, and the
+/// template's field specs.
 #[derive(Drop)]
 struct Slot<'a> {
     list: Vec<Fxy>,
@@ -29,7 +29,7 @@ struct Slot<'a> {
 }
 
 impl<'a> Slot<'a> {
-    /// Creates a slot for the empty list. This function does not allocate.
+    /// Creates a slot that contains an empty descriptor list. This function does not allocate.
     fn new(alloc: Global, table_b: &'a TableB) -> Slot<'a>
         ensures slot { (table_d : List Sequence) → IsSlotBy table_b.now table_d result }
         ensures list { result.list.items ≡ [] }
@@ -41,7 +41,7 @@ impl<'a> Slot<'a> {
         }
     }
 
-    /// Expands a list and allocates memory for the specs of the template's cells.
+    /// Expands a list and allocates memory for the template's field specs.
     ///
     /// # Errors
     ///
@@ -79,8 +79,8 @@ impl<'a> Slot<'a> {
     }
 
     /// Returns whether the slot may remain in the cache after another list is selected. A slot may
-    /// remain if its list was expanded into a template and if neither the list nor the template is
-    /// too long.
+    /// remain if its list was expanded successfully and neither the list nor the template has more
+    /// than [`MAX_KEPT`] entries.
     fn may_stay(&self) -> bool
         ensures stays { result ≡ true → (table_b : List Row) (table_d : List Sequence)
             → IsSlotBy table_b table_d self.now → MayStay table_b table_d self.now.list.items }
@@ -120,11 +120,11 @@ fn drop_first(slots: &mut Vec<Slot<'_>>)
     }
 }
 
-/// A cache of templates that are built from one Table B and one Table D.
+/// A cache of templates built from one Table B and one Table D.
 ///
-/// If a cached descriptor list is selected again, its template and the specs of the template's
-/// cells are reused. Contracts describe a cache in terms of its two tables, the list that was
-/// selected last, and the other cached lists.
+/// If a cached descriptor list is selected again, its template and field specs are reused.
+/// Contracts model a cache as its two tables, the list that was selected last, and the other cached
+/// lists.
 ///
 /// ```
 /// let mut templates = TemplateCache::new(alloc, &table_b, &table_d);
@@ -182,14 +182,14 @@ impl<'a> TemplateCache<'a> {
 
     /// Selects a descriptor list, and expands it if it is not cached.
     ///
-    /// The previously selected list remains in the cache if it has a template and at most 1,024
-    /// descriptors, and if the template has at most 1,024 cells. In addition to the selected list,
-    /// the cache contains at most 127 lists. If another list would exceed this limit, the first of
-    /// the 127 lists is dropped. Selecting a cached list does not allocate.
+    /// The previously selected list remains in the cache if it has at most 1,024 descriptors and
+    /// was expanded into a template of at most 1,024 cells. In addition to the selected list, the
+    /// cache can contain 127 others. When it is full, it drops the first of these to make room.
+    /// Selecting a cached list does not allocate.
     ///
-    /// The lists that are not selected use at most 9 MB. Each of these lists uses 2 octets for each
-    /// descriptor, 8 octets for each cell (with space for up to twice as many cells), and 48 octets
-    /// for the spec of each cell. In total, a list uses at most 67,584 octets.
+    /// Lists other than the selected one use at most 9 MB in total. Each of these lists uses at
+    /// most 67,584 octets (2 per descriptor, up to 16 per cell, including spare capacity, and 48
+    /// per spec).
     ///
     /// # Errors
     ///
@@ -234,8 +234,8 @@ impl<'a> TemplateCache<'a> {
         Ok(())
     }
 
-    /// Takes the specs of the selected template's cells out of the cache, for use in a walk. If the
-    /// specs are not put back with [`TemplateCache::put_specs`], they must be computed again.
+    /// Takes the selected template's field specs out of the cache, for use in a walk. If the specs
+    /// are not put back with [`TemplateCache::put_specs`], they must be computed again.
     pub fn take_specs(&mut self) -> SpecCache<'a>
         ensures specs { result ≡ self.old.table_b }
         ensures same { self.new ≡ self.old }
@@ -254,9 +254,8 @@ impl<'a> TemplateCache<'a> {
         self.last.specs = specs;
     }
 
-    /// Returns the result of expanding the selected list, which is the template or the fault that
-    /// [`Template::build`] returned. The fault is never [`TemplateFault::Memory`]. This method does
-    /// not allocate.
+    /// Returns the template or fault that [`Template::build`] returned for the selected list. The
+    /// fault is never [`TemplateFault::Memory`]. This method does not allocate.
     pub fn answer(&self) -> &Result<Template, TemplateFault>
         ensures answer { tree_of (tables_of self.now.table_b self.now.table_d)
             self.now.list ≡ result.now }
@@ -265,7 +264,7 @@ impl<'a> TemplateCache<'a> {
         &self.last.answer
     }
 
-    /// Returns the Table B that defines the elements of the templates.
+    /// Returns the Table B that is used to build the templates.
     pub fn table_b(&self) -> &'a TableB
         ensures { result.now ≡ self.now.table_b }
     {

@@ -1,4 +1,4 @@
-//! The operators in effect, and the computation of field specs under these operators.
+//! This module tracks which operators are in effect and computes field specs.
 ghost use Rattle.std.specs.Prelude.{◌≡◌, ◌≤◌, ◌<◌, ◌*◌, ◌+◌, ◌^◌, ◌+ℤ◌, ◌*ℤ◌, ◌==◌, pos, unsigned_abs, List, Result, Ok, Err, Some, OnOk, IfErr, true, false};
 ghost use Rattle.bufr_tables.specs.Prelude.{row_of_entry, is_legal_operator, IsRow};
 ghost use Rattle.bufr_walk.specs.Prelude.{if_valid_width, spec_by_kind, unsigned_field, scale_change_of, operator_width, OperatorModel, Redefined, current_reference, AreOperands, known_of, operator_model, IsOperatorKey, HasRole, descriptor_of, key_word, spec_key, HasOctetOperands, begin, after_operator, IsFieldKey, IsSpecKey, spec_of};
@@ -24,7 +24,7 @@ pub(crate) struct OperatorOperands {
     pub(crate) local_width: u8,
 }
 
-/// The operands when no operator is in effect.
+/// The operands used when no operator is in effect.
 const NO_OPERATORS: OperatorOperands = OperatorOperands {
     width_change: 0,
     scale_change: 0,
@@ -34,10 +34,10 @@ const NO_OPERATORS: OperatorOperands = OperatorOperands {
     local_width: 0,
 };
 
-/// The number added to the key of a field that redefines a reference value.
+/// A flag that is set in a spec's key if the field redefines a reference value.
 const DEFINING: u64 = 0x200_0000_0000_0000;
 
-/// The number added to the key of an element whose reference value has been redefined.
+/// A flag that is set in a spec's key if the element's reference value has been redefined.
 const REDEFINED: u64 = 0x400_0000_0000_0000;
 
 /// A field whose descriptor is looked up in Table B (an element or a replication factor).
@@ -58,8 +58,8 @@ impl TableField {
         }
     }
 
-    /// Returns the number that represents the field's descriptor and kind (element or replication
-    /// factor) in a key.
+    /// Returns the part of a spec's key that encodes the field's descriptor and kind (element or
+    /// replication factor).
     #[inline(always)]
     fn key_word(&self) -> u64
         ensures value { result ≡ key_word self.now }
@@ -72,12 +72,13 @@ impl TableField {
     }
 }
 
-/// The operators in effect, and the reference values that the data have redefined.
+/// The operators in effect, and the reference values that the data has redefined.
 #[derive(Drop)]
 pub(crate) struct OperatorState {
     pub(crate) operands: OperatorOperands,
     pub(crate) new_references: References,
-    /// The part of a spec's key that encodes the operators, or [`NO_KEY`].
+    /// The part of a spec's key that encodes the operators, or [`NO_KEY`] if a reference value is
+    /// being redefined or a redefined one is in effect.
     pub(crate) key: u64,
 }
 
@@ -92,8 +93,7 @@ impl Model for OperatorState {
         × IsOperatorKey (operator_model a.operands (known_of a.new_references)) a.key };
 }
 
-/// Encodes the operands as one number. The data width of redefined reference values is not
-/// included.
+/// Combines all operands except the width of new reference values (2 03 Y) into one number.
 #[inline(always)]
 fn operand_key(operands: OperatorOperands) -> u64
     ensures value { (known : List Redefined) → result ≡ spec_key (operator_model operands known) 0 }
@@ -107,8 +107,8 @@ fn operand_key(operands: OperatorOperands) -> u64
         + 0x1_0000_0000 * u64::from(operands.local_width)
 }
 
-/// Encodes the operands as one number. Returns [`NO_KEY`] if a reference value is being redefined
-/// or has been redefined.
+/// Combines the operands into one number. Returns [`NO_KEY`] if a reference value is being
+/// redefined or has been redefined.
 pub(crate) fn key_by(operands: OperatorOperands, new_references: &References) -> u64
     ensures { IsOperatorKey (operator_model operands (known_of new_references.now)) result }
 {
@@ -118,8 +118,8 @@ pub(crate) fn key_by(operands: OperatorOperands, new_references: &References) ->
     operand_key(operands)
 }
 
-/// Returns the reference value of an element, which is the redefined value if there is one, and the
-/// value in Table B otherwise.
+/// Returns an element's redefined reference value or, if there is none, its reference value in
+/// Table B.
 #[tactic(auto, using(crate::proofs::SpecLemmas::current_or))]
 #[inline(always)]
 // rule: new-reference-of-quantities
@@ -131,8 +131,7 @@ fn reference_of(new_references: &References, entry: &Entry<'_>) -> i64
     redefined.unwrap_or(entry.reference())
 }
 
-/// Returns the data width of a quantity in bits, after applying the changes in effect (2 01 Y, 2 07
-/// Y).
+/// Applies operators 2 01 Y and 2 07 Y to a quantity's width in bits.
 #[inline(always)]
 // rule: 2-01-y, 2-07-y, cancel-2-01-and-2-02, cancel-2-07-and-2-08
 fn operator_width(width: u32, precision_increase: u8, width_change: u8) -> u32
@@ -147,7 +146,7 @@ fn operator_width(width: u32, precision_increase: u8, width_change: u8) -> u32
     }
 }
 
-/// Returns the scale of a quantity after applying the changes in effect (2 02 Y, 2 07 Y).
+/// Applies operators 2 02 Y and 2 07 Y to a quantity's scale.
 #[inline(always)]
 // rule: 2-02-y, 2-07-y, cancel-2-01-and-2-02
 fn operator_scale(scale: i16, scale_change: u8, precision_increase: u8) -> i16
@@ -162,7 +161,7 @@ fn operator_scale(scale: i16, scale_change: u8, precision_increase: u8) -> i16
     scale + (i16::from(scale_change) - 128) + i16::from(precision_increase)
 }
 
-/// Returns ten to the power of the increase in precision.
+/// Returns 10 to the power of `precision_increase`.
 #[tactic(auto, using(crate::proofs::SpecLemmas::power_small))]
 fn power_of_ten(precision_increase: u8) -> u64
     requires { precision_increase ≤ 18 }
@@ -172,7 +171,7 @@ fn power_of_ten(precision_increase: u8) -> u64
     10u64.pow(u32::from(precision_increase))
 }
 
-/// Returns the reference value of a quantity after applying the increase in precision (2 07 Y).
+/// Applies operator 2 07 Y to a quantity's reference value.
 #[tactic(auto, using(crate::proofs::SpecLemmas::product_small))]
 #[inline(always)]
 // rule: 2-07-y, 2-07-y-of-a-new-reference
@@ -280,7 +279,7 @@ impl OperatorState {
         self.key + 0x100_0000_0000 * field.key_word()
     }
 
-    /// Returns the key of a field's spec. The key contains all inputs that determine the spec.
+    /// Returns the key of a field's spec. The key encodes everything that the spec depends on.
     #[inline(always)]
     pub(crate) fn spec_key(&self, field: &TableField) -> SpecKey
         ensures is { IsSpecKey self.now field.now result }
@@ -306,8 +305,7 @@ impl OperatorState {
         }
     }
 
-    /// Returns the spec of a field under the operators in effect. (WMO-No. 306, Volume I.2, FM 94:
-    /// Tables B and C)
+    /// Returns the spec of a field, given the operators in effect (FM 94 BUFR, Tables B and C).
     #[inline(never)]
     // rule: 2-06-y, 2-06-y-width-of-table-b, fault-32-before-31, defining-no-text
     // rule: factor-by-entry, defining-no-delayed-group
@@ -358,8 +356,8 @@ impl OperatorState {
         }
     }
 
-    /// Applies an operator. While reference values are being redefined, the only valid operator is
-    /// 2 03 255, which ends the redefinition. (WMO-No. 306, Volume I.2, FM 94: Table C)
+    /// Applies an operator. While reference values are being redefined, the only allowed operator
+    /// is 2 03 255, which ends the redefinition (FM 94 BUFR, Table C).
     // rule: 2-03-y, 2-03-000, later-operator-replaces, 2-03-y-again, defining-no-other-operator
     // rule: 2-03-255-alone, fault-32-before-31
     pub(crate) fn apply(&mut self, fxy: Fxy) -> Result<(), TurnRefusal>

@@ -1,4 +1,4 @@
-//! Functions that read and show the fields of plain (not compressed) data.
+//! Functions that read plain (uncompressed) data and pass the items to a visitor.
 ghost use Rattle.std.specs.Prelude.{◌≡◌, ◌≤◌, ◌<◌, ◌+◌, ◌-◌, ◌*◌, ◌^◌, length, take, drop, if◌then◌else◌, ◌==◌, pos, neg_ℤ, false, IfOk, IfErr, ◌/◌, Result, Some, None, Ok, Err, MatchResult};
 ghost use Rattle.bufr_bits.specs.Prelude.{number_of, bits_at, bits_of, are_all_ones, octets_of};
 ghost use Rattle.bufr_walk.specs.Prelude.{IsFor, answer_of, content_in, signed_by, octets_in, Content, shown, next_item, counted_item, bits_before, data_in, ReadsData, plain, read_pass, passes_apart, stop_of, items_by_pass, turns_in, PaysBits, reading_of, rest_of, ItemsGo, item_call, view_of, subset_calls, seen_value, Shows, PlainTakes, past, shown_missing};
@@ -31,16 +31,17 @@ pub(crate) fn number_at(bits: &BitSlice<'_>, at: u64, width: u32) -> u64
     bits.number(at, width)
 }
 
-/// A number that was read, and a flag that indicates whether all of its bits are ones.
+/// A number read from a field, and whether all bits of the field are ones.
 #[derive(Clone, Copy)]
 pub(crate) struct RawNumber {
-    /// The number that the bits encode.
+    /// The unsigned number in the field.
     pub(crate) number: u64,
-    /// Whether all bits of the number are ones.
+    /// Whether all bits of the field are ones.
     pub(crate) all_ones: bool,
 }
 
-/// Reads a number that is 1 to 63 bits wide. The bits must lie within the data.
+/// Reads the `width`-bit number that begins at bit `at`. The width must be 1 to 63, and the bits
+/// must lie within the data.
 #[inline(always)]
 pub(crate) fn raw_at(bits: &BitSlice<'_>, at: u64, width: u32) -> RawNumber
     requires some { 1 ≤ width }
@@ -82,7 +83,8 @@ pub(crate) fn signed_at(bits: &BitSlice<'_>, at: u64, width: u32) -> i64
     signed(sign, size)
 }
 
-/// Returns the part of a field's value that affects the walk. The field must lie within the data.
+/// Returns the field's value if the field is a replication factor or redefines a reference value,
+/// and [`Taken::Plain`] otherwise. The field must lie within the data.
 #[inline(always)]
 #[tactic(auto, using(crate::proofs::ShownLemmas::plain_answer, crate::proofs::ShownLemmas::plain_for, crate::proofs::PlainLemmas::answer_element, crate::proofs::PlainLemmas::answer_inserted, crate::proofs::PlainLemmas::answer_factor, crate::proofs::PlainLemmas::answer_reference, crate::proofs::PlainLemmas::some_width, crate::proofs::PlainLemmas::factor_width, crate::proofs::PlainLemmas::reference_width))]
 pub(crate) fn answer_at(bits: &BitSlice<'_>, at: u64, spec: &Spec) -> Taken
@@ -102,8 +104,8 @@ pub(crate) fn answer_at(bits: &BitSlice<'_>, at: u64, spec: &Spec) -> Taken
     }
 }
 
-/// Returns whether all of the `width` bits that begin at bit `at` are ones. The bits must lie
-/// within the data.
+/// Returns whether the `width` bits that begin at bit `at` are all ones. The bits must lie within
+/// the data.
 pub(crate) fn ones_at(bits: &BitSlice<'_>, at: u64, width: u32) -> bool
     requires { at + width ≤ 8 * length (octets_of bits.now) }
     ensures { result ≡ are_all_ones (bits_at (octets_of bits.now) at width) }
@@ -114,8 +116,8 @@ pub(crate) fn ones_at(bits: &BitSlice<'_>, at: u64, width: u32) -> bool
     }
 }
 
-/// Copies `count` octets of the data, beginning at bit `at`, to `text`. Bit `at` need not be at an
-/// octet boundary.
+/// Copies `count` octets of the data, beginning at bit `at`, to `text`. `at` need not be a multiple
+/// of 8.
 pub(crate) fn copy_octets(bits: &BitSlice<'_>, at: u64, count: usize, text: &mut [u8; 255])
     requires few { count ≤ 255 }
     requires within { at + 8 * count ≤ 8 * length (octets_of bits.now) }
@@ -173,9 +175,8 @@ pub(crate) fn value_at<'a: 't, 't>(
     Value::Number(i128::from(raw.number) + spec.reference(), spec.scale())
 }
 
-/// A reader for plain data. The fields are read one after another. Contracts describe a reader in
-/// terms of the data bits and the number of bits read so far. (WMO-No. 306, Volume I.2, FM 94:
-/// section 4)
+/// A reader for the fields of plain data. Contracts model a reader as the data bits and the number
+/// of bits read so far (FM 94 BUFR, section 4).
 #[derive(Drop)]
 pub struct PlainIn<'a> {
     bits: BitSlice<'a>,
@@ -202,8 +203,8 @@ impl<'a> PlainIn<'a> {
         PlainIn { bits, at: 0 }
     }
 
-    /// Returns the part of the next field's value that affects the walk, without moving past the
-    /// field. Returns [`DataFault::DataEnd`] if the data end within the field.
+    /// Returns the [`Taken`] value of the next field without advancing the reader. Returns
+    /// [`DataFault::DataEnd`] if the field extends past the end of the data.
     #[tactic(auto, using(crate::proofs::PlainLemmas::taken_here, crate::proofs::PlainLemmas::ends_here, crate::proofs::PlainLemmas::bits_length))]
     #[inline(always)]
     // rule: field-past-end
@@ -277,7 +278,7 @@ pub(crate) fn read_plain(
     Ok(fields.at)
 }
 
-/// Shows a field with the given value to a visitor.
+/// Passes an item with the given value to a visitor.
 // rule: text-no-comment
 pub(crate) fn show_value<V: Visitor>(
     table: &TableB,
@@ -293,8 +294,8 @@ pub(crate) fn show_value<V: Visitor>(
     visitor.item(&ItemView { fxy, entry, value })
 }
 
-/// Shows a missing value to a visitor, given the Table B entry that was used to read it. This
-/// function is not inlined, so that the code that shows a number stays small.
+/// Passes an item whose value is missing to a visitor. This function is not inlined, to keep the
+/// code for numbers small.
 #[inline(never)]
 pub(crate) fn show_missing<V: Visitor>(
     fxy: Fxy,
@@ -311,7 +312,7 @@ pub(crate) fn show_missing<V: Visitor>(
     })
 }
 
-/// Shows the next field to a visitor. The field can be of any kind.
+/// The slow path of [`show_field`], for fields that are not plain numbers.
 #[inline(never)]
 fn show_other<V: Visitor>(
     input: &PlainIn<'_>,
@@ -328,8 +329,8 @@ fn show_other<V: Visitor>(
     show_value(table, spec, value, visitor)
 }
 
-/// Shows the next field to a visitor. This function is not inlined, so that the loop over the
-/// fields stays small.
+/// Passes the next item to a visitor. This function is not inlined, to keep the loop over the
+/// fields small.
 #[tactic(auto, using(crate::proofs::ShownLemmas::plain_shown, crate::proofs::ShownLemmas::plain_missing))]
 #[inline(never)]
 fn show_field<V: Visitor>(
@@ -360,15 +361,15 @@ fn show_field<V: Visitor>(
     show_other(input, table, spec, text, visitor)
 }
 
-/// The reason why a field was not processed.
+/// The reason why [`ShowFields`] could not process a field.
 #[derive(Drop)]
 pub(crate) enum ShowStop<E> {
     DataEnd,
     Visitor(E),
 }
 
-/// Fields that are read from plain data and shown to a visitor. Each field is shown before the
-/// reader moves past it.
+/// Fields that are read from plain data and passed to a visitor. The reader advances only after the
+/// visitor accepts a field.
 #[derive(Drop)]
 pub(crate) struct ShowFields<'i, 't, 'v, 'b, V: Visitor> {
     input: &'i mut PlainIn<'b>,
@@ -416,7 +417,7 @@ impl<'i, 't, 'v, 'b, V: Visitor> Fields for ShowFields<'i, 't, 'v, 'b, V> {
     }
 }
 
-/// Walks over the template once and shows the items of one subset to a visitor.
+/// Walks over the template once and passes the items of one subset to a visitor.
 fn walk_showing<V: Visitor>(
     template: &Template,
     cache: &mut SpecCache<'_>,
@@ -444,15 +445,14 @@ fn walk_showing<V: Visitor>(
     }
 }
 
-/// The state of the walks over plain data, which consists of the input and a stack that is reused
-/// for each subset.
+/// The reader and the stack of open groups that are reused for every subset.
 #[derive(Drop)]
 struct PlainWalks<'b> {
     input: PlainIn<'b>,
     open_groups: ArrayVec<Frame, 32>,
 }
 
-/// Shows the items of one subset to a visitor.
+/// Passes the items of one subset to a visitor.
 fn show_items<V: Visitor>(
     template: &Template,
     cache: &mut SpecCache<'_>,
@@ -476,7 +476,7 @@ fn show_items<V: Visitor>(
     walk_showing(template, cache, &mut walks.open_groups, &mut fields, steps)
 }
 
-/// Plain data, the number of subsets, and the template that describes the data.
+/// Plain data, the number of subsets in it, and its template.
 #[derive(Drop)]
 pub(crate) struct PlainData<'a> {
     pub bits: BitSlice<'a>,
@@ -484,7 +484,7 @@ pub(crate) struct PlainData<'a> {
     pub template: &'a Template,
 }
 
-/// Shows all subsets and their items to a visitor.
+/// Passes all subsets and their items to a visitor.
 pub(crate) fn show_plain<V: Visitor>(
     given: &PlainData<'_>,
     cache: &mut SpecCache<'_>,

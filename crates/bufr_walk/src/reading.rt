@@ -1,4 +1,4 @@
-//! Functions that read the data of a message, and the result of reading.
+//! Functions that read the data of a message and return a [`Reading`].
 ghost use Rattle.std.specs.Prelude.{◌≡◌, ◌≤◌, ◌+◌, ◌*◌, length, IfOk, IfErr, IfSome, is_some, false};
 ghost use Rattle.bufr_tables.specs.Prelude.{places};
 ghost use Rattle.bufr_walk.specs.Prelude.{bits_before, data_of, AnswersReading, calls_of, turns_shown, items_called, Shows, values_read, items_kept, max_values, IsPackedOf};
@@ -16,16 +16,15 @@ use bufr_tables::{TableB, Template};
 use std::alloc::Global;
 use std::marker::Model;
 
-/// The items that a `Reading` stores. If the data are plain, no items are stored. If the data are
-/// compressed, each item is stored with its location.
+/// The items stored in a [`Reading`]. Only the items of compressed data are stored, in an index.
 #[derive(Drop)]
 enum StoredItems {
     Apart,
     Together(ItemIndex),
 }
 
-/// The result of reading the data of a message. The result borrows the message's octets, the
-/// template, and the table. (WMO-No. 306, Volume I.2, FM 94: section 4)
+/// The result of reading a message's data. The result borrows the message's octets, the template,
+/// and the table (FM 94 BUFR, section 4).
 #[derive(Drop)]
 pub struct Reading<'a> {
     bits: BitSlice<'a>,
@@ -57,14 +56,14 @@ impl<'a> Model for Reading<'a> {
         (data_in r.compressed r.subsets (octets_of r.bits)) r.used (held_of r.kept)) r.kept };
 }
 
-/// Reads the data of a message according to its template. Plain data are read in one pass for each
-/// subset, and compressed data are read in a single pass. (WMO-No. 306, Volume I.2, FM 94: sections
-/// 3 and 4)
+/// Reads the data of a message according to its template. Plain data requires one walk over the
+/// template per subset, and compressed data requires only one walk in total (FM 94 BUFR, sections 3
+/// and 4).
 ///
-/// Sets `steps` to the total number of steps in all passes. If the template has `p` places and the
-/// items occupy `n` bits, there are at most `p * n` steps. If the data cannot be read, there are at
-/// most `p * (n + 1)` steps, where `n` is the number of bits before the invalid item or, if memory
-/// ran out, the total number of data bits.
+/// Sets `steps` to the total number of steps. If the template has `p` cells and the items occupy
+/// `n` bits, there are at most `p * n` steps. If reading fails, the limit is `p * (n + 1)` steps,
+/// where `n` is the number of bits before the invalid item or, if memory ran out, the number of
+/// data bits.
 ///
 /// ```
 /// let mut steps = Steps::new();
@@ -74,17 +73,17 @@ impl<'a> Model for Reading<'a> {
 ///
 /// # Errors
 ///
-/// Returns the fault that comes first in the data. The fault contains the subset number (0 if the
-/// data are compressed), the descriptor, and the number of bits before the item. If an item has
-/// several faults, the fault that comes first in the following list is returned:
+/// Returns the first fault in the data. The fault contains the subset number (0 for compressed
+/// data), the descriptor, and the number of bits before the item. If an item has several faults,
+/// the first one in the following list is returned:
 /// - [`WalkFault::Defining`] if the descriptor is not allowed while reference values are being
 ///   redefined;
-/// - [`WalkFault::Width`] if the width of a non-text field is outside the range of 1 to 63 bits, or
-///   if the table does not contain the element;
+/// - [`WalkFault::Width`] if a non-text field is not 1 to 63 bits wide, or if the table does not
+///   contain the element;
 /// - [`WalkFault::TooManyValues`] if compressed data would contain more than 134,217,728 values;
-/// - [`WalkFault::DataEnd`] if the data end within the item;
+/// - [`WalkFault::DataEnd`] if the item extends past the end of the data;
 /// - [`WalkFault::Increment`] if the increments are invalid;
-/// - [`WalkFault::UnequalFactor`] if a replication factor is not the same in all subsets.
+/// - [`WalkFault::UnequalFactor`] if a replication factor differs between subsets.
 ///
 /// [`WalkFault::Memory`] if memory runs out. Memory can run out before a redefined reference value
 /// is read and, in compressed data, at the first item and at every 64th item after it.
@@ -104,7 +103,7 @@ pub fn read_message<'a>(
     read_by(message, template, &mut cache, steps)
 }
 
-/// Reads the data of a message as [`read_message`] does, but uses cached specs.
+/// Like [`read_message`], but uses cached specs.
 ///
 /// # Errors
 ///
@@ -187,8 +186,8 @@ impl<'a> Reading<'a> {
         self.used
     }
 
-    /// Returns the number of stored items. For plain data, the number is 0. For compressed data,
-    /// each item is counted once for all subsets, and every item occupies at least seven bits.
+    /// Returns the number of stored items, which is 0 for plain data. Each item of compressed data
+    /// is counted once, not once per subset, and occupies at least seven bits.
     pub fn held(&self) -> u64
         ensures value { result ≡ self.now.held }
         ensures items { result ≡ items_kept (values_read self.now) }
@@ -201,8 +200,8 @@ impl<'a> Reading<'a> {
         }
     }
 
-    /// Returns the items of compressed data, or `None` if the data are not compressed. Each item
-    /// represents the values of all subsets.
+    /// Returns the items of compressed data, or `None` if the data is plain. Each item encodes one
+    /// value per subset.
     #[inline(always)]
     pub fn packed(&self) -> Option<PackedItems<'_, 'a>>
         ensures some { is_some result ≡ self.now.source.compressed }
@@ -221,18 +220,17 @@ impl<'a> Reading<'a> {
         }
     }
 
-    /// Shows each subset and its items to a visitor, in the order of the data, and stops if the
-    /// visitor returns a fault. At most 134,217,728 items are shown.
+    /// Passes the subsets to a visitor one at a time, each followed by its items, and stops if the
+    /// visitor returns a fault. At most 134,217,728 items are passed to the visitor.
     ///
-    /// Sets `steps` to the number of steps in the walks over the template. For compressed data, the
-    /// number of steps is 0. For plain data, the number of steps is at most the number of places in
-    /// the template multiplied by the number of bits that the items occupy.
+    /// Sets `steps` to the total number of steps, which is 0 for compressed data. If the template
+    /// has `p` cells and the items occupy `n` bits, there are at most `p * n` steps.
     ///
     /// # Errors
     ///
-    /// - [`ShowFault::Visitor`] with the visitor's fault, if the visitor returns one.
-    /// - [`ShowFault::Memory`] if memory runs out. Memory can run out only before a redefined
-    ///   reference value is shown.
+    /// - [`ShowFault::Visitor`] if the visitor returns a fault.
+    /// - [`ShowFault::Memory`] if memory runs out. Memory is allocated only for redefined reference
+    ///   values, before they are passed to the visitor.
     pub fn show<V: Visitor>(
         &self,
         alloc: Global,
@@ -248,8 +246,8 @@ impl<'a> Reading<'a> {
         self.show_by(&mut cache, visitor, steps)
     }
 
-    /// Shows each subset and its items to a visitor as [`Reading::show`] does, but uses cached
-    /// specs. The cache must use the same table as this `Reading`.
+    /// Like [`Reading::show`], but uses cached specs. The cache must use the same table as this
+    /// `Reading`.
     ///
     /// # Errors
     ///

@@ -1,4 +1,4 @@
-//! The reference values that the data have redefined.
+//! The reference values that the data has redefined.
 ghost use Rattle.std.specs.Prelude.{◌≡◌, ◌<◌, [], true, Option, OnOk};
 ghost use Rattle.arrayvec.specs.ArrayVec.{array_vec_len};
 ghost use Rattle.bufr_walk.specs.Prelude.{known_by, known_of, last_of, redefined, with_all, with_reference};
@@ -7,23 +7,23 @@ use arrayvec::ArrayVec;
 use std::alloc::{AllocError, Global};
 use std::collections::BTreeMap;
 
-/// A redefined reference value, and the descriptor of its element as a 16-bit number.
+/// An element's descriptor (as a 16-bit number) and its redefined reference value.
 #[derive(Clone, Copy, Default)]
 pub(crate) struct NewReference {
     word: u16,
     reference: i64,
 }
 
-/// The reference values that the data have redefined. The most recent values are stored in an
-/// array, which needs no allocation, and earlier values are stored in a map. A map is used because
-/// data may redefine thousands of reference values, and a value is looked up for each item.
+/// The reference values that the data has redefined. The most recent values are stored in an array,
+/// which needs no allocation, and earlier values are stored in a map. A map is used because a
+/// message can redefine thousands of reference values, and every item requires a lookup.
 #[derive(Drop)]
 pub(crate) struct References {
     sorted: BTreeMap<u16, i64>,
     recent: ArrayVec<NewReference, 4>,
 }
 
-/// Adds recently redefined reference values to the map.
+/// Adds the values in `recent` to the map `sorted`.
 fn sort(sorted: &mut BTreeMap<u16, i64>, recent: &[NewReference]) -> Result<(), AllocError>
     ensures { OnOk result
         (known_by sorted.new.entries ≡ with_all recent.now (known_by sorted.old.entries)) }
@@ -34,8 +34,8 @@ fn sort(sorted: &mut BTreeMap<u16, i64>, recent: &[NewReference]) -> Result<(), 
     Ok(())
 }
 
-/// Returns the last reference value with the given descriptor, or `before` if no value has this
-/// descriptor.
+/// Returns the last reference value in `recent` for the given descriptor, or `before` if there is
+/// none.
 fn last_of(recent: &[NewReference], word: u16, before: Option<i64>) -> Option<i64>
     ensures { result ≡ last_of recent.now word before }
 {
@@ -66,8 +66,7 @@ impl References {
         self.recent.is_empty() && self.sorted.is_empty()
     }
 
-    /// Returns the redefined reference value of an element, or `None` if the element's reference
-    /// value has not been redefined.
+    /// Returns the reference value of an element if it has been redefined, and `None` otherwise.
     #[tactic(auto, using(crate::proofs::SpecLemmas::reference_found, crate::proofs::SpecLemmas::last_found))]
     pub(crate) fn get(&self, word: u16) -> Option<i64>
         ensures { result ≡ redefined (known_of self.now) word }
@@ -88,7 +87,7 @@ impl References {
         Ok(())
     }
 
-    /// Adds a redefined reference value for an element. Space for the value must already be
+    /// Adds a redefined reference value for an element. Space for the value must already have been
     /// reserved.
     #[tactic(auto, using(crate::proofs::SpecLemmas::all_more))]
     pub(crate) fn push(&mut self, word: u16, reference: i64)

@@ -1,4 +1,4 @@
-//! The spec of a field describes how its bits are read.
+//! A spec describes how a field is encoded.
 ghost use Rattle.std.specs.Prelude.{◌≡◌, ◌≤◌, ◌^◌, false, true, unsigned_abs, ◌%◌};
 ghost use Rattle.bufr_tables.specs.Prelude.{is_character};
 ghost use Rattle.bufr_walk.specs.Prelude.{HasRole, HasWidth, number_field, if_valid_width, text_spec, IsSpec, is_reference, IsPlainNumber};
@@ -16,17 +16,15 @@ pub enum Role {
     Inserted,
     /// The replication factor of a delayed replication.
     Factor,
-    /// A new reference value for an element, defined in the data while operator 2 03 Y is in
-    /// effect.
+    /// A new reference value, stored in place of the element's value while 2 03 Y is in effect.
     Reference,
 }
 
-/// The reason why a template's element, replication factor, or operator is rejected. Each variant
+/// The reason why a walk rejects an element, a replication factor, or an operator. Each variant
 /// contains the rejected descriptor.
 #[derive(Clone, Copy, Debug, PartialEq, Eq)]
 pub enum TurnRefusal {
-    /// The width of a non-text field is outside the range of 1 to 63 bits, or Table B does not
-    /// contain the element.
+    /// A non-text field is not 1 to 63 bits wide, or Table B does not contain the element.
     Width(Fxy),
     /// The descriptor is not allowed while 2 03 Y redefines reference values.
     Defining(Fxy),
@@ -38,16 +36,15 @@ pub enum Taken {
     /// The field's value has no effect on the following fields. This variant applies to all fields
     /// except replication factors and redefined reference values.
     Plain,
-    /// The number of passes over the replicated group.
+    /// The value of a replication factor, which is the number of repetitions.
     Count(u64),
-    /// The redefined reference value of the element.
+    /// The element's redefined reference value.
     Reference(i64),
 }
 
-/// The spec of a field describes how its bits are read. (WMO-No. 306, Volume I.2, FM 94: section 4,
-/// Tables B and C)
+/// A spec describes how a field is encoded (FM 94 BUFR, section 4, Tables B and C).
 // The widest struct field comes first, so that there are no gaps between the fields. With gaps,
-// each copy of a spec would cost as much as reading a number.
+// copying a spec would take as long as reading a number.
 #[derive(Clone, Copy, Debug, PartialEq, Eq)]
 pub struct Spec {
     pub(crate) reference: i128,
@@ -126,8 +123,8 @@ impl Model for Spec {
 }
 
 impl Spec {
-    /// Returns the spec of a numeric field, or [`TurnRefusal::Width`] if the width is outside the
-    /// range of 1 to 63 bits.
+    /// Returns the spec of a numeric field, or [`TurnRefusal::Width`] if the field is not 1 to 63
+    /// bits wide.
     #[tactic(auto, using(crate::proofs::SpecLemmas::number_good))]
     #[inline(always)]
     // rule: widths
@@ -195,8 +192,7 @@ impl Spec {
         self.role
     }
 
-    /// Returns the kind of the field (text, an entry of a code or flag table, or a number with a
-    /// unit).
+    /// Returns the kind of the field (text, coded, or numeric).
     pub fn kind(&self) -> Kind
         ensures { result ≡ self.now.kind }
     {
@@ -218,15 +214,15 @@ impl Spec {
         self.width
     }
 
-    /// Returns the scale. The value of a field is its number divided by ten to the power of the
-    /// scale.
+    /// Returns the scale. The value of a numeric field is the sum of its raw number and the
+    /// reference value, divided by 10 to the power of the scale.
     pub fn scale(&self) -> i16
         ensures value { result ≡ self.now.scale }
     {
         self.scale
     }
 
-    /// Returns the reference value, which is added to the number encoded in the field's bits.
+    /// Returns the reference value, which is added to the raw number in the field.
     pub fn reference(&self) -> i128
         ensures value { result ≡ self.now.reference }
         ensures spec { IsSpec self.now }
@@ -248,15 +244,16 @@ impl Spec {
         matches!(self.role, Role::Reference)
     }
 
-    /// Returns whether the field is read according to its entry in Table B.
+    /// Returns whether the spec is based on an entry in Table B.
     pub fn listed(&self) -> bool
         ensures { result ≡ self.now.listed }
     {
         self.listed
     }
 
-    /// Returns whether the field is a plain number. A plain number is read according to its entry
-    /// in Table B, and its magnitude is always less than 2^63.
+    /// Returns whether the field is a plain number. A plain number is a non-text element whose spec
+    /// is based on Table B. It has at most 62 bits and a reference value of magnitude less than
+    /// 2^62.
     #[inline(always)]
     pub(crate) fn is_plain(&self) -> bool
         ensures { result ≡ true → IsPlainNumber self.now }
@@ -264,7 +261,7 @@ impl Spec {
         self.plain
     }
 
-    /// Returns whether the field can be missing. If a field is missing, all of its bits are ones.
+    /// Returns whether the field's value can be missing. A missing value is encoded as all ones.
     pub fn may_be_missing(&self) -> bool
         ensures { result ≡ self.now.may_be_missing }
     {

@@ -1,5 +1,4 @@
-//! A cache for the specs of a template's cells. The cached specs can be used to read several
-//! messages.
+//! A cache for the specs of a template's cells. The specs can be reused for later messages.
 ghost use Rattle.std.specs.Prelude.{◌≡◌, ◌<◌, ◌≤◌, ◌^◌, IfSome};
 ghost use Rattle.bufr_walk.specs.Prelude.{IsSpecBy, IsSpecFor};
 
@@ -8,18 +7,18 @@ use bufr_tables::{Fxy, TableB};
 use std::alloc::{AllocError, Global};
 use std::marker::Model;
 
-/// The maximum number of cells whose specs are cached, counted from the first cell of a template.
+/// The maximum number of specs in a cache. If a template has more cells than this, only the specs
+/// of the first 1,024 are cached.
 const MAX_CELLS: usize = 1024;
 
-/// The smallest number that is not a valid key. Every cached spec has a smaller key.
+/// A number that is greater than every valid key.
 pub(crate) const NO_KEY: u64 = 0x4000_0000_0000_0000;
 
 /// The key of an empty cache entry.
 const EMPTY: u64 = u64::MAX;
 
-/// All inputs that determine the spec of a field. `operators` encodes the operators and the
-/// descriptor. `number` is a redefined reference value, the data width of a reference value that is
-/// being redefined, or 0.
+/// The key under which the spec of a field is cached. `operators` encodes the operators and the
+/// descriptor. `number` is a redefined reference value, the width of a new reference value, or 0.
 #[derive(Clone, Copy)]
 pub(crate) struct SpecKey {
     pub(crate) operators: u64,
@@ -33,11 +32,11 @@ pub(crate) struct CachedSpec {
     pub(crate) spec: Spec,
 }
 
-/// A cache for the specs of a template's first 1,024 cells. The specs are computed from a Table B.
-/// For each cell, the cache contains the most recently computed spec.
+/// A cache for the specs of a template's first 1,024 cells. All specs are computed from the same
+/// Table B. For each cell, the cache contains the most recently computed spec.
 ///
-/// Contracts describe a cache only in terms of its table. A cached spec equals a newly computed
-/// one, because its key contains all inputs that determine the spec.
+/// Contracts model a cache as its table alone. A cached spec always equals a newly computed one,
+/// because its key encodes everything that the spec depends on.
 ///
 /// ```
 /// let mut cache = SpecCache::new(alloc, &table_b);
@@ -66,7 +65,7 @@ impl<'a> Model for SpecCache<'a> {
 }
 
 impl<'a> SpecCache<'a> {
-    /// Creates an empty cache that has no space for specs. This function does not allocate.
+    /// Creates an empty cache that has no space for specs yet. This function does not allocate.
     pub fn new(alloc: Global, table: &'a TableB) -> SpecCache<'a>
         ensures { result ≡ table.now }
     {
@@ -109,9 +108,8 @@ impl<'a> SpecCache<'a> {
         self.entries.resize(cells.min(MAX_CELLS), empty)
     }
 
-    /// Returns the most recently computed spec of a cell, if that spec is cached under the given
-    /// key. If a reference value is being redefined or has been redefined, no cached spec matches
-    /// the key.
+    /// Returns the spec that is cached for a cell under the given key, or `None` if there is none.
+    /// If a reference value is being redefined or has been redefined, the result is always `None`.
     #[tactic(auto, using(crate::proofs::CacheLemmas::plain_spec))]
     #[inline(always)]
     pub(crate) fn get(&self, place: u32, key: u64) -> Option<&Spec>
@@ -128,8 +126,7 @@ impl<'a> SpecCache<'a> {
         None
     }
 
-    /// Returns the most recently computed spec of a cell, if that spec is cached under the given
-    /// key.
+    /// Returns the spec that is cached for a cell under the given key, or `None` if there is none.
     #[inline(always)]
     pub(crate) fn get_by(&self, place: u32, key: SpecKey) -> Option<&Spec>
         requires { key.operators < 2 ^ 62 }
@@ -145,7 +142,7 @@ impl<'a> SpecCache<'a> {
         None
     }
 
-    /// Caches the spec that was computed for a cell under the given key.
+    /// Caches a cell's spec under the given key, if the cache has space for the cell.
     pub(crate) fn insert(&mut self, place: u32, key: SpecKey, spec: &Spec)
         requires { IsSpecFor self.old key spec.now }
         ensures { self.new ≡ self.old }

@@ -1,4 +1,4 @@
-//! The `Visitor` trait, and the items that are shown to a visitor.
+//! The `Visitor` trait, and the items that are passed to a visitor.
 ghost use Rattle.std.specs.Prelude.{Result, ◌≡◌, ◌<◌, ◌^◌, ◌+ℤ◌, pos};
 ghost use Rattle.bufr_walk.specs.Prelude.{Call, subset_call, item_call, seen, seen_value, shown_number, IsPlainNumber};
 
@@ -10,17 +10,16 @@ use bufr_tables::{Entry, Fxy};
 pub enum Value<'a> {
     /// A number and its scale. The value is the number divided by ten to the power of the scale.
     Number(i128, i16),
-    /// The octets of a string. A string from an increment in compressed data is padded with spaces
-    /// to the length of the field.
+    /// The octets of a string. A string stored as an increment in compressed data is padded with
+    /// spaces to the length of the field.
     Text(&'a [u8]),
     /// A missing value.
     Missing,
-    /// A new reference value for an element, defined in the data while operator 2 03 Y is in
-    /// effect.
+    /// A new reference value, stored in place of the element's value while 2 03 Y is in effect.
     Reference(i64),
 }
 
-/// Returns the value of a plain field, given the number that is encoded in its bits.
+/// Converts the raw number in a plain numeric field to a [`Value`].
 #[inline(always)]
 pub(crate) fn plain_number<'t>(spec: &Spec, raw: u64) -> Value<'t>
     requires plain { IsPlainNumber spec.now }
@@ -34,10 +33,10 @@ pub(crate) fn plain_number<'t>(spec: &Spec, raw: u64) -> Value<'t>
     Value::Number(i128::from(number), spec.scale)
 }
 
-/// An item of the data, as shown to a visitor.
+/// An item, as passed to a visitor.
 #[derive(Clone, Copy, Debug, PartialEq, Eq)]
 pub struct ItemView<'a> {
-    /// The descriptor of an element or a replication factor, or the operator 2 05 Y.
+    /// The descriptor of an element, a replication factor, or operator 2 05 Y.
     pub fxy: Fxy,
     /// The Table B entry that was used to read the item, or `None` if no entry was used.
     pub entry: Option<Entry<'a>>,
@@ -45,21 +44,19 @@ pub struct ItemView<'a> {
     pub value: Value<'a>,
 }
 
-/// A visitor of the items read from a message. The visitor's methods are called for each subset and
-/// each item, in the order of the data.
+/// A visitor for the subsets and items of a message.
 pub trait Visitor {
     /// The reason why a visitor stops.
     type Fault;
 
-    /// The relation between the visitor before a call, the call itself, its result, and the visitor
-    /// after the call.
+    /// Specifies what a method can return and how a call changes the visitor's state.
     ghost sees: { Self → Call → Result (Unit {0}) Self.Fault → Self → Type 0 };
 
     /// Called at the start of each subset. `number` is the subset number, counted from 1.
     ///
     /// # Errors
     ///
-    /// [`Visitor::Fault`] if the visitor stops. After the fault, nothing more is shown.
+    /// [`Visitor::Fault`] if the visitor stops. The visitor is not called again after a fault.
     fn subset(&mut self, number: u16) -> Result<(), Self::Fault>
         ensures { sees self.old (subset_call number) result self.new };
 
@@ -67,7 +64,7 @@ pub trait Visitor {
     ///
     /// # Errors
     ///
-    /// [`Visitor::Fault`] if the visitor stops. After the fault, nothing more is shown.
+    /// [`Visitor::Fault`] if the visitor stops. The visitor is not called again after a fault.
     fn item(&mut self, item: &ItemView<'_>) -> Result<(), Self::Fault>
         ensures { sees self.old (item_call (seen item.now)) result self.new };
 }

@@ -1,5 +1,5 @@
 //! The walk over the cells of a template. This module also defines the `Fields` trait, the reasons
-//! why a walk stops, and the step count.
+//! why a walk stops, and the step counter.
 ghost use Rattle.std.specs.Prelude.{◌≡◌, ℕ, ◌+◌, ◌-◌, ◌^◌, ◌<◌, Result, Ok, Err, IfOk, ◌≤◌, ◌*◌, ◌++◌, ◌∷◌, [], List, OnOk, OnErr, true, false};
 ghost use Rattle.bufr_walk.specs.Prelude.{ticked, Walked, TakesField, counted_item, FieldSpec, IsFor, Taken, after_field, descriptor_of, spec_of, stop_by, inserted_spec, is_reference, IsSpecKey};
 ghost use Rattle.arrayvec.specs.ArrayVec.{array_vec_len};
@@ -52,7 +52,7 @@ impl Model for Steps {
 }
 
 impl Steps {
-    /// Creates a step count of 0.
+    /// Creates a step counter that starts at 0.
     pub fn new() -> Self
         ensures { result ≡ 0 }
     {
@@ -66,7 +66,7 @@ impl Steps {
         self.count
     }
 
-    /// Adds one step to the count, up to `u64::MAX`.
+    /// Adds one step to the count, which is capped at `u64::MAX`.
     pub(crate) fn tick(&mut self)
         ensures { self.new ≡ ticked self.old 1 }
     {
@@ -82,8 +82,7 @@ pub trait Fields {
     /// The number of bits used by the fields processed so far.
     ghost used: { Self → ℕ };
 
-    /// The relation between the state before a call to `take`, the spec of the field, the result of
-    /// the call, and the state after it.
+    /// Specifies what `take` can return for a field and how a call changes the state.
     ghost takes: { Self → FieldSpec → Result Taken Self.Fault → Self → Type 0 };
 
     /// Reads or writes the next field, and returns the part of the field's value that affects the
@@ -93,8 +92,8 @@ pub trait Fields {
     ///
     /// # Errors
     ///
-    /// [`Fields::Fault`] if the field cannot be read or written. In that case, no bits are read or
-    /// written.
+    /// [`Fields::Fault`] if the field cannot be read or written, in which case the result of
+    /// [`Fields::bits`] does not change.
     fn take(&mut self, spec: &Spec) -> Result<Taken, Self::Fault>
         ensures step { takes self.old spec.now result self.new }
         ensures shape { IfOk result (λ t. IsFor spec.now t) };
@@ -114,8 +113,8 @@ pub trait Fields {
 }
 
 impl OperatorState {
-    /// Processes a field that does not redefine a reference value. After the field, operator 2 06 Y
-    /// is no longer in effect.
+    /// Processes a field that does not redefine a reference value. Afterward, operator 2 06 Y is no
+    /// longer in effect.
     #[inline(always)]
     #[tactic(auto, using(crate::proofs::WalkLemmas::no_reference))]
     // rule: 2-06-y-used-up
@@ -162,9 +161,9 @@ impl OperatorState {
         self.take(fxy, &spec, fields)
     }
 
-    /// Processes a field, and stores its value if the field redefines a reference value. After the
-    /// field, operator 2 06 Y is no longer in effect. Memory for the value is reserved first, so
-    /// that nothing can fail after the field has been processed.
+    /// Processes a field, and stores its value if the field redefines a reference value. Afterward,
+    /// operator 2 06 Y is no longer in effect. Memory for the value is reserved first, so that
+    /// nothing can fail after the field has been processed.
     #[inline(never)]
     // rule: last-reference-counts
     pub(crate) fn take<S: Fields>(
@@ -196,8 +195,9 @@ impl OperatorState {
     }
 }
 
-/// An open group, described by the first cell of its body, the first cell after the group, and the
-/// number of passes that remain after the current pass.
+/// A group that the walk has entered but not yet left. `start` is the first cell of the group's
+/// body, `after` is the first cell after the group, and `left` is the number of passes that remain
+/// after the current one.
 #[derive(Clone, Copy, Default)]
 pub(crate) struct Frame {
     start: u32,
@@ -205,8 +205,8 @@ pub(crate) struct Frame {
     left: u64,
 }
 
-/// Opens a group and returns its first cell. If the count is 0, the group is skipped, and the first
-/// cell after it is returned.
+/// Opens a group and returns the first cell of its body. If the count is 0, skips the group and
+/// returns the first cell after it.
 #[inline(always)]
 // rule: passes-by-count
 fn open_group(count: u64, start: u32, after: u32, stack: &mut ArrayVec<Frame, 32>) -> u32
@@ -274,9 +274,9 @@ fn find_and_take<S: Fields>(
     in_force.take(field.fxy(), &spec, fields)
 }
 
-/// Processes the field of a cell while a reference value is being redefined, or after one has been
-/// redefined. If the cache has no space for the cell's spec, no key is computed, so that the
-/// redefined reference value is looked up only once.
+/// Processes a cell's field while a reference value is being redefined, or after one has been
+/// redefined. If the cache has no space for the cell's spec, no key is computed, which saves a
+/// second lookup of the redefined reference value.
 #[tactic(auto, using(crate::proofs::CacheLemmas::spec_got_by))]
 #[inline(never)]
 fn take_redefined<S: Fields>(
@@ -303,8 +303,8 @@ fn take_redefined<S: Fields>(
     }
 }
 
-/// Processes the field of a cell. Usually, the data do not redefine reference values, and the key
-/// of the field's spec consists of the operators and the descriptor.
+/// Processes a cell's field. In most cases, no reference value has been redefined, so the spec's
+/// key encodes only the operators and the descriptor.
 #[tactic(auto, using(crate::proofs::CacheLemmas::spec_got, crate::proofs::CacheLemmas::spec_got_plain, crate::proofs::CacheLemmas::plain_key))]
 #[inline(always)]
 fn take_field<S: Fields>(
@@ -339,9 +339,8 @@ fn take_field<S: Fields>(
 ///
 /// The walk adds one step to `steps` for each descriptor (an element, an operator, a replication,
 /// or a replication factor), for the end of each pass over a group, and for the end of the
-/// template. If the template has `p` places and the fields use `n` bits, there are at most `p * n`
-/// steps, or `p * (n + 1)` if the walk stops early. (WMO-No. 306, Volume I.2, FM 94: section 3,
-/// Tables B and C)
+/// template. If the template has `p` cells and the fields use `n` bits, there are at most `p * n`
+/// steps, or `p * (n + 1)` if the walk stops early (FM 94 BUFR, section 3, Tables B and C).
 ///
 /// ```
 /// let mut steps = Steps::new();
@@ -355,8 +354,8 @@ fn take_field<S: Fields>(
 ///
 /// - [`WalkStop::Defining`] if a descriptor is not allowed while reference values are being
 ///   redefined.
-/// - [`WalkStop::Width`] if the width of a non-text field is outside the range of 1 to 63 bits, or
-///   if the table does not contain the element.
+/// - [`WalkStop::Width`] if a non-text field is not 1 to 63 bits wide, or if the table does not
+///   contain the element.
 /// - [`WalkStop::Field`] if [`Fields::take`] returns a fault. The variant contains that fault.
 /// - [`WalkStop::Memory`] if memory runs out before a redefined reference value is processed.
 pub fn walk<S: Fields>(
@@ -377,9 +376,8 @@ pub fn walk<S: Fields>(
     walk_by(template, &mut cache, fields, steps)
 }
 
-/// Walks over the cells of a template once, as [`walk`] does, but uses a cache of specs. If a spec
-/// is not cached, it is computed and, if the cache has space for the cell, added to the cache. The
-/// cache does not grow.
+/// Like [`walk`], but uses a cache of specs. A spec that is not cached is computed and, if the
+/// cache has space for the cell, added to the cache. The cache does not grow.
 ///
 /// # Errors
 ///
@@ -403,9 +401,8 @@ pub fn walk_by<S: Fields>(
     walk_with(template, cache, &mut open_groups, fields, steps)
 }
 
-/// Walks over the cells of a template once, as [`walk_by`] does, but uses a stack that the caller
-/// provides. The walk clears the stack first. Reusing a stack costs less than creating one for each
-/// subset.
+/// Like [`walk_by`], but uses a stack that the caller provides. The walk clears the stack first.
+/// Reusing a stack is faster than creating one for each subset.
 pub(crate) fn walk_with<S: Fields>(
     template: &Template,
     cache: &mut SpecCache<'_>,
