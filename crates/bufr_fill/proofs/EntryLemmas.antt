@@ -1,10 +1,10 @@
 -- Stored entries, and where the subsets among them begin and end.
 use Rattle.std.proofs.lemmas.Grind.{common_steps}
-use Rattle.std.proofs.Common.{◌≡◌, ℕ, zero, suc, ◌+◌, ◌-◌, ◌≤◌, ◌<◌, Bool, List, [], ◌∷◌, ◌++◌, true, false, length, drop, get_or, min, Option, Some, None, refl, sym, ◌∙◌, ap, arith, add-one, map, length-append, ◌/◌, Result, Ok, Err, subst, slice_get, option_map, ◌==◌, slice_range, IfSome}
+use Rattle.std.proofs.Common.{◌≡◌, ℕ, zero, suc, ◌+◌, ◌-◌, ◌≤◌, ◌<◌, Bool, List, [], ◌∷◌, ◌++◌, true, false, length, drop, get_or, min, Option, Some, None, refl, sym, ◌∙◌, ap, arith, add-one, map, length-append, ◌/◌, Result, Ok, Err, subst, slice_get, ◌==◌, slice_range, IfSome}
 use Rattle.bufr_tables.proofs.TableBLemmas.{range-append}
 use Rattle.std.proofs.lemmas.List.Sums.{sum_by-append}
 use Rattle.std.proofs.Math.Seq.{drop-cons, drop-append_seam}
-use Rattle.std.proofs.lemmas.List.{append-nil, append_assoc, map-append, take_all, drop_all}
+use Rattle.std.proofs.lemmas.List.{map-append, take_all, drop_all}
 use Rattle.std.proofs.lemmas.Option.{none-some, slice_get-get_or, slice_get_within, get_or_from_slice_get}
 use Rattle.std.proofs.lemmas.Bool.Decides.{nat_tests}
 use Rattle.bufr_fill.specs.Prelude.{ValueKind, Taken, Draft, DraftEntry, Holds, Ends, Subset, subset, prepend_to_subset, subsets_of, ItemFault, DraftFault, at_line, item_too_many, RowCell, cells_at, map_err, entry_or_end, ends_of, entry_here, is_end, value_by, entry_by, entry_with, entries_stored, AreOctetsInside, draft, number_token, text_form, reference_token, IsEntryInside, AreInside, octets_stored, line_at, PlainOutModel, plain_out_model, IsFilled, IsFaultOf, IfDraftFault, after_end, FieldContent, content_of, padded_content}
@@ -196,30 +196,6 @@ pub empty_is : (xs : List ℕ) (n : ℕ) → n ≡ length xs → (n == 0) ≡ tr
 empty_is [] n e h = refl
 empty_is (x ∷ xs) n e h = grind (arith, common_steps, nat_tests)
 
-some-same : {a b : Bool} → Some a ≡ Some b → a ≡ b
-some-same e = cc
-
-true-false : true ≡ false → ⊥
-true-false e = cc
-
-false-true : false ≡ true → ⊥
-false-true e = cc
-
--- One more entry was examined, and its index was stored if it is an end.
-next_of : (xs : List DraftEntry) (index : ℕ) → index < length xs → drop index xs ≡ get_or xs index (Ends 0) ∷ drop (index + 1) xs
-next_of xs index h = drop-cons xs index (Ends 0) h ∙ ap (λ j. get_or xs index (Ends 0) ∷ drop j xs) (sym (add-one index))
-
-pub ends_here : (xs : List DraftEntry) (ends new : List ℕ) (index : ℕ) (b : Bool) → index < length xs → Some b ≡ option_map is_end (slice_get xs index) → b ≡ true → new ≡ ends ++ index ∷ []
-    → ends ++ ends_of index (drop index xs) ≡ ends_of 0 xs → new ++ ends_of (index + 1) (drop (index + 1) xs) ≡ ends_of 0 xs
-ends_here xs ends new index b within is so grown before = grind (arith, common_steps, option_map, slice_get-get_or, next_of, true-false, some-same, append_assoc)
-
-pub ends_after : (xs : List DraftEntry) (ends new : List ℕ) (index : ℕ) (b : Bool) → index < length xs → Some b ≡ option_map is_end (slice_get xs index) → b ≡ false → new ≡ ends
-    → ends ++ ends_of index (drop index xs) ≡ ends_of 0 xs → new ++ ends_of (index + 1) (drop (index + 1) xs) ≡ ends_of 0 xs
-ends_after xs ends new index b within is so same before = grind (arith, common_steps, option_map, slice_get-get_or, next_of, false-true, some-same)
-
-pub ends_done : (xs : List DraftEntry) (ends all : List ℕ) (index : ℕ) → length xs ≤ index → ends ++ ends_of index (drop index xs) ≡ all → ends ≡ all
-ends_done xs ends all index past before = sym (append-nil ends) ∙ ap (λ ys. ends ++ ends_of index ys) (sym (drop_all index xs past)) ∙ before
-
 -- ---- Entries that are stored with their octets in a block.
 
 -- Octets that are appended to the block do not change the entries.
@@ -248,10 +224,10 @@ entries-append octets more [] all = refl
 entries-append octets more (one ∷ cells) (here, all) = rw (entry-append octets more one here, entries-append octets more cells all) refl
 
 -- One more entry was stored, and its octets were appended to the block.
-pub entries-push : (octets more new : List ℕ) (cells : List StoredEntry) (one : StoredEntry) (e : DraftEntry) → AreInside (length octets) cells → new ≡ octets ++ more → one.start ≡ length octets
-    → one.end ≡ length new → entry_with one more ≡ e
-    → entries_stored new (cells ++ one ∷ []) ≡ entries_stored octets cells ++ e ∷ []
-entries-push octets more new cells one e all is from at said = grind (arith, common_steps, length-append, slice_range, range-after, map-append, map, entries-append)
+pub entries-push : (octets more new : List ℕ) (cells kept : List StoredEntry) (one : StoredEntry) (e : DraftEntry) → AreInside (length octets) cells → new ≡ octets ++ more → kept ≡ cells ++ one ∷ []
+    → one.start ≡ length octets → one.end ≡ length new → entry_with one more ≡ e
+    → entries_stored new kept ≡ entries_stored octets cells ++ e ∷ []
+entries-push octets more new cells kept one e all is grown from at said = grind (arith, common_steps, length-append, slice_range, range-after, map-append, map, entries-append)
 
 -- Octets that are inside a block are inside a larger one, too.
 inside-greater : (n n' : ℕ) (k : Option ValueKind) (start end : ℕ) → n ≤ n' → IfSome k (λ k. AreOctetsInside k n start end) → IfSome k (λ k. AreOctetsInside k n' start end)
@@ -268,12 +244,41 @@ inside-push n n' (cell ∷ cells) one more (here, all) last = (inside-greater n 
 
 -- After one more entry is stored, the octets of all entries are still inside the block, which has
 -- no others.
-pub stored-push : (n n' : ℕ) (cells kept : List StoredEntry) (one : StoredEntry) → AreInside n cells × (n ≡ octets_stored cells) → kept ≡ cells ++ one ∷ [] → one.start ≡ n → one.end ≡ n' → n ≤ n'
+pub stored-push : (n n' : ℕ) (cells kept : List StoredEntry) (one : StoredEntry) → AreInside n cells → n ≡ octets_stored cells → kept ≡ cells ++ one ∷ [] → n' ≡ n + (one.end - one.start)
     → IsEntryInside n' one
     → AreInside n' kept × (n' ≡ octets_stored kept)
-stored-push n n' cells kept one (all, stored) is from to more last =
+stored-push n n' cells kept one all stored is more last =
     let S : List StoredEntry → Type 0 = λ l. AreInside n' l × (n' ≡ octets_stored l) in
-    subst S (sym is) (inside-push n n' cells one more all last, omega (arith, stored, from, to, more, sum_by-append (λ e. e.end - e.start) cells (one ∷ [])))
+    subst S (sym is) (inside-push n n' cells one (omega (arith, more)) all last, omega (arith, stored, more, sum_by-append (λ e. e.end - e.start) cells (one ∷ [])))
+
+-- one more entry, without octets
+pub entries-more : (octets : List ℕ) (cells kept : List StoredEntry) (one : StoredEntry) (e : DraftEntry) → kept ≡ cells ++ one ∷ [] → entry_with one (slice_range octets one.start one.end) ≡ e
+    → entries_stored octets kept ≡ entries_stored octets cells ++ e ∷ []
+entries-more octets cells kept one e is said =
+    ap (entries_stored octets) is ∙ map-append (λ x. entry_with x (slice_range octets x.start x.end)) cells (one ∷ []) ∙ ap (λ x. entries_stored octets cells ++ x ∷ []) said
+
+pub length-entries : (octets : List ℕ) (cells : List StoredEntry) → length (entries_stored octets cells) ≡ length cells
+length-entries octets [] = refl
+length-entries octets (one ∷ cells) = ap suc (length-entries octets cells)
+
+-- one more item leaves the ends unchanged
+ends_before_item : (from : ℕ) (xs : List DraftEntry) (d : Draft) → ends_of from (xs ++ Holds d ∷ []) ≡ ends_of from xs
+ends_before_item from [] d = refl
+ends_before_item from (Holds x ∷ xs) d = ends_before_item (from + 1) xs d
+ends_before_item from (Ends line ∷ xs) d = ap (λ l. from ∷ l) (ends_before_item (from + 1) xs d)
+
+pub ends_after_item : (xs ys : List DraftEntry) (ends : List ℕ) (d : Draft) → ends ≡ ends_of 0 xs → ys ≡ xs ++ Holds d ∷ [] → ends ≡ ends_of 0 ys
+ends_after_item xs ys ends d before is = before ∙ sym (ends_before_item 0 xs d) ∙ ap (ends_of 0) (sym is)
+
+-- one more end is the last of the ends
+ends_before_end : (from : ℕ) (xs : List DraftEntry) (line n : ℕ) → n ≡ from + length xs → ends_of from (xs ++ Ends line ∷ []) ≡ ends_of from xs ++ n ∷ []
+ends_before_end from [] line n e = let same : from ≡ n = omega (arith, e) in ap (λ k. k ∷ []) same
+ends_before_end from (Holds x ∷ xs) line n e = ends_before_end (from + 1) xs line n (omega (arith, e))
+ends_before_end from (Ends end ∷ xs) line n e = ap (λ l. from ∷ l) (ends_before_end (from + 1) xs line n (omega (arith, e)))
+
+pub ends_after_end : (xs ys : List DraftEntry) (ends new : List ℕ) (line n : ℕ) → ends ≡ ends_of 0 xs → ys ≡ xs ++ Ends line ∷ [] → n ≡ length xs → new ≡ ends ++ n ∷ [] → new ≡ ends_of 0 ys
+ends_after_end xs ys ends new line n before is count grown =
+    grown ∙ ap (λ l. l ++ n ∷ []) before ∙ sym (ends_before_end 0 xs line n (omega (arith, count))) ∙ ap (ends_of 0) (sym is)
 
 -- The line of an entry is the stored one.
 pub line-is : (k : StoredEntry) (octets : List ℕ) → entry_line (entry_with k octets) ≡ k.line

@@ -1,6 +1,5 @@
 -- Entries that are copied so that those of a row are together.
-use Rattle.std.proofs.lemmas.Grind.{common_steps}
-use Rattle.std.proofs.Common.{◌≡◌, ℕ, zero, suc, ◌+◌, ◌*◌, ◌<◌, ◌≤◌, Bool, true, false, List, length, get_or, slice_set, refl, sym, ◌∙◌, ap, arith, Option, Some, None, ◌⊎◌, inl, inr, slice_get, subst}
+use Rattle.std.proofs.Common.{◌≡◌, ℕ, zero, suc, ◌+◌, ◌*◌, ◌<◌, ◌≤◌, false, List, length, slice_set, refl, sym, ◌∙◌, ap, arith, Option, Some, None, ◌⊎◌, inl, inr, slice_get, subst}
 use Rattle.std.proofs.Math.Nat.{mul-le-mul_right}
 use Rattle.std.proofs.lemmas.Option.{slice_get_within, slice_get-get_or, get_or_from_slice_get}
 use Rattle.std.proofs.lemmas.List.{get_or-set_other, get_or-set_same, length-set}
@@ -82,6 +81,25 @@ module _ (entries : List DraftEntry) (from count subset ahead : ℕ) (transposed
           let place : ahead * count + subset ≡ k * count + s = ap (λ n. n * count + subset) (sym row) ∙ ap (λ n. k * count + n) (sym at) in
           let is : e ≡ entry = written e (ap (slice_get (slice_set transposed (ahead * count + subset) entry)) place ∙ there) in
           subst (λ n. IsCopy entries (from + n) s e) (sym row) (subst (λ n. IsCopy entries (from + ahead) n e) (sym at) (subst (IsCopy entries (from + ahead) subset) (sym is) now))
+
+row_within : (rows count k s : ℕ) → k * count + s < rows * count → k < rows
+row_within rows count k s h = by (le_or_lt rows k)
+  where
+    by : (rows ≤ k) ⊎ (k < rows) → k < rows
+    by (inl past) = absurd (omega (arith, mul-le-mul_right {m = rows} {n = k} count past, h))
+    by (inr below) = below
+
+-- After the last row of a subset, the next subset follows.
+pub next_subset : (entries : List DraftEntry) (from count subset ahead rows : ℕ) (copies : List StoredEntry) → length copies ≡ rows * count → rows ≤ ahead
+    → AreTransposedTo entries from count subset ahead copies → AreTransposedTo entries from count (subset + 1) 0 copies
+next_subset entries from count subset ahead rows copies size past before k s e few (inr (at, none)) there = absurd (omega (arith, none))
+next_subset entries from count subset ahead rows copies size past before k s e few (inl earlier) there = by (le_or_lt subset s)
+  where
+    by : (subset ≤ s) ⊎ (s < subset) → IsCopy entries (from + k) s e
+    by (inr h) = before k s e few (inl h) there
+    by (inl h) =
+        let within : k < rows = row_within rows count k s (omega (arith, slice_get_within copies (k * count + s) e there, size)) in
+        before k s e few (inr (omega (arith, h, earlier), omega (arith, within, past))) there
 
 -- After the last subset, all entries were copied.
 pub transposed : (entries : List DraftEntry) (from count subset : ℕ) (copies : List StoredEntry) → ((row : ℕ) → length (cells_at row (subsets_of entries)) ≡ count) → count ≤ subset

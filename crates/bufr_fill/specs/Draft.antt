@@ -1,6 +1,6 @@
 -- The items of a dump, the contents of their fields, and the faults in items (our choice).
 -- Cited by public contracts.
-use Rattle.std.specs.Prelude.{ℕ, List, [], ◌∷◌, Bool, true, false, ◌-◌, ◌/◌, ◌^◌, ◌==◌, ◌&&◌, nat_lt, not, if◌then◌else◌, ◌++◌, length, replicate, ℤ, pos, negsuc, nat_abs, ◌+ℤ◌, ◌-ℤ◌, Result, Ok, Err, ◌≡◌, ◌≤◌, ◌<◌, unsigned_abs, map, slice_range, codes, decimal, Option, Some, None, IfSome}
+use Rattle.std.specs.Prelude.{ℕ, List, [], ◌∷◌, Bool, true, false, ◌+◌, ◌-◌, ◌/◌, ◌^◌, ◌==◌, ◌&&◌, nat_lt, not, if◌then◌else◌, ◌++◌, length, replicate, ℤ, pos, negsuc, nat_abs, ◌+ℤ◌, ◌-ℤ◌, Result, Ok, Err, ◌≡◌, ◌≤◌, ◌<◌, unsigned_abs, map, slice_range, codes, decimal, Option, Some, None, IfSome}
 pub use Rattle.bufr_walk.specs.declared.spec.TurnRefusal.{TurnRefusal}
 use Rattle.bufr_fill.specs.declared.fault.Expected.{Expected}
 pub use Rattle.bufr_fill.specs.declared.fault.DraftFault.{DraftFault}
@@ -29,8 +29,8 @@ use Rattle.bufr_fill.specs.declared.draft.DraftValue as given
 use Rattle.bufr_fill.specs.declared.draft.DraftValue.TheVariants as item_value
 use Rattle.bufr_fill.specs.declared.draft.DraftItem.{DraftItem}
 
--- the value on an item's line, which is a number (digits, `-` and `.`), a string, `MISSING`, or a
--- redefined reference value; numbers and reference values are stored as characters
+-- the value on an item's line; numbers and redefined reference values are represented by their
+-- characters (digits, `-` and `.`)
 pub data DraftValue : Type 0 where
   number_token : (digits : List ℕ) → DraftValue
   text_form : (octets : List ℕ) → DraftValue
@@ -61,13 +61,13 @@ pub record Subset : Type 0 where
 abbrev pub subset : List Draft → ℕ → Subset
 subset items end_line = record { items = items; end_line = end_line }
 
--- the subsets, with an item added at the start of the first one; if there are no subsets, the item
--- is dropped because its own subset is incomplete
+-- the given subsets, with an item added at the start of the first one; if there are none, the item
+-- is dropped because no entry ends its subset
 abbrev pub prepend_to_subset : Draft → List Subset → List Subset
 prepend_to_subset item [] = []
 prepend_to_subset item (s ∷ subsets) = record s { items = item ∷ s.items } ∷ subsets
 
--- the subsets of the document that has the given entries
+-- the subsets of a document, given its entries
 abbrev pub subsets_of : List DraftEntry → List Subset
 subsets_of [] = []
 subsets_of (Holds item ∷ more) = prepend_to_subset item (subsets_of more)
@@ -89,7 +89,7 @@ walk_refused (refusal.Defining fxy) = item_fault.Walk (walk_refusal.Defining fxy
 abbrev pub too_many_values : (fxy : ℕ) → ItemFault
 too_many_values fxy = item_fault.Walk (walk_refusal.TooManyValues fxy)
 
--- the fault number that `dump` would report for the same problem, and the rejected descriptor
+-- the number of the fault that `dump` would report in the same case, and the rejected descriptor
 abbrev pub refusal_parts : WalkRefusal → ℕ × ℕ
 refusal_parts (walk_refusal.Width fxy) = (31, fxy)
 refusal_parts (walk_refusal.Defining fxy) = (32, fxy)
@@ -123,8 +123,8 @@ item_report (item_fault.Walk why) =
     let refused = refusal_parts why in
     (62, codes "walk " ∷ decimal refused.0 ∷ codes " descriptor " ∷ fxy_text refused.1 ∷ [])
 
--- the number of a fault (73 if memory ran out); instead of 62, it is the number that `dump` would
--- report (31, 32 or 35)
+-- the number of a fault, or 73 if memory ran out; fault 62 is replaced by the fault that `dump`
+-- would report (31, 32 or 35)
 abbrev pub number_of_draft_fault : DraftFault → ℕ
 number_of_draft_fault (draft_fault.Item line (item_fault.Walk why)) = (refusal_parts why).0
 number_of_draft_fault (draft_fault.Item line fault) = (item_report fault).0
@@ -135,8 +135,8 @@ abbrev pub is_marked : DraftValue → Bool
 is_marked (reference_token digits) = true
 is_marked _ = false
 
--- the fault in a value that cannot be read as a number at the field's scale, which is `OutOfRange`
--- if the number is too large, and `Number` otherwise
+-- the fault if a value cannot be read as a number at the field's scale; it is `OutOfRange` if the
+-- number is too large, and `Number` otherwise
 -- rule: fault-52
 abbrev pub number_fault : NumberFault → ItemFault
 number_fault Large = item_fault.OutOfRange
@@ -210,7 +210,7 @@ wrong_for spec = item_fault.WrongDescriptor
 abbrev pub content_of : FieldSpec → Draft → Result Content ItemFault
 content_of spec d = if is_of spec d then content_by_form d.form spec else Err (wrong_for spec)
 
--- the value that a dump writes for the content of a field
+-- the value that a dump writes for a field with the given content
 abbrev pub draft_value_of : FieldSpec → Content → DraftValue
 draft_value_of spec (number raw) = number_token
     (decimal_text_of (pos raw +ℤ spec.reference) spec.scale)
@@ -236,8 +236,8 @@ padded_content count (field_content.Text octets) = text (spaced count octets.now
 padded_content count field_content.Missing = missing
 padded_content count (field_content.Reference value) = reference value
 
--- The content is valid for the field. If it is a string, it fits in the field and would not be read
--- as missing.
+-- The content is valid for the field. A string must fit in the field and must not be read as
+-- missing.
 abbrev pub IsContentOf : FieldSpec → FieldContent → Type 0
 IsContentOf spec (field_content.Number raw) =
     (is_character spec.kind ≡ false) × (is_reference spec.role ≡ false)
@@ -251,16 +251,16 @@ IsContentOf spec field_content.Missing =
 IsContentOf spec (field_content.Reference value) =
     (is_reference spec.role ≡ true) × (unsigned_abs value < 2 ^ (spec.width - 1))
 
--- The bits represent minus zero as a redefined reference value (only the sign bit is set). Minus
+-- The bits of a redefined reference value represent minus zero (only the sign bit is set). Minus
 -- zero is never written (our choice).
 abbrev pub IsMinusZero : Role → List Bool → Type 0
 IsMinusZero role.Reference bits = bits ≡ true ∷ replicate (length bits - 1) false
 IsMinusZero _ bits = ⊥
 
--- ---- The normal form of an item, as a dump writes it. (our own definitions)
+-- ---- The normal form of an item, as a dump writes it (not part of FM 94 BUFR).
 
--- the digits of a number as a dump writes them at the given scale; digits that cannot be read as a
--- number at that scale are left unchanged
+-- the digits that a dump writes for a number at the given scale; if the given digits cannot be read
+-- as a number at that scale, they are left unchanged
 abbrev pub decimal_again : List ℕ → ℤ → Result ℤ NumberFault → List ℕ
 decimal_again digits scale (Ok value) = decimal_text_of value scale
 decimal_again digits scale (Err why) = digits
@@ -290,7 +290,7 @@ abbrev pub entry_by : Option ValueKind → (line fxy digits : ℕ) → List ℕ 
 entry_by None line fxy digits octets = Ends line
 entry_by (Some k) line fxy digits octets = Holds (draft line fxy (value_by k digits octets))
 
--- the entry of a document, given the stored entry and its octets
+-- an entry of a document, given the stored entry and its octets
 abbrev pub entry_with : StoredEntry → List ℕ → DraftEntry
 entry_with e octets = entry_by e.kind e.line e.fxy e.start octets
 
@@ -302,6 +302,12 @@ entries_stored block kept = map (λ e. entry_with e (slice_range block e.start e
 abbrev pub is_end : DraftEntry → Bool
 is_end (Holds d) = false
 is_end (Ends line) = true
+
+-- the indices of the entries that end a subset; the first entry has index `from`
+abbrev pub ends_of : (from : ℕ) → List DraftEntry → List ℕ
+ends_of from [] = []
+ends_of from (Holds d ∷ more) = ends_of (from + 1) more
+ends_of from (Ends line ∷ more) = from ∷ ends_of (from + 1) more
 
 -- whether values of the given kind are stored in the shared block
 abbrev pub has_octets_of_kind : ValueKind → Bool
@@ -326,7 +332,7 @@ IsEntryInside size e = IfSome e.kind (λ k. AreOctetsInside k size e.start e.end
 abbrev pub AreInside : ℕ → List StoredEntry → Type 0
 AreInside size kept = AllByRecursion (IsEntryInside size) kept
 
--- the total length of the stored entries' ranges in the shared block
+-- the total length of the ranges `start..end` of all stored entries
 abbrev pub octets_stored : List StoredEntry → ℕ
 octets_stored kept = sum_by (λ e. e.end - e.start) kept
 

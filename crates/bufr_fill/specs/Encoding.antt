@@ -1,6 +1,6 @@
 -- The data bits of a document, and how its items are written as plain or compressed data (FM 94
--- BUFR, section 4). We chose the order of the faults, the base of each item, and its k (the size of
--- an increment).
+-- BUFR, section 4). The order of the checks, and the base and k (increment size) of each item, are
+-- our choice.
 -- Cited by public contracts.
 use Rattle.std.specs.Prelude.{Bool, List, [], ◌∷◌, ◌++◌, Result, Ok, Err, ℕ, zero, suc, ◌+◌, ◌-◌, ◌==◌, ◌&&◌, nat_lt, nat_le, min, not, true, false, if◌then◌else◌, take, replicate, length, Option, Some, None, unwrap_or, ◌≡◌, ◌≤◌, drop, max, map, slice_get}
 pub use Rattle.bufr_walk.specs.declared.spec.Taken.{Taken}
@@ -27,7 +27,7 @@ written_item content bits = record { content = content; bits = bits }
 -- field, which is an item or, in compressed data, a row with the items of all subsets. C is the
 -- type of the field's content, and E is the type of a fault.
 pub record Filler (D C E : Type 0) : Type 0 where
-  -- the result of writing an item as a field
+  -- the result of writing an item into a field
   pub fills : FieldSpec → D → Result (WrittenItem C) E
   -- the part of a field's content that affects the walk
   pub gives : FieldSpec → C → Taken
@@ -43,12 +43,12 @@ pub record Filler (D C E : Type 0) : Type 0 where
   pub lost : E
 
 module _ {D C E : Type 0} (filler : Filler D C E) where
-  -- the given bits followed by the bits of the result or, if the result is a fault, that fault
+  -- the given bits followed by those of the result or, if the result is a fault, that fault
   abbrev pub with_bits_before : List Bool → Result (List Bool) E → Result (List Bool) E
   with_bits_before bits (Err why) = Err why
   with_bits_before bits (Ok suffix) = Ok (bits ++ suffix)
 
-  -- the step that writes the next item as the given field
+  -- the step that writes the next item into the given field
   abbrev pub write_first : FieldSpec → List D → Result (Step (List D) (WrittenItem C)) E
   write_first spec [] = Err (filler.none_left spec)
   write_first spec (d ∷ left) = do
@@ -83,7 +83,7 @@ module _ {D C E : Type 0} (filler : Filler D C E) where
 abbrev pub bits_written : {C : Type 0} → List (Item (WrittenItem C)) → List Bool
 bits_written {C} items = flat_map (λ (i : Item (WrittenItem C)). i.content.bits) items
 
--- a pass, with the given items added before its own items
+-- a pass with the given items added before its own
 abbrev pub with_items : {S C E : Type 0} → List (Item C) → Pass S C E → Pass S C E
 with_items items p = record p { items = items ++ p.items }
 
@@ -95,7 +95,7 @@ bits_of_pass p = option_map_or (λ why. Err why) p.stop (Ok (bits_written p.item
 abbrev pub fill : {D C E : Type 0} → Filler D C E → Course → List D → Result (List Bool) E
 fill filler course drafts = bits_of_pass (fill_pass filler course drafts)
 
--- the least number in a field over all subsets, or `None` if the field contains no numbers
+-- the least number that a field contains in any subset, or `None` if it contains no numbers
 -- rule: packs-numbers
 abbrev pub lowest : List Content → Option ℕ
 lowest [] = None
@@ -120,8 +120,8 @@ abbrev pub first_from : (ℕ → Bool) → ℕ → ℕ → ℕ
 first_from p zero k = k
 first_from p (suc fuel) k = if p k then k else first_from p fuel (k + 1)
 
--- the least k from 1 to 63 for which all contents of a field pass the test, or 64 if no such k
--- exists; k is written in six bits
+-- the least k from 1 to 63 for which the test succeeds for all contents, or 64 if there is none; k
+-- is written in six bits
 -- rule: packs-numbers
 abbrev pub least_k : (ℕ → Content → Bool) → List Content → ℕ
 least_k passes cs = first_from (λ k. list_all (passes k) cs) 63 1
@@ -170,7 +170,7 @@ abbrev pub k_of : FieldSpec → List Bool → ℕ
 k_of spec bits = number_of (take 6 (drop spec.width bits))
 
 -- The contents of an item can be packed into bits, which are read back as the same contents. No
--- other bits that are read as these contents have a smaller k or are shorter.
+-- other encoding of these contents has a smaller k or fewer bits.
 pub record HasLeastK (n : ℕ) (spec : FieldSpec) (contents : List Content) : Type 0 where
   pub out : List Bool
   pub is : packing spec contents ≡ Ok out
@@ -212,8 +212,8 @@ plain_data course (s ∷ subsets) = do
 
 -- ---- How compressed data are written.
 
--- a cell of a row, which contains the item of one subset (`None` if the subset has no more items)
--- and the number of the line that ends the subset
+-- a cell of a row, with the item of one subset (`None` if the subset has no more items) and the
+-- number of the line that ends the subset
 pub record RowCell : Type 0 where
   pub draft : Option Draft
   pub end_line : ℕ
@@ -224,8 +224,7 @@ pub record ItemRow : Type 0 where
   pub index : ℕ
   pub cells : List RowCell
 
--- the line number of the item in a cell or, if the cell has no item, the number of the line that
--- ends the subset
+-- the number of the line with a cell's item or, if there is none, with the end of the subset
 abbrev pub cell_line : RowCell → ℕ
 cell_line c = option_map_or (λ (d : Draft). d.line) c.draft c.end_line
 
@@ -285,8 +284,8 @@ packing_fault cs cells unequal_factor = at_line (unlike_line cs cells) item_faul
 packing_fault cs cells _ = at_line (first_line cells) item_fault.Increment
 
 -- The item that is written for a row, or the first fault. The number of values is checked first,
--- then the item of each subset, and finally whether the contents can be packed. `result_map_both`
--- applies its first function to the value in `Ok`, or its second function to the fault in `Err`.
+-- and then the item of each subset; finally, the contents are packed. `result_map_both` applies its
+-- first function to the value in `Ok`, or its second function to the fault in `Err`.
 -- rule: fault-order-of-subsets
 abbrev pub pack_across : FieldSpec → ItemRow → Result (WrittenItem (List Content)) DraftFault
 pack_across spec a =
@@ -322,7 +321,7 @@ packed_data course (s ∷ subsets) =
     let filler = packed_filler s.end_line (would_be_many (length (s ∷ subsets)) most) in
     fill filler course (rows most 0 (s ∷ subsets))
 
--- the data bits of the subsets of a document, or the first fault
+-- the data bits of a document's subsets, or the first fault
 abbrev pub data_bits : (compressed : Bool) → Course → List Subset → Result (List Bool) DraftFault
 data_bits true course subsets = packed_data course subsets
 data_bits false course subsets = plain_data course subsets

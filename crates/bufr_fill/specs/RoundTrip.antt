@@ -10,12 +10,12 @@ use Rattle.bufr_fill.specs.Encoding.{Kind, packed_data, data_bits, Filler, Writt
 use Rattle.bufr_tables.specs.Prelude.{IsLegal, Record, Row, AreRows, Tree}
 use Rattle.bufr_tables.specs.declared.table_b.Kind.TheVariants as kind
 
--- Each number fits in an octet.
+-- Each number is less than 256.
 abbrev pub AreOctets : List ℕ → Type 0
 AreOctets xs = AllByRecursion (λ (x : ℕ). x < 256) xs
 
--- The content is a number that fits in the data width and is not read as missing, or a missing
--- value if the field may be missing (m).
+-- The content is a number that fits in the data width and is not read as missing, or it is missing
+-- and the field may be missing (m).
 abbrev pub FitsNumber : Bool → ℕ → Content → Type 0
 FitsNumber m width (number raw) = raw < raw_limit m width
 FitsNumber m width missing = m ≡ true
@@ -52,7 +52,7 @@ Fits spec c = FitsRole spec.role spec c
 abbrev pub AllFit : FieldSpec → List Content → Type 0
 AllFit spec cs = AllByRecursion (λ (c : Content). Fits spec c) cs
 
--- The draft is the item as a dump writes it, except that the line number may differ.
+-- The draft has the descriptor and the value that a dump writes for the item.
 abbrev pub IsDumped : Item Content → Draft → Type 0
 IsDumped i d = (d.fxy ≡ i.spec.fxy) × (d.form ≡ draft_value_of i.spec i.content)
 
@@ -61,7 +61,7 @@ IsDumped i d = (d.fxy ≡ i.spec.fxy) × (d.form ≡ draft_value_of i.spec i.con
 abbrev pub AreDrafts : {C D : Type 0} → (Item C → D → Type 0) → List (Item C) → List D → Type 0
 AreDrafts of_item items ds = AllZip of_item items ds
 
--- The drafts of each subset are the subset's items as a dump writes them.
+-- The drafts have the descriptors and the values that a dump writes for the items of each subset.
 abbrev pub AreDumped : List (List (Item Content)) → List Subset → Type 0
 AreDumped = AllZip (λ (items : List (Item Content)) (s : Subset). AreDrafts IsDumped items s.items)
 
@@ -92,8 +92,8 @@ IsUnlike item_fault.UnequalFactor = Unit {0}
 IsUnlike item_fault.Increment = Unit {0}
 IsUnlike _ = ⊥
 
--- Encoding the drafts as compressed data gives bits that are read back as the items of the given
--- subsets, or it fails because compressed data cannot represent these items.
+-- Encoding the drafts as compressed data either gives bits that are read back as the items of the
+-- given subsets or fails because compressed data cannot represent these items.
 abbrev pub IsTogetherOrNot : Course → List (List (Item Content)) → List Subset → Type 0
 IsTogetherOrNot course subsets drafts =
     ((items : List (Item (List Content))) × (subsets_from (length subsets) 0 items ≡ subsets)
@@ -101,7 +101,7 @@ IsTogetherOrNot course subsets drafts =
     ⊎ ((line : ℕ) × (why : ItemFault) × (packed_data course drafts ≡ Err (at_line line why))
     × IsUnlike why)
 
--- ---- Reading data that were written from drafts. (our own definitions)
+-- ---- Reading data that were written from drafts (not part of FM 94 BUFR).
 
 -- If the value is a string, each of its octets is less than 256.
 abbrev pub HasOctets : DraftValue → Type 0
@@ -132,8 +132,8 @@ pub record IsReadBack (course : Course) (compressed : Bool) (drafts : List Subse
       (record { compressed = compressed; subsets = length drafts; bits = bits ++ suffix }) values
       (length bits)
 
--- ---- Drafts that specify the same contents, even if they are spelled differently. (our own
--- definitions)
+-- ---- Drafts that specify the same contents, even if they are spelled differently (not part of FM
+-- 94 BUFR).
 
 -- Both drafts specify the same content, or have the same fault, for every field.
 abbrev pub IsAlike : Draft → Draft → Type 0
@@ -144,16 +144,16 @@ IsAlike a b = (spec : FieldSpec) → content_of spec a ≡ content_of spec b
 abbrev pub AllAlike : List Subset → List Subset → Type 0
 AllAlike ss ts = AllZip (λ (s t : Subset). AllZip IsAlike s.items t.items) ss ts
 
--- ---- Definitions shared by the laws about writing.
+-- ---- Definitions shared by the theorems about writing.
 
--- The statement `law` holds for the walk over any template of legal nodes with any valid Table B.
+-- The statement `law` holds for the walk over any legal template with any valid Table B.
 abbrev pub OfTemplates : (Course → Type 0) → Type 0
 OfTemplates law =
     (records : List Record) (table : List Row) (template : Tree) → AreRows records table
     → IsLegal template → law (next_item table template)
 
--- A walk wrote the bits of all drafts except those in `left`. By definition, the pass over all
--- drafts writes the same items and then continues with the drafts in `left`.
+-- A walk wrote the bits of all drafts except those in `left`. `fill_pass` writes the same items and
+-- then continues with the drafts in `left`.
 pub record WritesDrafts {D C E : Type 0} (filler : Filler D C E) (course : Course)
     (walked : List TakenField) (old new : List Bool) (drafts left : List D) : Type 0 where
   pub items : List (Item (WrittenItem C))

@@ -6,8 +6,8 @@ use Rattle.std.specs.Option.{option_map_or}
 use Rattle.bufr_fill.specs.Draft.{Subset, DraftFault}
 use Rattle.bufr_fill.specs.Encoding.{Filler, fill_pass, bits_written, plain_filler, packed_filler, most_items, rows}
 
--- the result of writing, which consists of the bits before the first fault, the fault (if any), and
--- the number of steps
+-- the result of writing, with the bits before the first fault, the fault (if any), and the number
+-- of steps
 pub record Writing (E : Type 0) : Type 0 where
   pub bits : List Bool
   pub stop : Option E
@@ -23,7 +23,7 @@ pass_writing filler course drafts =
       turns = (course (answers_in (λ spec w. filler.gives spec w.content) p.items)).turns;
     }
 
--- the result w or, if w contains no fault, w followed by `rest`; the second argument is `w.stop`
+-- w followed by `rest`, or only w if it contains a fault; the second argument is `w.stop`
 abbrev pub writing_then : {E : Type 0} → Writing E → Option E → Writing E → Writing E
 writing_then w (Some why) rest = w
 writing_then w None rest =

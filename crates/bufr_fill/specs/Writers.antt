@@ -1,9 +1,9 @@
 -- Only contracts need this file. How the code writes plain and compressed data, and how it finds
--- the least k (our choice).
+-- the least increment size k (our choice).
 use Rattle.std.specs.Prelude.{ℕ, ◌≡◌, ◌≤◌, ◌<◌, ◌*◌, ◌^◌, Bool, List, [], ◌∷◌, ◌++◌, length, Option, Some, None, Result, Ok, Err, ◌+◌, ◌-◌, suc, ◌==◌, ◌&&◌, nat_lt, max, min, if◌then◌else◌, take, slice_get, ◌%◌, false}
 use Rattle.bufr_walk.specs.declared.spec.Taken.{Taken}
 use Rattle.bufr_walk.specs.Prelude.{FieldSpec, Content, answer_of, bits_for, Next, take_next, at_end, astray, refused, FieldFault, answer_first, max_values}
-use Rattle.bufr_fill.specs.Draft.{DraftFault, Draft, DraftEntry, Holds, Ends, ItemFault, at_line, item_too_many, walk_refused, Subset, content_of, wrong_for, FieldContent, raw_limit, padded_content, IsContentOf, subsets_of, has_octets, entry_with}
+use Rattle.bufr_fill.specs.Draft.{DraftFault, Draft, DraftEntry, Holds, Ends, ItemFault, at_line, item_too_many, walk_refused, Subset, content_of, wrong_for, FieldContent, raw_limit, padded_content, IsContentOf, subsets_of, has_octets, entry_with, ends_of}
 use Rattle.bufr_fill.specs.declared.fault.DraftFault.{DraftFault}
 use Rattle.bufr_fill.specs.Encoding.{written_item, RowCell, ItemRow, rows, most_items, item_row, cells_at, first_line, pack_across, content_here, contents_here, first_from, Taken}
 use Rattle.std.specs.List.{list_all, AllByRecursion}
@@ -39,8 +39,8 @@ pub record IsFilled (s : PlainOutModel) (spec : FieldSpec) (t : Taken)
   pub bits : s'.bits ≡ s.bits ++ bits_for spec.width content
   pub forth : length s.bits < length s'.bits
 
--- The next item causes the fault. If the subset has no more items, the fault names the expected
--- item and is reported for the line that ends the subset, or for line 0 if no entries remain.
+-- The next item is invalid or missing. If it is missing, the fault names the expected item and is
+-- reported for the line that ends the subset, or for line 0 if no entries remain.
 abbrev pub IsFaultOf : FieldSpec → List DraftEntry → DraftFault → Type 0
 IsFaultOf spec [] f = f ≡ at_line 0 (wrong_for spec)
 IsFaultOf spec (Ends line ∷ more) f = f ≡ at_line line (wrong_for spec)
@@ -52,8 +52,8 @@ abbrev pub IfDraftFault : DraftFault → (DraftFault → Type 0) → Type 0
 IfDraftFault (draft_fault.Item line fault) p = p (at_line line fault)
 IfDraftFault draft_fault.Memory p = Unit {0}
 
--- A call wrote the next item, or it failed because the item is invalid or memory ran out. If the
--- call failed, the writer is unchanged.
+-- A call wrote the next item, or it failed because the item is invalid or missing, or because
+-- memory ran out. If the call failed, the writer is unchanged.
 abbrev pub PlainFills : PlainOutModel → FieldSpec → Result Taken DraftFault → PlainOutModel → Type 0
 PlainFills s spec (Ok t) s' = IsFilled s spec t s'
 PlainFills s spec (Err e) s' = IfDraftFault e (IsFaultOf spec s.left) × (s' ≡ s)
@@ -77,8 +77,8 @@ EndsSubset s (Ok _) s' = (after_end s.left ≡ Ok s'.left) × (s'.bits ≡ s.bit
 EndsSubset s (Err e) s' =
     (after_end s.left ≡ Err e) × (s' ≡ s)
 
--- The next item is invalid, the walk rejects a descriptor, or an item follows the end of the
--- template. A rejected descriptor is reported for the line of the next entry.
+-- The next item is invalid or missing, the walk rejects a descriptor, or an item follows the end of
+-- the template. A rejected descriptor is reported for the line of the next entry.
 abbrev pub IsFaultNext : Next → List DraftEntry → DraftFault → Type 0
 IsFaultNext (take_next spec) left f = IsFaultOf spec left f
 IsFaultNext (refused why) left f = f ≡ at_line (line_at left) (walk_refused why)
@@ -113,27 +113,21 @@ abbrev pub StartsPackedOut : List Subset → Option PackedOutModel → Type 0
 StartsPackedOut subsets None = subsets ≡ []
 StartsPackedOut subsets (Some s) = s ≡ new_packed_out subsets
 
--- the indices of the entries that end a subset; the first entry has index `from`
-abbrev pub ends_of : (from : ℕ) → List DraftEntry → List ℕ
-ends_of from [] = []
-ends_of from (Holds d ∷ more) = ends_of (from + 1) more
-ends_of from (Ends line ∷ more) = from ∷ ends_of (from + 1) more
-
 -- a subset's entry in a row, which is an item or the end of the subset
 abbrev pub entry_or_end : Option Draft → (end_line : ℕ) → DraftEntry
 entry_or_end (Some d) end_line = Holds d
 entry_or_end None end_line = Ends end_line
 
--- The eight rows starting at index `from` were copied so that the entries of each row are
--- contiguous. Each copy equals the original entry, unless the value is stored in the shared block.
+-- Any copies are of the eight rows starting at index `from`, stored row by row. Each copy equals
+-- the original entry, unless the value is stored in the shared block.
 abbrev pub AreTransposed : List DraftEntry → (from count : ℕ) → (copies : List StoredEntry) → Type 0
 AreTransposed entries from count copies = (ahead s : ℕ) (e : StoredEntry) (c : RowCell)
     → ahead < 8 → slice_get copies (ahead * count + s) ≡ Some e
     → slice_get (cells_at (from + ahead) (subsets_of entries)) s ≡ Some c → has_octets e ≡ false
     → (octets : List ℕ) → entry_with e octets ≡ entry_or_end c.draft c.end_line
 
--- A writer of compressed data stores where subsets end, and limits the numbers of bits and values.
--- If any row of the current group of eight was written, the group has been transposed.
+-- The invariant of a writer of compressed data, including its limits on bits and values. After the
+-- first row of a group of eight rows, all copies belong to that group.
 pub record IsPackedOut (entries : List DraftEntry) (ends : List ℕ) (copies : List StoredEntry)
     (index bits : ℕ) : Type 0 where
   pub transposed : 0 < index % 8 → AreTransposed entries (index - index % 8) (length ends) copies
@@ -169,8 +163,7 @@ PackedFills s spec (Err e) s' =
     IfDraftFault e (λ f. pack_across spec (item_row s.index s.subsets) ≡ Err f)
     × (s' ≡ s)
 
--- the fault in a subset's extra item or, if the subset has no extra item, the result for the other
--- subsets
+-- the fault in a subset's extra item or, if there is none, the result for the other subsets
 abbrev pub and_end : Option Draft → Result (Unit {0}) DraftFault → Result (Unit {0}) DraftFault
 and_end None rest = rest
 and_end (Some d) rest = Err (at_line d.line item_too_many)
@@ -186,7 +179,7 @@ abbrev pub EndsAllSubsets : (index : ℕ) → List Subset → Result (Unit {0}) 
 EndsAllSubsets index subsets (Ok _) = all_at_end (cells_at index subsets) ≡ Ok tt
 EndsAllSubsets index subsets (Err e) = all_at_end (cells_at index subsets) ≡ Err e
 
--- the line number of the next item in the first subset or, if none remains, of the subset's end
+-- the number of the line with the first subset's next item or, if none remains, with its end
 abbrev pub first_line_at : (index : ℕ) → List Subset → ℕ
 first_line_at index subsets = first_line (cells_at index subsets)
 
@@ -204,7 +197,7 @@ IsFaultHere astray s f = ⊥
 
 -- ---- How the code finds the least k of an item, and which bits it writes with that k.
 
--- the number in the content of a field, or `other` if the content is not a number
+-- the content of a field if it is a number, and `other` otherwise
 abbrev pub number_or : (other : ℕ) → FieldContent → ℕ
 number_or other (field_content.Number n) = n
 number_or other _ = other
@@ -234,8 +227,8 @@ abbrev pub trimmed : List ℕ → ℕ
 trimmed [] = 0
 trimmed (o ∷ os) = if (trimmed os == 0) && (o == 32) then 0 else suc (trimmed os)
 
--- the number of octets needed to represent a string; trailing spaces are not needed, except for one
--- if all octets before them are 255
+-- the number of octets needed to represent a string without its trailing spaces; one space is kept
+-- if all octets before it are 255
 abbrev pub need : List ℕ → ℕ
 need os =
     if list_all (λ octet. octet == 255) (take (trimmed os) os) then suc (trimmed os) else trimmed os
@@ -283,7 +276,7 @@ PutAcross old new spec a most (Ok t) = IsPutWithin old new spec a most t
 PutAcross old new spec a most (Err e) =
     IfDraftFault e (λ f. pack_across spec a ≡ Err f) × (new ≡ old)
 
--- ---- The rows of all subsets, as the code reads them.
+-- ---- How the code reads the rows of compressed data.
 
 -- the content that an entry specifies for a field, or a fault
 abbrev pub entry_here : FieldSpec → DraftEntry → Result Content DraftFault
@@ -305,8 +298,8 @@ pub record IsRangeOf (range : NumberRange) (contents : List FieldContent) : Type
   pub least : range.least ≡ least_number contents
   pub greatest : range.greatest ≡ spread 0 contents
 
--- A call converted all cells and returned the range of their numbers, or it failed because of the
--- first invalid cell or because memory ran out.
+-- A call converted all cells and returned the range of their numbers, or it failed because a cell
+-- is invalid or memory ran out.
 abbrev pub ReturnsRow : (count : ℕ) → FieldSpec → List RowCell → List FieldContent
     → Result NumberRange DraftFault → Type 0
 ReturnsRow count spec cells contents (Ok range) =

@@ -1,7 +1,7 @@
-//! The items of a dump, and the entries of a document. The strings of all entries are stored in one
-//! block of memory.
+//! The items of a dump, and a list that stores them. The list stores all its strings in one block
+//! of memory.
 ghost use Rattle.std.specs.Prelude.{◌≡◌, ◌≤◌, ℕ, List, length, option_map, slice_get, ◌<◌, [], ◌∷◌, ◌++◌, Some, OnOk, OnErr};
-ghost use Rattle.bufr_fill.specs.Prelude.{draft, DraftEntry, Holds, form_in, value_by, entry_with, AreOctetsInside, is_end, has_octets, number_token, Ends, draft_in};
+ghost use Rattle.bufr_fill.specs.Prelude.{draft, DraftEntry, Holds, form_in, value_by, entry_with, AreOctetsInside, is_end, has_octets, number_token, Ends, draft_in, ends_of};
 ghost use Rattle.bufr_bits.specs.Prelude.{short_text};
 
 use bufr_bits::ShortDecimal;
@@ -12,14 +12,14 @@ use std::marker::Model;
 /// The value of an item, as it appears in the dump.
 #[derive(Clone, Copy, Debug, PartialEq, Eq)]
 pub enum DraftValue<'a> {
-    /// A number in decimal notation, whose syntax is checked later.
+    /// The text of a decimal number, which is parsed later.
     Number(&'a [u8]),
-    /// A string without its quotes, whose escape sequences have been decoded.
+    /// A string, with the quotes removed and all escape sequences decoded.
     Text(&'a [u8]),
     /// The word `MISSING`.
     Missing,
-    /// A redefined reference value (the number after the mark `R`). The syntax of the number is
-    /// checked later.
+    /// The text of a redefined reference value (from a line that begins with `R`), which is parsed
+    /// later.
     Reference(&'a [u8]),
 }
 
@@ -39,7 +39,7 @@ pub struct DraftItem<'a> {
 pub(crate) enum ValueKind {
     /// A short decimal number, whose digits are stored as an integer.
     Decimal { places: u8, negative: bool },
-    /// Any other number, which is stored as octets and whose syntax is checked later.
+    /// Any other number, which is stored as octets and parsed later.
     Number,
     /// A string, which is stored as octets.
     Text,
@@ -49,8 +49,8 @@ pub(crate) enum ValueKind {
     Reference,
 }
 
-/// A stored entry. `start..end` is the range of the entry's octets in the block. If the value is a
-/// short decimal number, `start` contains its digits.
+/// A stored entry. `start..end` is the range of the entry's octets in the block. For a short
+/// decimal number, `start` contains the digits.
 #[derive(Clone, Copy)]
 pub(crate) struct StoredEntry {
     pub(crate) line: u64,
@@ -80,7 +80,7 @@ impl StoredEntry {
     }
 }
 
-/// Returns the kind of a value and the octets to store for it.
+/// Returns the kind of a value, along with the octets to store.
 #[inline(always)]
 fn parts_of<'a>(form: DraftValue<'a>) -> (ValueKind, &'a [u8])
     ensures is { (digits : ℕ) → value_by result.0 digits result.1.now ≡ form_in form.entry }
@@ -98,8 +98,8 @@ fn parts_of<'a>(form: DraftValue<'a>) -> (ValueKind, &'a [u8])
 /// The entries of a dump, in order. Each entry is an item or a line that ends a subset.
 ///
 /// Short decimal numbers are stored in their entries. All other numbers and all strings are stored
-/// in one block of memory. Each entry occupies 32 octets, not counting any octets in the block.
-/// Contracts describe this type as a list of entries.
+/// in one block of memory. Each entry occupies 32 octets, plus any octets in the block and, if it
+/// ends a subset, 8 octets for its index. In contracts, a value of this type is a list of entries.
 ///
 /// ```
 /// let mut entries = Entries::new(alloc);
@@ -110,22 +110,25 @@ fn parts_of<'a>(form: DraftValue<'a>) -> (ValueKind, &'a [u8])
 /// ```
 #[derive(Drop)]
 pub struct Entries {
-    /// The octets of numbers and strings, one after another.
+    /// The concatenated octets of strings and of numbers that are not stored in their entries.
     octets: Vec<u8>,
     kept: Vec<StoredEntry>,
+    /// The indices of the entries that end subsets.
+    ends: Vec<usize>,
 }
 
 impl Model for Entries {
     ghost use Rattle.std.specs.Prelude.{◌≡◌, List, length};
     ghost use Rattle.bufr_fill.specs.Draft.{DraftEntry};
-    ghost use Rattle.bufr_fill.specs.Draft.{entries_stored, AreInside, octets_stored};
+    ghost use Rattle.bufr_fill.specs.Draft.{entries_stored, AreInside, octets_stored, ends_of};
 
     ghost Value = { List DraftEntry };
 
     ghost view = { λ e. entries_stored e.octets.items e.kept.items };
 
     ghost invariant = { λ e. AreInside (length e.octets.items) e.kept.items
-        × (length e.octets.items ≡ octets_stored e.kept.items) };
+        × (length e.octets.items ≡ octets_stored e.kept.items)
+        × (e.ends.items ≡ ends_of 0 (entries_stored e.octets.items e.kept.items)) };
 }
 
 impl Entries {
@@ -136,15 +139,17 @@ impl Entries {
         Entries {
             octets: Vec::new(alloc),
             kept: Vec::new(alloc),
+            ends: Vec::new(alloc),
         }
     }
 
-    /// Removes all entries. The allocated memory is retained.
+    /// Removes all entries, but retains the allocated memory.
     pub fn clear(&mut self)
         ensures { self.new ≡ [] }
     {
         self.octets.clear();
         self.kept.clear();
+        self.ends.clear();
     }
 
     /// Appends an item.
@@ -172,8 +177,8 @@ impl Entries {
         Ok(())
     }
 
-    /// Appends an item whose value is a short decimal number. The resulting list is the same as if
-    /// [`Entries::push_item`] had appended the number as text.
+    /// Appends an item whose value is a short decimal number. The result is the same as appending
+    /// the number as text with [`Entries::push_item`].
     ///
     /// # Errors
     ///
@@ -208,11 +213,14 @@ impl Entries {
     /// # Errors
     ///
     /// [`AllocError`] if the list cannot grow, in which case it is left unchanged.
+    #[inline(never)]
     pub fn push_end(&mut self, line: u64) -> Result<(), AllocError>
         ensures end { OnOk result (self.new ≡ self.old ++ Ends line ∷ []) }
         ensures same { OnErr result (self.new ≡ self.old) }
     {
         let end = self.octets.len();
+        let index = self.kept.len();
+        self.ends.reserve(1)?;
         self.kept.push(StoredEntry {
             line,
             start: end,
@@ -220,6 +228,7 @@ impl Entries {
             fxy: Fxy::from_word(0),
             kind: None,
         })?;
+        self.ends.push_reserved(index);
         Ok(())
     }
 
@@ -230,8 +239,8 @@ impl Entries {
         self.kept.len()
     }
 
-    /// Returns the entry at the given index (counted from 0) and its octets, or `None` if the index
-    /// is out of range.
+    /// Returns the entry at the given index (counted from 0), along with its octets, or `None` if
+    /// the index is out of range.
     #[inline(always)]
     pub(crate) fn get(&self, index: usize) -> Option<(StoredEntry, &[u8])>
         ensures { option_map (λ found. entry_with found.0 found.1.now) result
@@ -243,7 +252,7 @@ impl Entries {
         Some(self.entry_at(index))
     }
 
-    /// Returns the entry at the given index and its octets. The index must be in range.
+    /// Returns the entry at the given index, along with its octets. The index must be in range.
     #[inline(always)]
     pub(crate) fn entry_at(&self, index: usize) -> (StoredEntry, &[u8])
         requires { index < length self.now }
@@ -257,11 +266,11 @@ impl Entries {
         }
     }
 
-    /// Returns whether the entry at the given index marks the end of a subset.
-    pub(crate) fn is_end(&self, index: usize) -> bool
-        requires { index < length self.now }
-        ensures { Some result ≡ option_map is_end (slice_get self.now index) }
+    /// Returns the indices of the entries that end subsets.
+    #[inline(always)]
+    pub(crate) fn ends(&self) -> &[usize]
+        ensures { result.now ≡ ends_of 0 self.now }
     {
-        self.kept[index].is_end()
+        &self.ends
     }
 }

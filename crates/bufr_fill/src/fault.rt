@@ -1,4 +1,5 @@
-//! Faults in the items of a document. (We chose the numbers and the order of the faults.)
+//! Faults in the items of a document. We chose the fault numbers and the order of the checks; FM 94
+//! BUFR defines neither.
 ghost use Rattle.std.specs.Prelude.{◌≡◌};
 ghost use Rattle.bufr_fill.specs.Draft.{item_report, number_of_draft_fault, refusal_parts};
 ghost use Rattle.bufr_fill.specs.declared.fault.DraftFault.TheVariants.{Memory};
@@ -9,14 +10,14 @@ use std::alloc::AllocError;
 use std::fmt;
 use thiserror::Error;
 
-/// The item that was expected, or the end of a subset.
+/// What was expected at this point in the document (an item or the end of a subset).
 #[derive(Clone, Copy, Debug, PartialEq, Eq)]
 pub enum Expected {
     /// An item with this descriptor.
     Item(Fxy),
     /// A redefined reference value (`R`) with this descriptor.
     Reference(Fxy),
-    /// The end of a subset. No further item was expected.
+    /// The end of a subset. No further items were expected.
     EndOfSubset,
 }
 
@@ -41,13 +42,13 @@ pub enum WalkRefusal {
     /// The descriptor is not allowed, as described for
     /// [`TurnRefusal::Defining`](bufr_walk::TurnRefusal::Defining).
     Defining(Fxy),
-    /// With this item, the compressed data would contain more than 134,217,728 values.
+    /// This item would exceed the limit of 134,217,728 values in compressed data.
     TooManyValues(Fxy),
 }
 
 impl WalkRefusal {
-    /// Returns the fault number (31, 32 or 35). Faults in the data of a message use the same
-    /// numbers.
+    /// Returns the fault number (31, 32 or 35). The same numbers are used for the corresponding
+    /// faults in message data.
     pub fn number(self) -> u8
         ensures { result ≡ (refusal_parts self).0 }
     {
@@ -80,7 +81,7 @@ pub enum ItemFault {
     /// field's kind.
     #[error("number")]
     Number,
-    /// The number does not fit in the field's bits, or the value would be read back as missing.
+    /// The number does not fit in the field, or the value would be read back as missing.
     #[error("out of range")]
     OutOfRange,
     /// The string is longer than the field.
@@ -89,11 +90,11 @@ pub enum ItemFault {
     /// The value is missing, but the field does not allow missing values.
     #[error("missing forbidden")]
     MissingForbidden,
-    /// A replication factor in compressed data is not the same as in the first subset.
+    /// A replication factor in compressed data differs from the one in the first subset.
     #[error("unequal factor")]
     UnequalFactor,
-    /// In compressed data, the strings differ and need more octets than an increment can contain,
-    /// or the redefined reference values differ.
+    /// The values of an item in compressed data are different strings that are too long for
+    /// increments, or different redefined reference values.
     #[error("increment")]
     Increment,
     /// The walk over the template rejects this item.
@@ -102,7 +103,7 @@ pub enum ItemFault {
 }
 
 impl ItemFault {
-    /// Returns the number of this fault (51 to 55, 58, 59 or 62).
+    /// Returns the fault number (51 to 55, 58, 59 or 62).
     pub fn number(self) -> u8
         ensures { result ≡ (item_report self).0 }
     {
@@ -132,9 +133,9 @@ pub enum DraftFault {
 }
 
 impl DraftFault {
-    /// Returns the number of this fault. If the walk rejected an item, the result is 31, 32 or 35,
+    /// Returns the fault number. If the walk rejected an item, the result is 31, 32 or 35,
     /// depending on the reason. If memory ran out, the result is 73. Otherwise, the result is the
-    /// number of the item's fault.
+    /// same as for [`ItemFault::number`].
     pub fn number(self) -> u8
         ensures { result ≡ number_of_draft_fault self }
     {

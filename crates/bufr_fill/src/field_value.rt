@@ -1,10 +1,10 @@
-//! Functions that convert an item of a document to the content of its field, and encode the content
-//! as bits.
-ghost use Rattle.std.specs.Prelude.{◌≡◌, ℕ, List, ◌≤◌, ◌<◌, ◌-◌, ◌/◌, ◌^◌, ◌==◌, ◌++◌, false, length, replicate, unsigned_abs, Some, IfOk, ◌+◌, ◌*◌, true, OnOk, OnErr};
+//! Functions that convert document items to field contents, and field contents to bits.
+ghost use Rattle.std.specs.Prelude.{◌≡◌, ℕ, List, ◌≤◌, ◌<◌, ◌-◌, ◌/◌, ◌^◌, ◌==◌, ◌++◌, false, length, replicate, unsigned_abs, Some, IfOk, ◌+◌, ◌*◌, true, OnOk, OnErr, pos};
 ghost use Rattle.std.specs.List.{list_all};
 ghost use Rattle.bufr_tables.specs.Prelude.{is_character};
 ghost use Rattle.bufr_walk.specs.Prelude.{is_reference, IsFor, number, reference, bits_for, answer_of};
-ghost use Rattle.bufr_fill.specs.Prelude.{raw_of, is_marked, wrong_for, content_by_form, returned, padded_content, IsContentOf, raw_limit, entry_with, is_of, draft, value_by, entry_here, at_line};
+ghost use Rattle.bufr_bits.specs.Prelude.{decimal_value_of};
+ghost use Rattle.bufr_fill.specs.Prelude.{raw_of, reference_of, is_marked, wrong_for, content_by_form, returned, padded_content, IsContentOf, raw_limit, entry_with, is_of, draft, value_by, entry_here, at_line};
 
 use crate::draft::{StoredEntry, ValueKind};
 use crate::fault::{DraftFault, Expected, ItemFault};
@@ -16,7 +16,7 @@ use std::alloc::AllocError;
 /// The content of a field, converted from an item of a document.
 #[derive(Clone, Copy)]
 pub(crate) enum FieldContent<'a> {
-    /// The number to store in the field, after the reference value has been subtracted.
+    /// The number to store in the field, with the reference value already subtracted.
     Number(u64),
     /// The octets of a string, which is padded with spaces when it is written.
     Text(&'a [u8]),
@@ -26,8 +26,8 @@ pub(crate) enum FieldContent<'a> {
     Reference(i64),
 }
 
-/// Returns the exclusive upper limit for the numbers in a field that is `width` bits wide. If the
-/// field's value can be missing, the limit also excludes the number whose bits are all ones.
+/// Returns the exclusive upper bound on the numbers in a field of `width` bits. If the field's
+/// value can be missing, the bound also excludes the number whose bits are all ones.
 pub(crate) fn raw_limit(may_be_missing: bool, width: u32) -> u64
     requires narrow { width ≤ 63 }
     ensures { result ≡ raw_limit may_be_missing width }
@@ -71,6 +71,39 @@ pub(crate) fn is_all_255(octets: &[u8]) -> bool
     octets.iter().all(|octet| *octet == 255)
 }
 
+/// Converts a decimal string to the number that is stored in the field.
+// This function is not inlined, so that the caller does not reserve space for its results when the
+// value is a short decimal number.
+#[inline(never)]
+fn raw_of_digits(digits: &[u8], spec: &Spec) -> Result<u64, ItemFault>
+    requires { is_character spec.now.kind ≡ false }
+    ensures is { returned number result
+        ≡ raw_of spec.now (decimal_value_of digits.now spec.now.scale) }
+    ensures below { IfOk result (λ raw. raw < raw_limit spec.now.may_be_missing spec.now.width) }
+{
+    raw_of_read(decimal_read(digits, spec.scale()), spec)
+}
+
+/// Converts a decimal string to a redefined reference value.
+#[inline(never)]
+fn reference_of_digits(digits: &[u8], spec: &Spec) -> Result<i64, ItemFault>
+    requires { is_reference spec.now.role ≡ true }
+    ensures is { returned reference result
+        ≡ reference_of spec.now (decimal_value_of digits.now (pos 0)) }
+    ensures below { IfOk result (λ value. unsigned_abs value < 2 ^ (spec.now.width - 1)) }
+{
+    let value = match decimal_read(digits, 0) {
+        Ok(value) => value,
+        Err(NumberFault::Large) => return Err(ItemFault::OutOfRange),
+        Err(_) => return Err(ItemFault::Number),
+    };
+    // The magnitude must fit in the bits that follow the sign bit.
+    if value.unsigned_abs() >= 1u128 << (spec.width() - 1) {
+        return Err(ItemFault::OutOfRange);
+    }
+    Ok(value as i64)
+}
+
 /// Converts the value of an item to the content of its field.
 #[inline(always)]
 #[tactic(auto, using(crate::proofs::FieldLemmas::all_of_spaced))]
@@ -101,10 +134,7 @@ fn content_by_form<'a>(
             Ok(FieldContent::Number(raw_of_read(read, spec)?))
         }
         ValueKind::Number if spec.is_text() => Err(ItemFault::Number),
-        ValueKind::Number => {
-            let read = decimal_read(octets, spec.scale());
-            Ok(FieldContent::Number(raw_of_read(read, spec)?))
-        }
+        ValueKind::Number => Ok(FieldContent::Number(raw_of_digits(octets, spec)?)),
         ValueKind::Text if !spec.is_text() => Err(ItemFault::Number),
         ValueKind::Text if octets.len() > count => Err(ItemFault::TextLong),
         ValueKind::Text => {
@@ -115,18 +145,7 @@ fn content_by_form<'a>(
         }
         ValueKind::Missing if spec.may_be_missing() => Ok(FieldContent::Missing),
         ValueKind::Missing => Err(ItemFault::MissingForbidden),
-        ValueKind::Reference => {
-            let value = match decimal_read(octets, 0) {
-                Ok(value) => value,
-                Err(NumberFault::Large) => return Err(ItemFault::OutOfRange),
-                Err(_) => return Err(ItemFault::Number),
-            };
-            // The magnitude must fit in the bits that follow the sign bit.
-            if value.unsigned_abs() >= 1u128 << (spec.width() - 1) {
-                return Err(ItemFault::OutOfRange);
-            }
-            Ok(FieldContent::Reference(value as i64))
-        }
+        ValueKind::Reference => Ok(FieldContent::Reference(reference_of_digits(octets, spec)?)),
     }
 }
 
@@ -192,7 +211,7 @@ pub(crate) fn with_spaces(octets: &[u8]) -> [u8; 255]
     all
 }
 
-/// Appends `count` octets whose bits are all ones.
+/// Appends `count` octets with the value 255.
 #[tactic(auto, using(crate::proofs::FieldLemmas::full_bits))]
 pub(crate) fn put_full(out: &mut BitWriter, count: usize)
     requires most { count ≤ 255 }
@@ -205,8 +224,8 @@ pub(crate) fn put_full(out: &mut BitWriter, count: usize)
     out.put_octets(&ones[..count]);
 }
 
-/// Encodes the content of a field and appends its bits. Space for the bits must already be reserved
-/// in `out`.
+/// Encodes the content of a field and appends the bits to `out`. Space for the bits must already be
+/// reserved in `out`.
 #[inline(always)]
 #[tactic(auto, using(crate::proofs::FieldLemmas::top_below, crate::proofs::FieldLemmas::spaced_prefix, crate::proofs::FieldLemmas::eighths_ones, crate::proofs::FieldLemmas::ones_bits, crate::proofs::FieldLemmas::negative_bits, crate::proofs::FieldLemmas::positive_bits))]
 // rule: writes-plus-zero

@@ -19,25 +19,25 @@ use bufr_walk::{Fields, MAX_VALUES, Role, Spec, Taken};
 use std::alloc::{AllocError, Global};
 use std::marker::Model;
 
-/// A writer that converts the items of a dump to compressed data. In compressed data, each item is
-/// stored once for all subsets.
+/// A writer that converts the items of a dump to compressed data. In compressed data, each item
+/// contains the values for all subsets.
 ///
-/// An item consists of a base, a 6-bit number `k` and, if `k` is greater than 0, an increment for
-/// each subset. A single walk processes the items of all subsets. (FM 94 BUFR, section 4,
-/// compression)
+/// An item consists of a base, a 6-bit number `k` and, if `k` is greater than 0, an increment of
+/// `k` bits (`k` octets for strings) for each subset. A single walk processes the items of all
+/// subsets (FM 94 BUFR, section 4, compression).
 ///
-/// Contracts describe a writer in terms of its subsets, the number of items taken from each subset,
-/// and the bits written for those items. If a call returns a fault, even [`DraftFault::Memory`],
-/// the writer is left unchanged.
+/// In contracts, a writer consists of its subsets, the number of items taken from each subset, and
+/// the bits written for those items. If a call fails, even with [`DraftFault::Memory`], the writer
+/// is left unchanged.
 #[derive(Drop)]
 pub struct PackedOut<'s> {
     entries: &'s Entries,
-    ends: Vec<usize>,
+    ends: &'s [usize],
     index: usize,
-    /// Copies of the entries in the current block of [`ROWS`] rows, row by row.
+    /// Copies of the entries in the current block of [`ROWS`] rows, stored row by row.
     transposed: Vec<StoredEntry>,
-    /// The contents of the fields in the current row, which contains one field for each subset. The
-    /// memory is reused for each row.
+    /// The field contents of the current row, one for each subset. The memory is reused for each
+    /// row.
     contents: Vec<FieldContent<'s>>,
     out: BitWriter,
 }
@@ -55,12 +55,12 @@ impl<'s> Model for PackedOut<'s> {
       bits = s.out.bits;
     } };
 
-    ghost invariant = { λ s. IsPackedOut s.entries.now s.ends.items s.transposed.items s.index
+    ghost invariant = { λ s. IsPackedOut s.entries.now s.ends.now s.transposed.items s.index
         (length s.out.bits) };
 }
 
-/// Writes the contents of one field in all subsets as one item. If the contents are numbers, the
-/// base is the smallest number. The value of `k` is as small as possible.
+/// Writes one compressed item, which contains the values of a field in all subsets. If the values
+/// are numbers, the base is the smallest of them. The increment width `k` is as small as possible.
 #[tactic(auto, using(crate::proofs::RowLemmas::is_content_at))]
 // rule: packs-factors-and-references, fault-59, packs-equal, packs-all-missing
 fn pack_row(
@@ -116,17 +116,13 @@ impl<'s> PackedOut<'s> {
     ///
     /// # Errors
     ///
-    /// [`AllocError`] if there is not enough memory to store where each subset ends.
+    /// This function does not allocate, so it never fails. Memory is allocated only when an item is
+    /// written.
     pub fn new(alloc: Global, entries: &'s Entries) -> Result<Option<PackedOut<'s>>, AllocError>
         requires few { length entries.now ≤ 2 ^ 45 }
         ensures { IfOk result (λ out. StartsPackedOut (subsets_of entries.now) out) }
     {
-        let mut ends = Vec::new(alloc);
-        for index in 0..entries.len() {
-            if entries.is_end(index) {
-                ends.push(index)?;
-            }
-        }
+        let ends = entries.ends();
         if ends.is_empty() {
             return Ok(None);
         }
@@ -147,7 +143,7 @@ impl<'s> PackedOut<'s> {
     {
         let row = Row {
             entries: self.entries,
-            ends: &self.ends,
+            ends: self.ends,
             index: self.index,
         };
         row.first_line()
@@ -157,14 +153,14 @@ impl<'s> PackedOut<'s> {
     ///
     /// # Errors
     ///
-    /// [`ItemFault::WrongDescriptor`] if an item remains. The fault contains the line number of the
-    /// next item in the first subset that still has items.
+    /// [`ItemFault::WrongDescriptor`] if any items remain. The fault contains the line number of
+    /// the next item in the first subset that still has items.
     pub fn end(&self) -> Result<(), DraftFault>
         ensures { EndsAllSubsets self.now.index self.now.subsets result }
     {
         let row = Row {
             entries: self.entries,
-            ends: &self.ends,
+            ends: self.ends,
             index: self.index,
         };
         all_at_end(row)
@@ -195,7 +191,7 @@ impl<'s> Fields for PackedOut<'s> {
     fn take(&mut self, spec: &Spec) -> Result<Taken, DraftFault> {
         let row = Row {
             entries: self.entries,
-            ends: &self.ends,
+            ends: self.ends,
             index: self.index,
         };
         if (row.index as u64 + 1) * row.ends.len() as u64 > MAX_VALUES {
@@ -216,8 +212,8 @@ impl<'s> Fields for PackedOut<'s> {
     }
 }
 
-/// A row consists of the entries that have the same index in their subsets. `ends` contains the
-/// indices of the entries that end subsets.
+/// A row consists of the entries at the same index in each subset. `ends` contains the indices of
+/// the entries that end subsets.
 #[derive(Clone, Copy)]
 pub(crate) struct Row<'a, 'b> {
     entries: &'a Entries,
@@ -230,8 +226,8 @@ pub(crate) struct Row<'a, 'b> {
 }
 
 impl<'a, 'b> Row<'a, 'b> {
-    /// Finds a subset's entry in this row. If the subset has too few items, the entry marks the end
-    /// of the subset.
+    /// Finds a subset's entry in this row, or the entry that ends the subset if the subset is too
+    /// short.
     #[inline(always)]
     fn find(self, subset: usize) -> (StoredEntry, &'a [u8])
         requires { subset < length self.ends.now }
@@ -248,8 +244,8 @@ impl<'a, 'b> Row<'a, 'b> {
             .entry_at(self.ends[subset].min(start + self.index))
     }
 
-    /// Like [`Row::find`], but uses the copy in `transposed` if there is one and the entry has no
-    /// octets.
+    /// Like [`Row::find`], but returns the copy in `transposed` if the entry has been copied and
+    /// has no octets in the block.
     #[inline(always)]
     fn find_transposed(self, transposed: &[StoredEntry], subset: usize) -> (StoredEntry, &'a [u8])
         requires within { subset < length self.ends.now }
@@ -287,28 +283,30 @@ impl<'a, 'b> Row<'a, 'b> {
 /// The number of rows whose entries are copied at once.
 const ROWS: usize = 8;
 
-/// The minimum number of entries in a document that counts as large. The entries of a large
-/// document occupy at least 1 MiB and no longer fit in the CPU caches.
+/// A document with at least this many entries is considered large. Its entries occupy at least 1
+/// MiB, so they may not fit in the CPU caches.
 const MANY: usize = 32_768;
 
-/// Copies the entries of the next [`ROWS`] rows, so that the entries of each row are contiguous. In
-/// a large document, the entries of a row are stored so far apart that almost every read misses the
-/// CPU caches. Nothing is copied if the document is small or if the first subset has fewer than
-/// [`ROWS`] items left.
+/// Copies the entries of the next [`ROWS`] rows (or of all remaining rows, if there are fewer), so
+/// that the entries of each row are contiguous. In a large document, the entries of a row are
+/// stored so far apart that almost every read misses the CPU caches. Nothing is copied if the
+/// document is small or if its first subset has fewer than [`ROWS`] items.
 #[inline(never)]
 fn transpose(row: Row<'_, '_>, transposed: &mut Vec<StoredEntry>) -> Result<(), AllocError>
     ensures { OnOk result (AreTransposed row.entry.entries.now row.entry.index
         (length row.entry.ends.now) transposed.new.items) }
 {
     let subsets = row.ends.len();
-    if row.entries.len() < MANY || row.ends[0] < row.index + ROWS {
+    let items = row.ends[0];
+    if row.entries.len() < MANY || items < ROWS || items <= row.index {
         transposed.clear();
         return Ok(());
     }
+    let rows = ROWS.min(items - row.index);
     let (first, _octets) = row.find(0);
-    transposed.resize(ROWS * subsets, first)?;
+    transposed.resize(rows * subsets, first)?;
     for subset in 0..subsets {
-        for ahead in 0..ROWS {
+        for ahead in 0..rows {
             let next = Row {
                 entries: row.entries,
                 ends: row.ends,
@@ -321,7 +319,8 @@ fn transpose(row: Row<'_, '_>, transposed: &mut Vec<StoredEntry>) -> Result<(), 
     Ok(())
 }
 
-/// Converts the entries of a row to the contents of fields, and returns the range of the numbers.
+/// Converts the entries of a row to field contents, and returns the range of the numbers in the
+/// row.
 fn read_row<'a>(
     row: Row<'a, '_>,
     transposed: &[StoredEntry],
@@ -335,21 +334,19 @@ fn read_row<'a>(
 {
     let spec = *spec;
     contents.clear();
+    contents.reserve(row.ends.len())?;
     let mut range = NumberRange::new();
     for subset in 0..row.ends.len() {
         let (entry, octets) = row.find_transposed(transposed, subset);
         let content = field_content(&entry, octets, &spec)?;
         range = range.with(content);
-        match contents.push(content) {
-            Ok(()) => {}
-            Err(_) => return Err(DraftFault::Memory),
-        }
+        contents.push_reserved(content);
     }
     Ok(range)
 }
 
-/// Returns the line number of the first item in a row whose content differs from that in the first
-/// subset, or 0 if all items have the same content.
+/// Returns the line number of the first item in a row whose content differs from that of the first
+/// subset's item, or 0 if there is none.
 // rule: fault-58
 fn unlike_line(row: Row<'_, '_>, spec: &Spec, contents: &[FieldContent<'_>]) -> u64
     requires all { AreContentsOf spec.now contents.now }
@@ -417,7 +414,7 @@ fn is_same(one: FieldContent<'_>, other: FieldContent<'_>, spec: &Spec) -> bool
     }
 }
 
-/// Returns whether all fields have the same content as `first`.
+/// Returns whether all of `contents` are the same as `first`.
 #[tactic(auto, using(crate::proofs::RowLemmas::is_content_at, crate::proofs::RowLemmas::alike_more, crate::proofs::RowLemmas::alike_not, crate::proofs::RowLemmas::alike_done))]
 fn are_alike(
     first: FieldContent<'_>,
@@ -453,8 +450,8 @@ fn number_or(other: u64, content: FieldContent<'_>) -> u64
     }
 }
 
-/// The smallest number and the greatest number in the fields of a row. If there are no numbers,
-/// `least` is 2^64 - 1 and `greatest` is 0.
+/// The smallest and greatest numbers in the fields of a row. If there are no numbers, `least` is
+/// 2^64 - 1 and `greatest` is 0.
 #[derive(Clone, Copy)]
 pub(crate) struct NumberRange {
     least: u64,
@@ -462,7 +459,7 @@ pub(crate) struct NumberRange {
 }
 
 impl NumberRange {
-    /// Creates a range that contains no numbers.
+    /// Creates an empty range.
     pub(crate) fn new() -> NumberRange
         ensures { IsRangeOf result [] }
     {
@@ -485,7 +482,7 @@ impl NumberRange {
         }
     }
 
-    /// Returns the smallest number in the range, or 0 if the range contains no numbers.
+    /// Returns the smallest number in the range, or 0 if the range is empty.
     fn base(self) -> u64
         ensures { (count : ℕ) (contents : List FieldContent) → IsRangeOf self contents
             → result ≡ unwrap_or (lowest (padded_contents count contents)) 0 }
@@ -513,8 +510,8 @@ fn least_bits(spread: u64, may_be_missing: bool) -> u32
     64
 }
 
-/// Returns the increment for a field, which is the difference between its number and the base. If
-/// the content of the field is not a number, the increment consists of `k` ones.
+/// Returns the increment for a field, which is the difference between the field's number and the
+/// base. If the content of the field is not a number, the increment consists of `k` ones.
 #[tactic(auto, using(crate::proofs::FieldLemmas::ones_bits))]
 fn increment_of(content: FieldContent<'_>, base: u64, k: u32) -> u64
     requires narrow { k ≤ 63 }
@@ -614,8 +611,8 @@ fn octets_needed(contents: &[FieldContent<'_>], spec: &Spec) -> usize
     most
 }
 
-/// Writes the first `k` octets of a string. A shorter string is padded with spaces. If the value is
-/// missing, all written bits are ones.
+/// Writes the first `k` octets of a string. A shorter string is padded with spaces. A missing value
+/// is written as all ones.
 #[tactic(auto, using(crate::proofs::RowLemmas::eighth_most))]
 fn put_prefix(out: &mut BitWriter, content: FieldContent<'_>, k: usize, spec: &Spec)
     requires few { k ≤ spec.now.width / 8 }

@@ -14,9 +14,9 @@ use std::alloc::Global;
 use std::marker::Model;
 
 /// A writer that converts the items of a document to plain data, one subset after another. Each
-/// walk writes the items of one subset. (FM 94 BUFR, section 4)
+/// walk writes the items of one subset (FM 94 BUFR, section 4).
 ///
-/// Contracts describe a writer in terms of the remaining entries and the bits written so far.
+/// In contracts, a writer consists of the remaining entries and the bits written so far.
 ///
 /// ```
 /// let mut out = PlainOut::new(alloc, &entries);

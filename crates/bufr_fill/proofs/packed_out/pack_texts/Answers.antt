@@ -1,4 +1,4 @@
-use Rattle.std.proofs.Common.{◌∙◌, ◌≡◌, ◌*◌, ◌/◌, ◌+◌, ◌++◌, false, arith, length, replicate, rules}
+use Rattle.std.proofs.Common.{◌≡◌, ◌*◌, ◌/◌, ◌+◌, ◌++◌, false, arith, length, replicate, rules}
 use Rattle.std.specs.List.{flat_map}
 use Rattle.bufr_bits.specs.Prelude.{bits_in}
 use Rattle.bufr_walk.specs.Prelude.{texts}

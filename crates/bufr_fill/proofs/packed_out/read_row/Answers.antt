@@ -7,7 +7,7 @@ use Rattle.bufr_fill.proofs.packed_out.read_row.Goals as goal
 
 pub returns-in_err-content : goal.returns-in_err-content
 returns-in_err-content c =
-    let passed = err_from_is_err_and c.from_residual.result c.from_residual.ensures.1 in
+    let passed = err_from_is_err_and c.from_residual-in_err-content.result c.from_residual-in_err-content.ensures.1 in
     let row = c.args.row in
     let many = count_cells row.index row.entries.now row.ends.now c.args.row.ends_are in
     let cells = cells_at row.index (subsets_of row.entries.now) in
@@ -23,11 +23,11 @@ loop-subset-preserved c =
     let many = count_cells row.index row.entries.now row.ends.now c.args.row.ends_are in
     let entry = entry_with c.find_transposed-entry.result.0 c.find_transposed-entry.result.1.now in
     record {
-      gathered = subst (IsGathering (c.args.spec.now.width / 8) c.args.spec.now cells (c.loop-subset.subset + 1)) (sym c.in-Ok.ensures.items)
+      gathered = subst (IsGathering (c.args.spec.now.width / 8) c.args.spec.now cells (c.loop-subset.subset + 1)) (sym c.push_reserved.ensures.items)
           (gather_more (c.args.spec.now.width / 8) c.args.spec.now cells c.loop-subset.subset c.loop-subset.contents.items entry
           c.loop-subset.invariant.gathered (omega (arith, c.loop-subset-test.true, many)) c.find_transposed-entry.ensures
           c.in_ok-content.content c.in_ok-content.ensures.is c.in_ok-content.ensures.content);
-      range = subst (IsRangeOf c.with-range.result) (sym c.in-Ok.ensures.items) (c.with-range.ensures c.loop-subset.contents.items c.loop-subset.invariant.range);
+      range = subst (IsRangeOf c.with-range.result) (sym c.push_reserved.ensures.items) (c.with-range.ensures c.loop-subset.contents.items c.loop-subset.invariant.range);
     }
 
 pub returns : goal.returns

@@ -16,7 +16,7 @@ returns-in_ok-end-in-Ok-clause-written c =
     let ss = subsets_of c.args.entries.now in
     let course = counted_item c.args.cache.now c.args.template.now in
     let at = subst (StartsPackedOut ss) c.in-Some.is c.in_ok-out.ensures in
-    let after = some_ends c.out.inside.entries.now c.out.inside.ends.items (length c.walk_by.new.fields.subsets) c.out.invariant.ends_are c.out.invariant.some
+    let after = some_ends c.out.inside.entries.now c.out.inside.ends.now (length c.walk_by.new.fields.subsets) c.out.invariant.ends_are c.out.invariant.some
     (ap (λ (p : PackedOutModel). length p.subsets) (sym c.out.view_is)) in
     packed_written (places c.args.template.now) course ss c.in-Some.out c.args.steps.now c.walk_by.new.fields c.walk_by.new.steps
     c.into_octets.result.items at (some_before course ss c.in-Some.out c.args.steps.now (Ok tt) c.walk_by.new.fields c.walk_by.new.steps c.in-Ok.ensures.walked at after) c.requires.none
@@ -28,7 +28,7 @@ returns-in_err-end-in-Ok-clause-written c =
     let ss = subsets_of c.args.entries.now in
     let course = counted_item c.args.cache.now c.args.template.now in
     let at = subst (StartsPackedOut ss) c.in-Some.is c.in_ok-out.ensures in
-    let after = some_ends c.out.inside.entries.now c.out.inside.ends.items (length c.walk_by.new.fields.subsets) c.out.invariant.ends_are c.out.invariant.some
+    let after = some_ends c.out.inside.entries.now c.out.inside.ends.now (length c.walk_by.new.fields.subsets) c.out.invariant.ends_are c.out.invariant.some
     (ap (λ (p : PackedOutModel). length p.subsets) (sym c.out.view_is)) in
     let residual = c.from_residual-in_err-end-in-Ok in
     let passed = err_from_is_err_and residual.result residual.ensures.1 in
@@ -43,7 +43,7 @@ returns-in-Err-clause-written c =
     let ss = subsets_of c.args.entries.now in
     let course = counted_item c.args.cache.now c.args.template.now in
     let at = subst (StartsPackedOut ss) c.in-Some.is c.in_ok-out.ensures in
-    let after = some_ends c.out-in-Err.inside.entries.now c.out-in-Err.inside.ends.items (length c.walk_by.new.fields.subsets) c.out-in-Err.invariant.ends_are c.out-in-Err.invariant.some
+    let after = some_ends c.out-in-Err.inside.entries.now c.out-in-Err.inside.ends.now (length c.walk_by.new.fields.subsets) c.out-in-Err.invariant.ends_are c.out-in-Err.invariant.some
     (ap (λ (p : PackedOutModel). length p.subsets) (sym c.out-in-Err.view_is)) in
     packed_stopped (places c.args.template.now) course ss c.in-Some.out c.args.steps.now c.walk_by.new.fields c.walk_by.new.steps c.line.result c.in-Err.why c.into.result
     (template_adds c.args.cache.now c.args.template.now) at (some_before course ss c.in-Some.out c.args.steps.now (Err c.in-Err.why) c.walk_by.new.fields c.walk_by.new.steps
