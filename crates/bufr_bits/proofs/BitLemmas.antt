@@ -1,8 +1,8 @@
 -- Bits as numbers and as octets: in parts, all ones, in windows, and as a writer appends them.
 use Rattle.std.proofs.lemmas.Grind.{common_steps}
-use Rattle.std.proofs.Common.{◌≡◌, ℕ, ◌⊎◌, inl, inr, zero, suc, min, max, ◌+◌, ◌-◌, ◌*◌, ◌/◌, ◌%◌, ◌^◌, ◌<◌, ◌≤◌, ◌==◌, Bool, true, false, if◌then◌else◌, List, [], ◌∷◌, ◌++◌, length, take, drop, get_or, refl, sym, ap, ◌∙◌, subst, arith, length-drop, take-append-drop, length-take-le, take-add, drop-drop, pow-add, pow_mono, ◌&&◌, eqb, replicate, append_assoc, mod-eq_of_lt, append-nil, length-append}
+use Rattle.std.proofs.Common.{◌≡◌, ℕ, ◌⊎◌, zero, suc, min, max, ◌+◌, ◌-◌, ◌*◌, ◌/◌, ◌%◌, ◌^◌, ◌<◌, ◌≤◌, ◌==◌, Bool, true, false, if◌then◌else◌, List, [], ◌∷◌, ◌++◌, length, take, drop, get_or, refl, sym, ap, ◌∙◌, subst, arith, length-drop, take-append-drop, length-take-le, take-add, drop-drop, pow-add, pow_mono, ◌&&◌, eqb, replicate, append_assoc, mod-eq_of_lt, append-nil, length-append, rules, inl, inr}
 use Rattle.std.proofs.lemmas.Nat.{shr_high, mod_low, shl_whole, mod-pow-add, shr_split, shr_le, mod_below, shr-shr, pow_pos, shr_below, be_bytes_8}
-use Rattle.std.proofs.lemmas.List.{drop-append-le, take-append-le, take_all, drop_more, drop_all, take_at, drop_at, take_more, length-replicate, take_rest}
+use Rattle.std.proofs.lemmas.List.{drop-append-le, take-append-le, take_all, drop_more, drop_all, take_at, drop_at, take_more, length-replicate}
 use Rattle.std.proofs.Math.Nat.{pow-suc, mul-le-mul_right}
 use Rattle.bufr_bits.specs.Prelude.{bits_of_octet, bits_of, number_after_bits, number_of, bits_at, are_all_ones, bits_in, padding, IsWindow, room_after}
 use Rattle.std.specs.List.{list_all}
@@ -19,8 +19,7 @@ shift_once n b p q r e = rw e (omega arith)
 pub number_after_bits-is : (n : ℕ) (xs : List Bool) → number_after_bits n xs ≡ n * 2 ^ length xs + number_of xs
 number_after_bits-is n [] = omega arith
 number_after_bits-is n (x ∷ xs) =
-    let q = 2 ^ suc (length xs) in
-    number_after_bits-is (2 * n + bit x) xs ∙ shift_once n (bit x) (2 ^ length xs) q (number_of xs) (pow-suc 2 (length xs)) ∙ ap (λ (k : ℕ). n * q + k) (sym (number_after_bits-is (2 * 0 + bit x) xs))
+    cc (number_after_bits-is (2 * n + bit x) xs, shift_once n (bit x) (2 ^ length xs) (2 ^ suc (length xs)) (number_of xs) (pow-suc 2 (length xs)), number_after_bits-is (2 * 0 + bit x) xs)
 
 pub number_after_bits-append : (n : ℕ) (xs ys : List Bool) → number_after_bits n (xs ++ ys) ≡ number_after_bits (number_after_bits n xs) ys
 number_after_bits-append n [] ys = refl
@@ -38,12 +37,7 @@ below_twice b p r h k = let m = mul-le-mul_right p h in omega (arith, m)
 
 pub number_of-below : (xs : List Bool) → number_of xs < 2 ^ length xs
 number_of-below [] = omega arith
-number_of-below (x ∷ xs) =
-    let below = number_of-below xs in
-    let alone = number_after_bits-is (2 * 0 + bit x) xs in
-    let p : 2 ^ suc (length xs) ≡ 2 ^ length xs * 2 = pow-suc 2 (length xs) in
-    let small = below_twice (bit x) (2 ^ length xs) (number_of xs) (bit-le x) below in
-    omega (arith, small, alone, p)
+number_of-below (x ∷ xs) = grind (arith, number_of-below xs, number_after_bits-is)
 
 pub bit_of_test : (n : ℕ) → bit (n % 2 == 1) ≡ n % 2
 bit_of_test n = grind arith
@@ -58,13 +52,13 @@ eight_halves x q1 q2 q3 q4 q5 q6 q7 b0 b1 b2 b3 b4 b5 b6 b7 e0 e1 e2 e3 e4 e5 e6
 
 -- The eight bits of an octet represent the octet.
 pub number-bits_of_octet : (x : ℕ) → x < 256 → number_of (bits_of_octet x) ≡ x
-number-bits_of_octet x h = grind (arith, common_steps, eight_halves, halved)
+number-bits_of_octet x h = search (rules, halved)
 
 -- the middle one of three parts of a number
 middle_of : (a b c n w k : ℕ) → b < 2 ^ w → c < 2 ^ k → n ≡ a * 2 ^ (w + k) + (b * 2 ^ k + c) → n / 2 ^ k % 2 ^ w ≡ b
 middle_of a b c n w k hb hc e =
     let whole : n ≡ (a * 2 ^ w + b) * 2 ^ k + c = rw (e, pow-add) (omega arith) in
-    ap (λ (m : ℕ). m / 2 ^ k % 2 ^ w) whole ∙ ap (λ (m : ℕ). m % 2 ^ w) (shr_high (a * 2 ^ w + b) k c hc) ∙ mod_low a w b hb
+    rw (whole, shr_high, mod_low)
 
 -- The middle bits of a list represent the middle part of the number that the list represents.
 pub number_of_middle : (xs : List Bool) (n from width : ℕ) → length xs ≡ n → from + width ≤ n → number_of (take width (drop from xs)) ≡ number_of xs / 2 ^ (n - from - width) % 2 ^ width
@@ -123,16 +117,16 @@ number_of_part xs i from width h small fits =
 
 -- A field that lies inside the octets has its full width.
 pub length-bits_at : (xs : List ℕ) (at width : ℕ) → at + width ≤ 8 * length xs → length (bits_at xs at width) ≡ width
-length-bits_at xs at width h = length-take-le width (drop at (bits_of xs)) (omega (arith, length-drop at (bits_of xs), length-bits_of xs))
+length-bits_at xs at width h = grind (arith, common_steps, length-bits_of)
 
 -- A field in two parts: its number is that of the first bits, shifted, plus that of the others.
 pub number_of_more : (xs : List ℕ) (at done more : ℕ) → at + done + more ≤ 8 * length xs
     → number_of (bits_at xs at (done + more)) ≡ number_of (bits_at xs at done) * 2 ^ more + number_of (bits_at xs (at + done) more)
-number_of_more xs at done more h = grind (arith, common_steps, take-add, drop-drop, length-bits_at, number_of-append)
+number_of_more xs at done more h = simp (take-add, drop-drop, length-bits_at, number_of-append)
 
 -- the upper bound of a number that is read from `width` bits
 pub bits_at-below : (xs : List ℕ) (at width : ℕ) → at + width ≤ 8 * length xs → number_of (bits_at xs at width) < 2 ^ width
-bits_at-below xs at width h = subst (λ (m : ℕ). number_of (bits_at xs at width) < 2 ^ m) (length-bits_at xs at width h) (number_of-below (bits_at xs at width))
+bits_at-below xs at width h = grind (arith, length-bits_at, number_of-below)
 
 -- The number read so far, extended by bits of one more octet, is that of the longer field.
 pub next_part : (xs : List ℕ) (at width done taken value part : ℕ) → at + width ≤ 8 * length xs → width ≤ 63 → done < width → taken ≡ min (8 - (at + done) % 8) (width - done)
@@ -151,10 +145,10 @@ next_part xs at width done taken value part inside short more taken_is value_is 
     ap (λ (m : ℕ). m + part) (shifted ∙ ap (λ (m : ℕ). m * 2 ^ taken) value_is) ∙ ap (λ (m : ℕ). number_of (bits_at xs at done) * 2 ^ taken + m) part_there ∙ sym more_bits
 
 pub fits_in_63 : (xs : List ℕ) (at width n : ℕ) → at + width ≤ 8 * length xs → width ≤ 63 → n ≡ number_of (bits_at xs at width) → n < 2 ^ 64
-fits_in_63 xs at width n inside short e = grind (arith, common_steps, bits_at-below, pow_mono)
+fits_in_63 xs at width n inside short e = search (rules, bits_at-below)
 
 pub below_width : (xs : List ℕ) (at width n : ℕ) → at + width ≤ 8 * length xs → n ≡ number_of (bits_at xs at width) → n < 2 ^ width
-below_width xs at width n inside e = subst (λ (m : ℕ). m < 2 ^ width) (sym e) (bits_at-below xs at width inside)
+below_width xs at width n inside e = omega (arith, bits_at-below)
 
 -- ---- Bits that are all ones: of a list in parts, of a number, and of whole octets.
 
@@ -163,8 +157,7 @@ and_assoc true b c = refl
 and_assoc false b c = refl
 
 pub list_all-append : {X : Type 0} (p : X → Bool) (xs ys : List X) → list_all p (xs ++ ys) ≡ (list_all p xs && list_all p ys)
-list_all-append p [] ys = refl
-list_all-append p (x ∷ xs) ys = ap (λ (b : Bool). p x && b) (list_all-append p xs ys) ∙ and_assoc (p x) (list_all p xs) (list_all p ys)
+list_all-append p xs ys = grind (arith, common_steps)
 
 greatest_ahead : (n p : ℕ) → n < p → eqb (1 * p + n) (p * 2 - 1) ≡ eqb n (p - 1)
 greatest_ahead n p h = grind arith
@@ -174,11 +167,9 @@ greatest_not n p h = grind arith
 
 -- Bits are all ones if and only if they represent the greatest number of their width.
 pub are_all_ones-number : (xs : List Bool) → eqb (number_of xs) (2 ^ length xs - 1) ≡ are_all_ones xs
-are_all_ones-number [] = refl
-are_all_ones-number (true ∷ xs) =
-    ap (λ (m : ℕ). eqb m (2 ^ suc (length xs) - 1)) (number_after_bits-is 1 xs) ∙ ap (λ (m : ℕ). eqb (1 * 2 ^ length xs + number_of xs) (m - 1)) (pow-suc 2 (length xs))
-    ∙ greatest_ahead (number_of xs) (2 ^ length xs) (number_of-below xs) ∙ are_all_ones-number xs
-are_all_ones-number (false ∷ xs) = grind (arith, common_steps, eqb, number_after_bits-is, pow-suc, greatest_not, number_of-below)
+are_all_ones-number [] = cc
+are_all_ones-number (true ∷ xs) = cc (number_after_bits-is 1 xs, pow-suc 2 (length xs), greatest_ahead (number_of xs) (2 ^ length xs) (number_of-below xs), are_all_ones-number xs)
+are_all_ones-number (false ∷ xs) = grind (arith, eqb, number_of-below)
 
 -- The bits of octets are all ones if and only if each octet is 255.
 pub are_all_ones-bits_of : (xs : List ℕ) → ((k : ℕ) → get_or xs k 0 < 256) → list_all (λ octet. octet == 255) xs ≡ are_all_ones (bits_of xs)
@@ -191,7 +182,7 @@ are_all_ones-bits_of (x ∷ xs) h =
     ∙ sym (list_all-append (λ (b : Bool). b) (bits_of_octet x) (bits_of xs))
 
 pub are_all_ones-more : (xs : List ℕ) (at leading rest : ℕ) → are_all_ones (bits_at xs at (leading + rest)) ≡ (are_all_ones (bits_at xs at leading) && are_all_ones (bits_at xs (at + leading) rest))
-are_all_ones-more xs at leading rest = grind (arith, common_steps, drop-drop, take-add, list_all-append)
+are_all_ones-more xs at leading rest = simp (drop-drop, take-add, list_all-append)
 
 -- A field is all ones if and only if its number is the greatest of its width.
 pub ones_in_number : (xs : List ℕ) (at width n most : ℕ) → at + width ≤ 8 * length xs → n ≡ number_of (bits_at xs at width) → most ≡ 2 ^ width - 1 → eqb n most ≡ are_all_ones (bits_at xs at width)
@@ -202,9 +193,7 @@ pub ones_by_first : (xs : List ℕ) (at first width n : ℕ) → first ≡ min w
     → are_all_ones (bits_at xs at width) ≡ (eqb n (1 * 2 ^ first % 18446744073709551616 - 1) && are_all_ones (bits_at xs (at + first) (width - first)))
 ones_by_first xs at first width n few inside e =
     let parts : width ≡ first + (width - first) = omega arith in
-    let most : 1 * 2 ^ first % 18446744073709551616 - 1 ≡ 2 ^ first - 1 = omega (arith, shl_whole 1 1 first 64 (omega arith) (omega arith)) in
-    ap (λ (k : ℕ). are_all_ones (bits_at xs at k)) parts ∙ are_all_ones-more xs at first (width - first)
-    ∙ ap (λ (b : Bool). b && are_all_ones (bits_at xs (at + first) (width - first))) (sym (ones_in_number xs at first n _ (omega arith) e most))
+    search (rules, are_all_ones-more, ones_in_number)
 
 pub and_false : (a : Bool) → (a && false) ≡ false
 and_false true = refl
@@ -224,18 +213,14 @@ bits_in-none v = refl
 -- the high bits, then the low bits
 pub bits_in-split : (v a b : ℕ) → bits_in v (a + b) ≡ bits_in (v / 2 ^ b) a ++ bits_in v b
 unfolding bits_in
-bits_in-split v zero b = ap (bits_in v) (omega arith)
+bits_in-split v zero b = grind arith
 bits_in-split v (suc a) b =
     let e : suc a + b ≡ suc (a + b) = omega arith in
-    let places : a + b ≡ b + a = omega arith in
-    let here : v / 2 ^ (a + b) ≡ v / 2 ^ b / 2 ^ a = ap (λ (k : ℕ). v / 2 ^ k) places ∙ sym (shr-shr v b a) in
+    let here : v / 2 ^ (a + b) ≡ v / 2 ^ b / 2 ^ a = grind (arith, shr-shr) in
     rw (e, here, bits_in-split v a b) refl
 
 pub quotient-above : (x v k : ℕ) → (x * 2 ^ k + v) / 2 ^ k ≡ x + v / 2 ^ k
-quotient-above x v k =
-    let parts = shr_split v k in
-    let whole : x * 2 ^ k + v ≡ (x + v / 2 ^ k) * 2 ^ k + v % 2 ^ k = omega arith in
-    ap (λ (n : ℕ). n / 2 ^ k) whole ∙ shr_high (x + v / 2 ^ k) k (v % 2 ^ k) (mod_below v (2 ^ k) (pow_pos k))
+quotient-above x v k = grind (arith, shr_high (x + v / 2 ^ k) k (v % 2 ^ k) (mod_below v (2 ^ k) (pow_pos k)))
 
 -- The bits of a number in a width do not depend on what is above this width.
 pub bits_in-above : (a v w : ℕ) → bits_in (a * 2 ^ w + v) w ≡ bits_in v w
@@ -250,16 +235,16 @@ bits_in-above a v (suc w) =
 
 -- the bits of two numbers, one after the other
 pub bits_in-join : (a v c w : ℕ) → v < 2 ^ w → bits_in a c ++ bits_in v w ≡ bits_in (a * 2 ^ w + v) (c + w)
-bits_in-join a v c w h = grind (arith, common_steps, bits_in-split, shr_high, bits_in-above)
+bits_in-join a v c w h = simp (bits_in-split, shr_high, bits_in-above)
 
 -- The bits of 0 are all zeros.
 pub bits_in-zero : (w : ℕ) → bits_in 0 w ≡ replicate w false
 unfolding bits_in
-bits_in-zero zero = refl
+bits_in-zero zero = cc
 bits_in-zero (suc w) =
     let none : 0 / 2 ^ w ≡ 0 = omega (arith, shr_le 0 w) in
     let rest = bits_in-zero w in
-    ap (λ (n : ℕ). (n % 2 == 1) ∷ bits_in 0 w) none ∙ ap (λ (xs : List Bool). false ∷ xs) rest
+    cc
 
 -- Eight bits of a number are those of its last octet.
 pub bits_in-octet : (v : ℕ) → bits_in v 8 ≡ bits_of_octet (v % 256)
@@ -276,15 +261,14 @@ bits_in-octet v =
     cc
 
 power_of_octets : (k : ℕ) → 256 ^ k ≡ 2 ^ (8 * k)
-power_of_octets zero = refl
+power_of_octets zero = cc
 power_of_octets (suc k) =
-    let e : 8 * suc k ≡ 8 * k + 8 = omega arith in
-    let more : 2 ^ (8 * suc k) ≡ 2 ^ (8 * k) * 256 = ap (λ (m : ℕ). 2 ^ m) e ∙ pow-add 2 (8 * k) 8 in
-    pow-suc 256 k ∙ ap (λ (m : ℕ). m * 256) (power_of_octets k) ∙ sym more
+    let more : 2 ^ (8 * suc k) ≡ 2 ^ (8 * k) * 256 = ap (λ (m : ℕ). 2 ^ m) (omega arith) ∙ pow-add 2 (8 * k) 8 in
+    omega (arith, power_of_octets k)
 
 byte_at-is : (k n : ℕ) → byte_at k n ≡ n / 2 ^ (8 * k) % 256
 byte_at-is zero n = omega arith
-byte_at-is (suc k) n = ap (λ (m : ℕ). n / m % 256) (power_of_octets (suc k))
+byte_at-is (suc k) n = simp power_of_octets
 
 -- the octets of a number, most significant first
 pub bits_of-bytes : (k n : ℕ) → bits_of (bytes_high_first k n) ≡ bits_in n (8 * k)
@@ -305,8 +289,7 @@ number_of-bits_in v (suc w) =
     let after : number_of (bits_in v (suc w)) ≡ bit (first == 1) * 2 ^ length (bits_in v w) + number_of (bits_in v w) =
     number_after_bits-is (0 + bit (first == 1)) (bits_in v w) ∙ ap (λ (m : ℕ). m * 2 ^ length (bits_in v w) + number_of (bits_in v w)) (omega arith) in
     let one : suc w ≡ 1 + w = omega arith in
-    after ∙ ap (λ (m : ℕ). m * 2 ^ length (bits_in v w) + number_of (bits_in v w)) (bit_of_test (v / 2 ^ w)) ∙ ap (λ (m : ℕ). first * 2 ^ m + number_of (bits_in v w)) (length-bits_in v w)
-    ∙ ap (λ (m : ℕ). first * 2 ^ w + m) (number_of-bits_in v w) ∙ sym (mod-pow-add v 1 w) ∙ ap (λ (m : ℕ). v % 2 ^ m) (sym one)
+    cc (bit_of_test (v / 2 ^ w), length-bits_in v w, number_of-bits_in v w, mod-pow-add v 1 w)
 
 -- The bits of a number are found at their index among other bits.
 pub found_between : (before after : List Bool) (octets : List ℕ) (v w : ℕ) → v < 2 ^ w → bits_of octets ≡ before ++ bits_in v w ++ after → number_of (bits_at octets (length before) w) ≡ v
@@ -315,11 +298,11 @@ found_between before after octets v w h e = grind (arith, common_steps, append_a
 module _ (before after : List Bool) (among xs : List ℕ) (e : bits_of among ≡ before ++ bits_of xs ++ after) where
   -- the bits after `before`
   there : drop (length before) (bits_of among) ≡ bits_of xs ++ after
-  there = ap (drop (length before)) (e ∙ append_assoc before (bits_of xs) after) ∙ drop_at before (bits_of xs ++ after) (length before) refl
+  there = grind (arith, common_steps)
 
   -- The bits of octets are found at their index among other bits.
   pub bits_between : bits_at among (length before) (8 * length xs) ≡ bits_of xs
-  bits_between = ap (take (8 * length xs)) there ∙ take_at (bits_of xs) after (8 * length xs) (length-bits_of xs)
+  bits_between = simp (there, take_at, length-bits_of)
 
   -- Each octet is found there as well.
   pub octet_between : (k : ℕ) → k < length xs → get_or xs k 0 < 256 → number_of (bits_at among (length before + 8 * k) 8) ≡ get_or xs k 0
@@ -334,8 +317,7 @@ module _ (before after : List Bool) (among xs : List ℕ) (e : bits_of among ≡
 -- ---- The bits of a writer after each of its calls.
 
 pub length-written : (xs : List ℕ) (last count : ℕ) → length (bits_of xs ++ bits_in last count) ≡ 8 * length xs + count
-length-written xs last count = length-append (bits_of xs) (bits_in last count) ∙ ap (λ (m : ℕ). m + length (bits_in last count)) (length-bits_of xs)
-    ∙ ap (λ (m : ℕ). 8 * length xs + m) (length-bits_in last count)
+length-written xs last count = simp (length-append, length-bits_of, length-bits_in)
 
 pub nothing_written : (xs : List ℕ) → xs ≡ [] → bits_of xs ++ bits_in 0 0 ≡ []
 unfolding bits_of bits_in
@@ -343,8 +325,8 @@ nothing_written xs e = rw e refl
 
 pub bits_of-append : (xs ys : List ℕ) → bits_of (xs ++ ys) ≡ bits_of xs ++ bits_of ys
 unfolding bits_of
-bits_of-append [] ys = refl
-bits_of-append (x ∷ xs) ys = ap (λ (bs : List Bool). bits_of_octet x ++ bs) (bits_of-append xs ys)
+bits_of-append [] ys = cc
+bits_of-append (x ∷ xs) ys = cc (bits_of-append xs ys)
 
 -- the octet of the low eight bits of any number
 bits_of-one : (n : ℕ) → bits_of (n % 256 ∷ []) ≡ bits_in n 8
@@ -387,7 +369,7 @@ last_octets xs ys bytes last count some few low b e =
 
 -- If no bits are pending, there is nothing to write.
 pub no_octets : (xs : List ℕ) (last count : ℕ) → count ≤ 0 → bits_of xs ≡ bits_of xs ++ (bits_in last count ++ padding count)
-no_octets xs last count none = grind (arith, common_steps, bits_in-none, append-nil)
+no_octets xs last count none = search (rules, bits_in-none)
 
 pub padded : (xs ys : List ℕ) (last count : ℕ) (bits : List Bool) → bits_of ys ≡ bits_of xs ++ (bits_in last count ++ padding count) → bits_of xs ++ bits_in last count ≡ bits
     → bits_of ys ≡ bits ++ padding (length bits)
@@ -396,7 +378,7 @@ padded xs ys last count bits e v = grind (arith, common_steps, length-written, a
 -- octets appended after whole octets
 pub appended_whole : (xs ys zs octets : List ℕ) (last count : ℕ) (bits : List Bool) → count % 8 ≡ 0 → bits_of xs ++ bits_in last count ≡ bits
     → bits_of ys ≡ bits_of xs ++ (bits_in last count ++ padding count) → zs ≡ ys ++ octets → bits_of zs ++ bits_in 0 0 ≡ bits ++ bits_of octets
-appended_whole xs ys zs octets last count bits whole v y z = grind (arith, common_steps, append-nil, bits_in-none, bits_of-append)
+appended_whole xs ys zs octets last count bits whole v y z = search (rules, bits_in-none, bits_of-append)
 
 -- ---- The number formed by the pending bits and the new bits.
 small_sum : (last count value width : ℕ) → last < 2 ^ count → value < 2 ^ width → last * 2 ^ width + value < 2 ^ (count + width)
@@ -404,10 +386,10 @@ small_sum last count value width hl hv = grind (arith, common_steps, mul-le-mul_
 
 -- If there are fewer than 64 bits, they all stay in the number.
 both_are : (last count value width : ℕ) → count + width < 64 → last < 2 ^ count → last * 2 ^ width % 18446744073709551616 + value ≡ last * 2 ^ width + value
-both_are last count value width few hl = ap (λ (m : ℕ). m + value) (shl_whole last count width 64 hl (omega arith))
+both_are last count value width few hl = cc (shl_whole last count width 64 hl (omega arith))
 
 pub both_low : (last count value width : ℕ) → count + width < 64 → last < 2 ^ count → value < 2 ^ width → last * 2 ^ width % 18446744073709551616 + value < 2 ^ (count + width)
-both_low last count value width few hl hv = subst (λ (m : ℕ). m < 2 ^ (count + width)) (sym (both_are last count value width few hl)) (small_sum last count value width hl hv)
+both_low last count value width few hl hv = grind (arith, small_sum)
 
 pub both_fit : (last count value width : ℕ) → count + width < 64 → last < 2 ^ count → value < 2 ^ width → last * 2 ^ width % 18446744073709551616 + value < 2 ^ 64
 both_fit last count value width few hl hv =
@@ -417,29 +399,27 @@ both_fit last count value width few hl hv =
 
 pub both_bits : (xs : List ℕ) (last count value width : ℕ) → count + width < 64 → last < 2 ^ count → value < 2 ^ width
     → bits_of xs ++ bits_in (last * 2 ^ width % 18446744073709551616 + value) (count + width) ≡ bits_of xs ++ bits_in last count ++ bits_in value width
-both_bits xs last count value width few hl hv =
-    ap (λ (m : ℕ). bits_of xs ++ bits_in m (count + width)) (both_are last count value width few hl) ∙ ap (λ (bs : List Bool). bits_of xs ++ bs) (sym (bits_in-join last value count width hv))
-    ∙ sym (append_assoc (bits_of xs) (bits_in last count) (bits_in value width))
+both_bits xs last count value width few hl hv = cc (
+  both_are last count value width few hl,
+  bits_in-join last value count width hv,
+  append_assoc (bits_of xs) (bits_in last count) (bits_in value width),
+)
 
 -- 64 bits or more: the first 64 bits, and the bits after them
 two_powers : (last width shift kept value : ℕ) → width ≡ shift + kept → last * 2 ^ width + value ≡ last * 2 ^ shift * 2 ^ kept + value
-two_powers last width shift kept value e = ap (λ (k : ℕ). last * 2 ^ k + value) e ∙ ap (λ (p : ℕ). last * p + value) (pow-add 2 shift kept) ∙ omega arith
+two_powers last width shift kept value e = grind (arith, pow-add)
 
 full_is : (last count value shift kept : ℕ) → count + shift ≡ 64 → last < 2 ^ count → last * 2 ^ shift % 18446744073709551616 + value / 2 ^ kept ≡ last * 2 ^ shift + value / 2 ^ kept
-full_is last count value shift kept all hl = ap (λ (m : ℕ). m + value / 2 ^ kept) (shl_whole last count shift 64 hl (omega arith))
+full_is last count value shift kept all hl = cc (shl_whole last count shift 64 hl (omega arith))
 
 pub full_fits : (last count value width shift kept : ℕ) → count + shift ≡ 64 → width ≡ shift + kept → last < 2 ^ count → value < 2 ^ width
     → last * 2 ^ shift % 18446744073709551616 + value / 2 ^ kept < 2 ^ 64
 full_fits last count value width shift kept all parts hl hv =
-    let high : value / 2 ^ kept < 2 ^ shift = shr_below value shift kept (subst (λ (k : ℕ). value < 2 ^ k) parts hv) in
-    let below : last * 2 ^ shift + value / 2 ^ kept < 2 ^ 64 = subst (λ (k : ℕ). last * 2 ^ shift + value / 2 ^ kept < 2 ^ k) all (small_sum last count (value / 2 ^ kept) shift hl high) in
-    subst (λ (m : ℕ). m < 2 ^ 64) (sym (full_is last count value shift kept all hl)) below
+    let below : last * 2 ^ shift + value / 2 ^ kept < 2 ^ 64 = rw all at (small_sum last count (value / 2 ^ kept) shift hl (grind (arith, shr_below))) in
+    omega arith
 
 rest_above : (x v k : ℕ) → (x * 2 ^ k + v) % 2 ^ k ≡ v % 2 ^ k
-rest_above x v k =
-    let parts = shr_split v k in
-    let whole : x * 2 ^ k + v ≡ (x + v / 2 ^ k) * 2 ^ k + v % 2 ^ k = omega arith in
-    ap (λ (n : ℕ). n % 2 ^ k) whole ∙ mod_low (x + v / 2 ^ k) k (v % 2 ^ k) (mod_below v (2 ^ k) (pow_pos k))
+rest_above x v k = grind (arith, mod_low (x + v / 2 ^ k) k (v % 2 ^ k) (mod_below v (2 ^ k) (pow_pos k)))
 
 pub power_fits : (k : ℕ) → k < 64 → 1 * 2 ^ k % 18446744073709551616 ≡ 2 ^ k
 power_fits k few = shl_whole 1 1 k 64 (omega arith) (omega arith) ∙ omega arith
@@ -484,42 +464,28 @@ no_octet_after before = sym (append-nil before)
 
 -- the number of bits after more bits are appended
 pub length-put : (before after : List Bool) (value width : ℕ) → after ≡ before ++ bits_in value width → length after ≡ length before + width
-length-put before after value width e = ap length e ∙ length-append before (bits_in value width) ∙ ap (λ (m : ℕ). length before + m) (length-bits_in value width)
+length-put before after value width e = rw (e, length-append, length-bits_in)
 
 pub length-put_octets : (before after : List Bool) (octets : List ℕ) → after ≡ before ++ bits_of octets → length after ≡ length before + 8 * length octets
-length-put_octets before after octets e = ap length e ∙ length-append before (bits_of octets) ∙ ap (λ (m : ℕ). length before + m) (length-bits_of octets)
+length-put_octets before after octets e = rw (e, length-append, length-bits_of)
 
 -- ---- Bits that are read from the number that eight octets represent.
 
 take_small : (xs : List ℕ) (k i : ℕ) → ((j : ℕ) → get_or xs j 0 < 256) → get_or (take k xs) i 0 < 256
-take_small [] zero i h = h i
-take_small [] (suc k) i h = h i
-take_small (x ∷ xs) zero i h = omega arith
-take_small (x ∷ xs) (suc k) zero h = h 0
-take_small (x ∷ xs) (suc k) (suc i) h = take_small xs k i (λ j. h (suc j))
+take_small xs k i h = grind (arith, common_steps)
 
 -- The first eight octets are a window.
 pub window_is : (xs chunk : List ℕ) (n : ℕ) → 8 ≤ length xs → chunk ≡ take 8 xs → ((i : ℕ) → get_or xs i 0 < 256) → n < 2 ^ 64 → n ≡ from_be_bytes w64 chunk → IsWindow n 0 xs
 window_is xs chunk n h e small below value =
-    let len : length chunk ≡ 8 = ap length e ∙ length-take-le 8 xs h in
-    let each : (i : ℕ) → get_or chunk i 0 < 256 = λ i. subst (λ (ys : List ℕ). get_or ys i 0 < 256) (sym e) (take_small xs 8 i small) in
     record {
       within = h;
       small = below;
-      bits = ap bits_of (sym e ∙ sym (be_bytes_8 chunk n len each value)) ∙ bits_of-bytes 8 n;
+      bits = ap bits_of (sym e ∙ sym (be_bytes_8 chunk n (ap length e ∙ length-take-le 8 xs h) (λ i. rw e (take_small xs 8 i small)) value)) ∙ bits_of-bytes 8 n;
     }
 
 -- A window of the octets after `first` is a window of all octets.
 pub window_from : (xs : List ℕ) (first n : ℕ) → IsWindow n 0 (take (length xs - first) (drop first xs)) → IsWindow n first xs
-window_from xs first n w =
-    let same : take (length xs - first) (drop first xs) ≡ drop first xs = take_rest xs first in
-    let long : length (take (length xs - first) (drop first xs)) ≡ length xs - first = ap length same ∙ length-drop first xs in
-    let room = w.within in
-    record {
-      within = omega arith;
-      small = w.small;
-      bits = ap (λ (zs : List ℕ). bits_of (take 8 zs)) (sym same) ∙ w.bits;
-    }
+window_from xs first n w = grind (arith, common_steps)
 
 -- the bits that follow an index in a window
 bits_in_window : (xs : List ℕ) (first from n : ℕ) → IsWindow n first xs → drop (8 * first + from) (bits_of xs) ≡ drop from (bits_in n 64 ++ bits_of (drop 8 (drop first xs)))
@@ -536,10 +502,8 @@ number_of_window xs first from width n h fits =
     let long : length word ≡ 64 = length-bits_in n 64 in
     let rest = bits_of (drop 8 (drop first xs)) in
     let dropped : drop from (word ++ rest) ≡ drop from word ++ rest = drop-append-le from word rest (omega arith) in
-    let taken : take width (drop from word ++ rest) ≡ take width (drop from word) = take-append-le width (drop from word) rest (omega (arith, length-drop from word)) in
     let value : number_of word ≡ n = number_of-bits_in n 64 ∙ mod-eq_of_lt h.small in
-    ap (λ (bs : List Bool). number_of (take width bs)) (bits_in_window xs first from n h ∙ dropped) ∙ ap number_of taken ∙ number_of_middle word 64 from width long fits
-    ∙ ap (λ (m : ℕ). m / 2 ^ (64 - from - width) % 2 ^ width) value
+    grind (arith, common_steps, bits_in_window, number_of_middle)
 
 -- a field inside a window that begins at any octet
 pub field_in : (xs : List ℕ) (at first from width n : ℕ) → IsWindow n first xs → 8 * first + from ≡ at → from + width ≤ 64 → width ≤ 63
@@ -549,7 +513,7 @@ field_in xs at first from width n h place fits few = grind (arith, common_steps,
 -- a field inside the window that begins at the field's first octet
 pub field_within : (xs : List ℕ) (at width n : ℕ) → IsWindow n (at / 8) xs → at % 8 + width ≤ 64 → width ≤ 63
     → n / 2 ^ (64 - at % 8 - width) % (1 * 2 ^ width % 18446744073709551616) ≡ number_of (bits_at xs at width)
-field_within xs at width n h fits few = field_in xs at (at / 8) (at % 8) width n h (omega arith) fits few
+field_within xs at width n h fits few = grind (arith, field_in)
 
 -- upper bound of the free bits, if the octets grew by at most their old capacity, or as requested
 pub room_most : (len capacity capacity' count bits room written : ℕ) → capacity' ≤ len + max (bits / 8 + 16) capacity → room_after len capacity count ≡ room → written ≡ 8 * len + count

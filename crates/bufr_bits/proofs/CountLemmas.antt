@@ -1,8 +1,8 @@
 -- Counts that are raised more than once.
-use Rattle.std.proofs.Common.{◌≡◌, ℕ, zero, suc, ◌+◌, ◌-◌, ◌^◌, ◌<◌, ◌≤◌, List, Ok, Err, Bool, true, false, if◌then◌else◌, IsTrue, ◌↔◌, arith, nat_eq, length, refl, min, max, Result}
-use Rattle.bufr_bits.specs.Prelude.{counted, empty_writes_after, whole_writes_after}
 use Rattle.std.proofs.lemmas.Bool.Decides.{nat_tests}
 use Rattle.std.proofs.lemmas.Grind.{common_steps}
+use Rattle.std.proofs.Common.{◌≡◌, ℕ, ◌+◌, ◌-◌, ◌^◌, ◌<◌, ◌≤◌, List, Ok, arith, length, min, max, Result, refl, zero, suc, Err, Bool, true, false, if◌then◌else◌, nat_eq}
+use Rattle.bufr_bits.specs.Prelude.{counted, empty_writes_after, whole_writes_after}
 
 twice : (count a b most : ℕ) → max (max count (min (count + a) most)) (min (max count (min (count + a) most) + b) most) ≡ max count (min (count + (a + b)) most)
 twice count a b most = omega arith
@@ -29,7 +29,7 @@ more a b n count most small is = omega arith
 
 -- A greater initial count gives a greater upper bound.
 pub counted-from : (a b n count : ℕ) → a ≤ b → count ≤ counted a n → count ≤ counted b n
-counted-from a b n count small is = more a b n count (2 ^ 64 - 1) small is
+counted-from a b n count small is = omega arith
 
 least : (count n most : ℕ) → count ≤ max count (min (count + n) most)
 least count n most = omega arith
@@ -59,11 +59,11 @@ more-then a b c n m most first second = omega arith
 
 -- The bounds of two successive raises add up.
 pub counted-then : (a b c n m : ℕ) → b ≤ counted a n → c ≤ counted b m → c ≤ counted a (n + m)
-counted-then a b c n m first second = more-then a b c n m (2 ^ 64 - 1) first second
+counted-then a b c n m first second = omega (arith, more-then)
 
 up : (a b n m most : ℕ) → n ≤ m → b ≤ max a (min (a + n) most) → b ≤ max a (min (a + m) most)
 up a b n m most more is = omega arith
 
 -- A greater raise gives a greater upper bound.
 pub counted-up : (a b n m : ℕ) → n ≤ m → b ≤ counted a n → b ≤ counted a m
-counted-up a b n m more is = up a b n m (2 ^ 64 - 1) more is
+counted-up a b n m more is = omega arith

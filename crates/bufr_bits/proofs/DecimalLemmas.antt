@@ -1,16 +1,15 @@
 -- Decimal texts by their parts, at a scale, and read back.
 use Rattle.std.proofs.lemmas.Grind.{common_steps}
-use Rattle.std.proofs.Common.{◌≡◌, ℕ, zero, suc, min, ◌+◌, ◌-◌, ◌*◌, ◌^◌, ◌<◌, ◌≤◌, ◌==◌, ◌&&◌, Bool, true, if◌then◌else◌, List, [], ◌∷◌, ◌++◌, length, take, get_or, Ok, Err, refl, sym, ap, ◌∙◌, subst, ⊎_elim, rules, arith, false, drop, Result, ℤ, length-drop, length-take-le, take-append-drop, nat_lt, nat_le, replicate, pos, negsuc, length-append, drop-drop, lt-ltb, le-leb, append-nil, length-take, append_assoc, is_some, unsigned_abs}
+use Rattle.std.proofs.Common.{◌≡◌, ℕ, zero, suc, min, ◌+◌, ◌-◌, ◌*◌, ◌^◌, ◌<◌, ◌≤◌, ◌==◌, ◌&&◌, Bool, true, if◌then◌else◌, List, [], ◌∷◌, ◌++◌, length, take, get_or, Ok, Err, refl, sym, ap, ◌∙◌, subst, ⊎_elim, rules, arith, false, drop, Result, ℤ, length-drop, length-take-le, take-append-drop, replicate, pos, negsuc, length-append, drop-drop, lt-ltb, le-leb, append-nil, length-take, append_assoc, is_some, unsigned_abs}
 use Rattle.std.specs.List.{list_all, position, position_or_len}
 use Rattle.std.specs.Char.{digit_value, is_ascii_digit}
 use Rattle.std.specs.Str.Parse.{digits_value, digits_value_after, starts_with_minus}
-use Rattle.std.proofs.lemmas.Str.Parse.{IsNumeralModel, numerals_by_value, IsDigitsTest, digits_value_short, digit_at}
-use Rattle.std.proofs.lemmas.Str.{digit_value_digit}
+use Rattle.std.proofs.lemmas.Str.Parse.{IsNumeralModel, numerals_by_value, IsDigitsTest, digits_value_short}
 use Rattle.std.proofs.lemmas.Nat.{pow-add}
 use Rattle.std.proofs.lemmas.Bool.{cases_lt}
 use Rattle.std.proofs.lemmas.Bool.Decides.{nat_tests}
 use Rattle.std.proofs.Math.Nat.{pow-suc, one-le-pow, mul-le-mul_right, pow-le-pow_right}
-use Rattle.std.proofs.lemmas.List.{take_more, take_all, drop_all, take_at, drop_at, length-replicate}
+use Rattle.std.proofs.lemmas.List.{take_all, drop_all, take_at, drop_at, length-replicate}
 use Rattle.bufr_bits.specs.Prelude.{capped, capped_ok, all_digits, whole_quotient, scaled, signed, ◌>>=◌, IsParts, is_unsigned, unsigned_part, decimal_value_of, positive_scale, negative_scale, decimal_text_of, unsigned_text, pointed, is_digits, whole_part, fraction_part, sign_of}
 use Rattle.bufr_bits.specs.declared.decimal.NumberFault.TheVariants.{Inexact, Syntax}
 use Rattle.bufr_bits.specs.declared.decimal.NumberFault.{NumberFault}
@@ -26,16 +25,18 @@ move_up n d p q r e = rw e (omega arith)
 pub value_after-is : (n : ℕ) (ds : List ℕ) → digits_value_after 10 n ds ≡ n * 10 ^ length ds + digits_value 10 ds
 value_after-is n [] = omega arith
 value_after-is n (d ∷ ds) =
-    let q = 10 ^ suc (length ds) in
-    value_after-is (n * 10 + digit_value d) ds ∙ move_up n (digit_value d) (10 ^ length ds) q (digits_value 10 ds) (pow-suc 10 (length ds))
-    ∙ ap (λ (m : ℕ). n * q + m) (sym (value_after-is (0 * 10 + digit_value d) ds))
+    cc (
+      value_after-is (n * 10 + digit_value d) ds,
+      move_up n (digit_value d) (10 ^ length ds) (10 ^ suc (length ds)) (digits_value 10 ds) (pow-suc 10 (length ds)),
+      value_after-is (0 * 10 + digit_value d) ds,
+    )
 
 pub value_after-append : (n : ℕ) (xs ys : List ℕ) → digits_value_after 10 n (xs ++ ys) ≡ digits_value_after 10 (digits_value_after 10 n xs) ys
 value_after-append n [] ys = refl
 value_after-append n (x ∷ xs) ys = value_after-append (n * 10 + digit_value x) xs ys
 
 pub value-append : (xs ys : List ℕ) → digits_value 10 (xs ++ ys) ≡ digits_value 10 xs * 10 ^ length ys + digits_value 10 ys
-value-append xs ys = value_after-append 0 xs ys ∙ value_after-is (digits_value 10 xs) ys
+value-append xs ys = rw (value_after-append, value_after-is)
 
 digits_hold : IsDigitsTest (λ ds. all_digits ds ≡ true)
 digits_hold = search rules
@@ -67,7 +68,7 @@ sum_zero zero p d h = let none : 0 * p + d ≡ d = omega arith in ap (λ (m : �
 sum_zero (suc b) p d h = let some : 0 < suc b * p + d = omega arith in grind (arith, nat_tests, some)
 
 pub ten_split : (m i j : ℕ) → m ≡ i + j → 10 ^ m ≡ 10 ^ i * 10 ^ j
-ten_split m i j e = ap (λ (k : ℕ). 10 ^ k) e ∙ pow-add 10 i j
+ten_split m i j e = rw (e, pow-add)
 
 -- The remainder is small: digits remain after the point only if no zeros are appended.
 left_small : (d f k up : ℕ) → k ≡ min up f → d < 10 ^ (f - k) → d * 10 ^ up < 10 ^ f
@@ -113,28 +114,22 @@ pub exact_down : (a b d w m f : ℕ) → b < 10 ^ w → d < 10 ^ f → (0 < m �
     → whole_quotient (((a * 10 ^ w + b) * 10 ^ f + d) * 1) (10 ^ (f + (w + m))) ≡ (if (b == 0) && (d == 0) then Ok a else Err Inexact)
 exact_down a b d w m f hb hd ha =
     let rest = b * 10 ^ f + d in
-    let product : ((a * 10 ^ w + b) * 10 ^ f + d) * 1 ≡ a * 10 ^ (f + (w + m)) + rest = down_whole a b d w m f ha in
-    let most = mul-le-mul_right (10 ^ f) hb in
-    let split : 10 ^ (f + w) ≡ 10 ^ w * 10 ^ f = ten_split (f + w) w f (omega arith) in
-    let more : 10 ^ (f + w) ≤ 10 ^ (f + (w + m)) = pow-le-pow_right (omega arith) (omega arith) in
-    let small : rest < 10 ^ (f + (w + m)) = omega (arith, most, split, more) in
-    ap (λ (n : ℕ). whole_quotient n (10 ^ (f + (w + m)))) product ∙ quotient_is _ (10 ^ (f + (w + m))) a rest refl small
-    ∙ ap (λ (t : Bool). if t then Ok a else Err Inexact) (sum_zero b (10 ^ f) d (ten_pos f))
+    let more : 10 ^ (f + w) ≤ 10 ^ (f + (w + m)) = search (rules, pow-le-pow_right) in
+    let small : rest < 10 ^ (f + (w + m)) = omega (arith, mul-le-mul_right (10 ^ f) hb, ten_split (f + w) w f (omega arith)) in
+    cc ((down_whole a b d w m f ha), quotient_is _ (10 ^ (f + (w + m))) a rest refl small, sum_zero b (10 ^ f) d (ten_pos f))
 
 -- Digits represent 0 if and only if they are all zeros.
 pub zero_value : (ds : List ℕ) → all_digits ds ≡ true → (digits_value 10 ds == 0) ≡ list_all (λ d. d == 48) ds
-zero_value [] h = refl
+zero_value [] h = cc
 zero_value (d ∷ ds) h =
     let parts = digits_hold.parts d ds h in
-    let digit = digit_value_digit d parts.0 in
-    let here : (0 * 10 + digit_value d == 0) ≡ (d == 48) = grind (arith, nat_tests, digit) in
+    let here : (0 * 10 + digit_value d == 0) ≡ (d == 48) = grind (arith, nat_tests) in
     let moved = value_after-is (0 * 10 + digit_value d) ds in
-    ap (λ (m : ℕ). m == 0) moved ∙ sum_zero (0 * 10 + digit_value d) (10 ^ length ds) (digits_value 10 ds) (ten_pos (length ds)) ∙ ap (λ (b : Bool). b && (digits_value 10 ds == 0)) here
-    ∙ ap (λ (b : Bool). (d == 48) && b) (zero_value ds parts.1)
+    cc (sum_zero (0 * 10 + digit_value d) (10 ^ length ds) (digits_value 10 ds) (ten_pos (length ds)), here, zero_value ds parts.1)
 
 pub value_after-more : (n : ℕ) (ds : List ℕ) (i : ℕ) → all_digits ds ≡ true → i < length ds
     → digits_value_after 10 n (take (i + 1) ds) ≡ digits_value_after 10 n (take i ds) * 10 + (get_or ds i 0 - 48)
-value_after-more n ds i h lt = grind (arith, common_steps, digit_at, own, digit_value_digit, take_more, value_after-append)
+value_after-more n ds i h lt = grind (arith, common_steps, value_after-append)
 
 pub capped_step : (a b value product sum d : ℕ) → value ≡ capped a → product ≡ min (value * 10) (2 ^ 128 - 1) → sum ≡ min (product + d) (2 ^ 128 - 1) → b ≡ a * 10 + d → sum ≡ capped b
 capped_step a b value product sum d ha hp hs hb = omega arith
@@ -143,7 +138,7 @@ pub capped_ten : (a b value product : ℕ) → value ≡ capped a → product �
 capped_ten a b value product ha hp hb = omega arith
 
 pub ten_more : (n i : ℕ) → n * 10 ^ (i + 1) ≡ n * 10 ^ i * 10
-ten_more n i = let e : 10 ^ (i + 1) ≡ 10 ^ i * 10 ^ 1 = ten_split (i + 1) i 1 refl in rw e (omega arith)
+ten_more n i = rw (ten_split (i + 1) i 1 refl) (omega arith)
 
 -- The number of a decimal text at a scale, by the digits that are kept and those that are removed.
 
@@ -163,11 +158,10 @@ all_digits-drop n ds h = and_second (all_digits (take n ds)) (all_digits (drop n
 
 -- the number of digits that are cut in two
 pub value_cut : (n : ℕ) (ds : List ℕ) → digits_value 10 ds ≡ digits_value 10 (take n ds) * 10 ^ (length ds - n) + digits_value 10 (drop n ds)
-value_cut n ds = ap (digits_value 10) (sym (take-append-drop n ds)) ∙ value-append (take n ds) (drop n ds)
-    ∙ ap (λ (k : ℕ). digits_value 10 (take n ds) * 10 ^ k + digits_value 10 (drop n ds)) (length-drop n ds)
+value_cut n ds = cc (take-append-drop n ds, value-append (take n ds) (drop n ds), length-drop n ds)
 
 below_cut : (n : ℕ) (ds : List ℕ) → all_digits ds ≡ true → digits_value 10 (drop n ds) < 10 ^ (length ds - n)
-below_cut n ds h = subst (λ (k : ℕ). digits_value 10 (drop n ds) < 10 ^ k) (length-drop n ds) (value-below (drop n ds) (all_digits-drop n ds h))
+below_cut n ds h = grind (arith, length-drop, value-below, all_digits-drop)
 
 -- the number of the kept digits, or `Inexact` unless all removed digits are zeros
 abbrev pub kept_or_inexact : (kept cut moved left : List ℕ) (zeros : ℕ) → Result ℕ NumberFault
@@ -227,9 +221,8 @@ scaled_down whole fraction down hw hf =
 
 pub scaled_by_parts : (whole fraction : List ℕ) (up down : ℕ) → all_digits whole ≡ true → all_digits fraction ≡ true → (0 < down → up ≡ 0)
     → whole_quotient (digits_value 10 (whole ++ fraction) * 10 ^ up) (10 ^ (length fraction + down)) ≡ kept_of whole fraction up down
-scaled_by_parts whole fraction up zero hw hf h = scaled_up whole fraction up hw hf
-scaled_by_parts whole fraction up (suc less) hw hf h = subst (λ (m : ℕ). whole_quotient (digits_value 10 (whole ++ fraction) * 10 ^ m) (10 ^ (length fraction + suc less))
-    ≡ kept_of whole fraction m (suc less)) (sym (h (omega arith))) (scaled_down whole fraction (suc less) hw hf)
+scaled_by_parts whole fraction up zero hw hf h = search (rules, scaled_up)
+scaled_by_parts whole fraction up (suc less) hw hf h = grind (arith, scaled_down)
 
 -- the parts of a text, as the code computes them
 pub record AreKept (whole fraction : List ℕ) (up down : ℕ) (kept cut moved left : List ℕ) : Type 0 where
@@ -249,16 +242,16 @@ pub answer_ok : (whole fraction : List ℕ) (up down : ℕ) (kept cut moved left
 answer_ok whole fraction up down kept cut moved left times r hw hf one h zero_cut zero_left t e =
     let answer = answer_by_parts whole fraction up down kept cut moved left hw hf one h in
     let value = digits_value_after 10 (digits_value 10 kept) moved in
-    let found : kept_or_inexact kept cut moved left (up - min up (length fraction)) ≡ Ok (value * 10 ^ (up - min up (length fraction))) = rw (zero_cut, zero_left) refl in
-    rw (answer, found, ← t, e) refl
+    let found : kept_or_inexact kept cut moved left (up - min up (length fraction)) ≡ Ok (value * 10 ^ (up - min up (length fraction))) = cc in
+    cc
 
 pub answer_inexact : (whole fraction : List ℕ) (up down : ℕ) (kept cut moved left : List ℕ) → all_digits whole ≡ true → all_digits fraction ≡ true → (0 < down → up ≡ 0)
     → AreKept whole fraction up down kept cut moved left → (list_all (λ d. d == 48) cut && list_all (λ d. d == 48) left) ≡ false
     → Err Inexact ≡ capped_ok (whole_quotient (digits_value 10 (whole ++ fraction) * 10 ^ up) (10 ^ (length fraction + down)))
 answer_inexact whole fraction up down kept cut moved left hw hf one h none =
     let answer = answer_by_parts whole fraction up down kept cut moved left hw hf one h in
-    let found : kept_or_inexact kept cut moved left (up - min up (length fraction)) ≡ Err Inexact = rw none refl in
-    rw (answer, found) refl
+    let found : kept_or_inexact kept cut moved left (up - min up (length fraction)) ≡ Err Inexact = cc in
+    cc
 
 pub are_kept : (whole fraction : List ℕ) (up down n m : ℕ) (kept cut moved left : List ℕ) → n ≡ length whole - down → m ≡ min up (length fraction) → kept ≡ take n whole → cut ≡ drop n whole
     → moved ≡ take m fraction → left ≡ drop m fraction → AreKept whole fraction up down kept cut moved left
@@ -280,12 +273,12 @@ capped_found (Err f) n e = absurd cc
 -- the result of reading a text, by what the code found
 pub read_syntax : (text body : List ℕ) (scale : ℤ) → body ≡ unsigned_part text → is_unsigned body ≡ false → Err Syntax ≡ decimal_value_of text scale
 unfolding decimal_value_of
-read_syntax text body scale b h = grind (arith, common_steps)
+read_syntax text body scale b h = cc
 
 value_by_parts : (text body whole fraction : List ℕ) (scale : ℤ) → body ≡ unsigned_part text → IsParts body whole fraction
     → decimal_value_of text scale ≡ ((scaled (whole ++ fraction) (length fraction) scale) >>= (signed (starts_with_minus text)))
 unfolding decimal_value_of
-value_by_parts text body whole fraction scale b h = grind (arith, common_steps)
+value_by_parts text body whole fraction scale b h = cc
 
 -- the quotient by the powers of ten that the code uses
 abbrev quotient_of : (whole fraction : List ℕ) (up down : ℕ) → Result ℕ NumberFault
@@ -301,7 +294,7 @@ pub read_fault : (text body whole fraction : List ℕ) (scale : ℤ) (up down : 
 read_fault text body whole fraction scale up down fault r b h hu hd e result =
     let quotient = capped_err (quotient_of whole fraction up down) fault e in
     let value = value_by_powers text body whole fraction scale up down b h hu hd in
-    result ∙ sym (value ∙ ap (λ (q : Result ℕ NumberFault). (q >>= (signed (starts_with_minus text)))) quotient)
+    cc
 
 pub read_found : (text body whole fraction : List ℕ) (scale : ℤ) (up down n : ℕ) (negative : Bool) (r : Result ℤ NumberFault) → body ≡ unsigned_part text → IsParts body whole fraction
     → up ≡ positive_scale scale → down ≡ negative_scale scale → negative ≡ starts_with_minus text
@@ -331,11 +324,10 @@ point_after (d ∷ whole) fraction h =
     rw digit (omega (arith, rest))
 
 pub point_nowhere : (whole : List ℕ) → all_digits whole ≡ true → position_or_len (λ c. c == 46) whole ≡ length whole
-point_nowhere [] h = refl
+point_nowhere [] h = cc
 point_nowhere (d ∷ whole) h =
-    let digit = digit_no_point d (and_first (is_ascii_digit d) (all_digits whole) h) in
     let rest = point_nowhere whole (and_second (is_ascii_digit d) (all_digits whole) h) in
-    rw digit (omega (arith, rest))
+    grind arith
 
 -- leading zeros
 pub zeros_digits : (k : ℕ) → all_digits (replicate k 48) ≡ true
@@ -348,19 +340,17 @@ zeros_value (suc k) = zeros_value k
 
 -- the parts of a text with a point
 pub whole_with_point : (whole fraction : List ℕ) → all_digits whole ≡ true → whole_part (whole ++ 46 ∷ fraction) ≡ whole
-whole_with_point whole fraction h = ap (λ (k : ℕ). take k (whole ++ 46 ∷ fraction)) (point_after whole fraction h) ∙ take_at whole (46 ∷ fraction) (length whole) refl
+whole_with_point whole fraction h = rw (point_after, take_at)
 
 pub fraction_with_point : (whole fraction : List ℕ) → all_digits whole ≡ true → fraction_part (whole ++ 46 ∷ fraction) ≡ fraction
-fraction_with_point whole fraction h =
-    ap (λ (k : ℕ). drop (k + 1) (whole ++ 46 ∷ fraction)) (point_after whole fraction h) ∙ sym (drop-drop 1 (length whole) (whole ++ 46 ∷ fraction))
-    ∙ ap (drop 1) (drop_at whole (46 ∷ fraction) (length whole) refl)
+fraction_with_point whole fraction h = cc (point_after whole fraction h, drop-drop 1 (length whole) (whole ++ 46 ∷ fraction), drop_at whole (46 ∷ fraction) (length whole) refl)
 
 -- the parts of a text of digits only
 pub whole_alone : (whole : List ℕ) → all_digits whole ≡ true → whole_part whole ≡ whole
-whole_alone whole h = ap (λ (k : ℕ). take k whole) (point_nowhere whole h) ∙ take_all (length whole) whole (omega arith)
+whole_alone whole h = grind (arith, point_nowhere, take_all)
 
 pub fraction_alone : (whole : List ℕ) → all_digits whole ≡ true → fraction_part whole ≡ []
-fraction_alone whole h = ap (λ (k : ℕ). drop (k + 1) whole) (point_nowhere whole h) ∙ drop_all (length whole + 1) whole (omega arith)
+fraction_alone whole h = omega (arith, point_nowhere, drop_all)
 
 is_digits_true : (ds : List ℕ) → 0 < length ds → all_digits ds ≡ true → is_digits ds ≡ true
 is_digits_true ds some h = rw h (grind (arith, nat_tests))
@@ -373,17 +363,16 @@ position_none text e = grind (arith, common_steps)
 
 -- texts that have the form of a number
 pub form_with_point : (whole fraction : List ℕ) → 0 < length whole → 0 < length fraction → all_digits whole ≡ true → all_digits fraction ≡ true → is_unsigned (whole ++ 46 ∷ fraction) ≡ true
-form_with_point whole fraction sw sf hw hf = grind (arith, common_steps, whole_with_point, fraction_with_point, position_somewhere, point_after, length-append, is_digits_true)
+form_with_point whole fraction sw sf hw hf = search (rules, whole_with_point, fraction_with_point)
 
 pub form_alone : (whole : List ℕ) → 0 < length whole → all_digits whole ≡ true → is_unsigned whole ≡ true
-form_alone whole sw hw = grind (arith, common_steps, position_none, point_nowhere, whole_alone, is_digits_true)
+form_alone whole sw hw = search (rules, whole_alone)
 
 exact_quotient : (n k m : ℕ) → m ≡ k → whole_quotient (n * 10 ^ k) (10 ^ m) ≡ Ok n
 exact_quotient n k m e = quotient_is (n * 10 ^ k) (10 ^ m) n 0 (rw e (omega arith)) (ten_pos m)
 
 first_digit : (ds more : List ℕ) → 0 < length ds → all_digits ds ≡ true → is_ascii_digit (get_or (ds ++ more) 0 0) ≡ true
-first_digit [] more h all = absurd (omega arith)
-first_digit (d ∷ ds) more h all = and_first (is_ascii_digit d) (all_digits ds) all
+first_digit ds more h all = grind (arith, common_steps)
 
 -- an unsigned text, by the number that its digits represent and the number of decimal places
 pub record IsDecimalOf (text : List ℕ) (n places : ℕ) : Type 0 where
@@ -394,14 +383,7 @@ pub record IsDecimalOf (text : List ℕ) (n places : ℕ) : Type 0 where
 
 decimal_with_point : (whole fraction : List ℕ) (n places : ℕ) → 0 < length whole → 0 < length fraction → all_digits whole ≡ true → all_digits fraction ≡ true → length fraction ≡ places
     → digits_value 10 (whole ++ fraction) ≡ n → IsDecimalOf (whole ++ 46 ∷ fraction) n places
-decimal_with_point whole fraction n places sw sf hw hf len e =
-    let f = fraction_with_point whole fraction hw in
-    record {
-      form = form_with_point whole fraction sw sf hw hf;
-      value = rw (whole_with_point whole fraction hw, f) e;
-      after = ap length f ∙ len;
-      first = first_digit whole (46 ∷ fraction) sw hw;
-    }
+decimal_with_point whole fraction n places sw sf hw hf len e = search (rules, fraction_with_point, whole_with_point, first_digit)
 
 decimal_alone : (whole : List ℕ) (n : ℕ) → 0 < length whole → all_digits whole ≡ true → digits_value 10 whole ≡ n → IsDecimalOf whole n 0
 decimal_alone whole n sw hw e =
@@ -454,7 +436,7 @@ zeros_are_decimal zero less h = decimal_alone (decimal 0) (0 * 10 ^ suc less) (d
 zeros_are_decimal (suc n) less h =
     let d = decimal (suc n) in
     let zeros = replicate {A = ℕ} (suc less) 48 in
-    decimal_alone (d ++ zeros) (suc n * 10 ^ suc less) (omega (arith, decimal_some (suc n) h, length-append d zeros))
+    decimal_alone (d ++ zeros) (suc n * 10 ^ suc less) (omega (arith, length-append d zeros))
     (list_all-append is_ascii_digit d zeros ∙ ap (λ (t : Bool). t && all_digits zeros) (decimal_digits (suc n) h) ∙ zeros_digits (suc less))
     (zeros_after_value (suc less) d (suc n) (decimal_value (suc n) h))
 
@@ -476,19 +458,16 @@ read_alone text n places scale h = rw (no_sign text h.first, h.form, h.value, h.
 
 -- At its own scale, the number is that of its digits.
 pub number_at_own : (negative : Bool) (n places : ℕ) → number_at negative n places (pos places) ≡ signed negative n
-number_at_own negative n places = ap (λ (r : Result ℕ NumberFault). (r >>= (signed negative))) (exact_quotient n places (places + 0) (omega arith))
+number_at_own negative n places = search (rules, exact_quotient)
 
 number_at_zeros : (negative : Bool) (n less : ℕ) → number_at negative (n * 10 ^ suc less) 0 (negsuc less) ≡ signed negative n
-number_at_zeros negative n less =
-    let whole : n * 10 ^ suc less * 1 ≡ n * 10 ^ suc less = omega arith in
-    ap (λ (m : ℕ). ((whole_quotient m (10 ^ (0 + (less + 1)))) >>= (signed negative))) whole
-    ∙ ap (λ (r : Result ℕ NumberFault). (r >>= (signed negative))) (exact_quotient n (suc less) (0 + (less + 1)) (omega arith))
+number_at_zeros negative n less = grind (arith, exact_quotient n (suc less) (0 + (less + 1)) (omega arith))
 
 fits_signed : (n : ℕ) → n < 2 ^ 127 → signed false n ≡ Ok (pos n)
-fits_signed n h = let small : nat_lt n (2 ^ 127) ≡ true = lt-ltb n (2 ^ 127) h in rw small refl
+fits_signed n h = simp lt-ltb
 
 fits_minus : (n : ℕ) → n < 2 ^ 127 → signed true (suc n) ≡ Ok (negsuc n)
-fits_minus n h = let small : nat_le (suc n) (2 ^ 127) ≡ true = le-leb (suc n) (2 ^ 127) h in rw small refl
+fits_minus n h = simp le-leb
 
 -- A written decimal text is read back as the same number.
 pub reads_back : (v scale : ℤ) → mag v < 2 ^ 127 → decimal_value_of (decimal_text_of v scale) scale ≡ Ok v

@@ -1,13 +1,12 @@
 -- Short decimal texts: their digits, their parts, and their number at a scale.
 use Rattle.std.proofs.lemmas.Grind.{common_steps}
-use Rattle.std.proofs.Common.{◌≡◌, ℕ, suc, ◌+◌, ◌-◌, ◌*◌, ◌/◌, ◌%◌, ◌^◌, ◌<◌, ◌≤◌, ◌==◌, ◌&&◌, Bool, true, false, if◌then◌else◌, List, [], ◌∷◌, length, take, drop, get_or, Ok, Err, refl, sym, ap, ◌∙◌, subst, arith, length-drop, length-take-le, nat_le, zero, ◌++◌, replicate, Result, ℤ, pos, length-append, length-take, take-append-drop}
+use Rattle.std.proofs.Common.{◌≡◌, ℕ, suc, ◌+◌, ◌-◌, ◌*◌, ◌/◌, ◌%◌, ◌^◌, ◌<◌, ◌≤◌, ◌==◌, ◌&&◌, Bool, true, false, if◌then◌else◌, List, [], ◌∷◌, length, take, drop, get_or, Ok, Err, refl, sym, ap, ◌∙◌, subst, arith, length-drop, length-take-le, zero, ◌++◌, replicate, Result, ℤ, pos, length-append, length-take, rules, take-append-drop}
 use Rattle.std.specs.Int.{IsInRange}
 use Rattle.std.specs.Char.{is_ascii_digit}
 use Rattle.std.specs.Str.Parse.{digits_value_after, digits_value, starts_with_minus}
-use Rattle.std.proofs.lemmas.Str.{digit_value_digit}
 use Rattle.std.proofs.lemmas.Nat.{div-add-mod', mod_below}
 use Rattle.std.proofs.lemmas.Bool.Decides.{nat_tests}
-use Rattle.std.proofs.lemmas.List.{get_or-take, get_or-drop, take_more, take_all, drop_more, length-replicate}
+use Rattle.std.proofs.lemmas.List.{get_or-drop, drop_more}
 use Rattle.std.proofs.Math.Nat.{pow-suc, mul-le-mul_right, pow-le-pow_right}
 use Rattle.bufr_bits.specs.Prelude.{all_digits, whole_quotient, decimal_text_of, unsigned_text, pointed, decimal_value_of, positive_scale, negative_scale, signed, ◌>>=◌, unsigned_part, signed_number, is_decimal_octet, continues_number, IsPlainDecimal}
 use Rattle.bufr_bits.specs.declared.decimal.NumberFault.TheVariants.{Inexact}
@@ -20,22 +19,22 @@ use Rattle.bufr_bits.specs.declared.decimal.NumberFault.{NumberFault}
 
 -- one more digit
 digit_range : (c : ℕ) → is_ascii_digit c ≡ true → IsInRange 48 57 c
-digit_range c h = (grind (arith, nat_tests), grind (arith, nat_tests))
+digit_range c h = grind (arith, common_steps)
 
 pub digits_more : (ds : List ℕ) (i : ℕ) → all_digits (take i ds) ≡ true → i < length ds → is_ascii_digit (get_or ds i 0) ≡ true → all_digits (take (i + 1) ds) ≡ true
 digits_more ds i h lt d = grind (arith, common_steps)
 
 pub prefix_more : (n : ℕ) (ds : List ℕ) (i : ℕ) → i < length ds → is_ascii_digit (get_or ds i 0) ≡ true
     → digits_value_after 10 n (take (i + 1) ds) ≡ digits_value_after 10 n (take i ds) * 10 + (get_or ds i 0 - 48)
-prefix_more n ds i lt d = grind (arith, common_steps, digit_value_digit, digit_range, take_more, value_after-append)
+prefix_more n ds i lt d = grind (arith, common_steps, digit_range, value_after-append)
 
 -- A number with digits after it stays below the next number with as many digits after it.
 pub value_after-below : (n : ℕ) (ds : List ℕ) → all_digits ds ≡ true → digits_value_after 10 n ds < (n + 1) * 10 ^ length ds
-value_after-below n ds h = let moved = value_after-is n ds in let below = value-below ds h in omega (arith, moved, below)
+value_after-below n ds h = omega (arith, value_after-is, value-below)
 
 -- The number with one more digit fits.
 digit_fits_product : (n value p q ten d most : ℕ) → ten ≡ p * 10 → ten * (n + 1) ≤ q * (n + 1) → value < (n + 1) * p → (n + 1) * q ≤ most → d ≤ 9 → value * 10 + d < most
-digit_fits_product n value p q ten d most e product below fits few = omega (arith, subst (λ (m : ℕ). m * (n + 1) ≤ q * (n + 1)) e product, below, fits, few)
+digit_fits_product n value p q ten d most e product below fits few = omega (arith, rw e at product)
 
 digit_fits : (n value i len d most : ℕ) → value < (n + 1) * 10 ^ i → i < len → (n + 1) * 10 ^ len ≤ most → d ≤ 9 → value * 10 + d < most
 digit_fits n value i len d most below lt fits few =
@@ -46,18 +45,15 @@ pub prefix_fits : (n value i d : ℕ) (ds : List ℕ) → all_digits (take i ds)
     → value * 10 + d < 2 ^ 64
 prefix_fits n value i d ds h e lt fits few =
     let prefix : length (take i ds) ≡ i = length-take-le i ds (omega arith) in
-    let below : value < (n + 1) * 10 ^ i = subst (λ (k : ℕ). value < (n + 1) * 10 ^ k) prefix (subst (λ (k : ℕ). k < (n + 1) * 10 ^ length (take i ds)) (sym e) (value_after-below n (take i ds) h)) in
-    digit_fits n value i (length ds) d (2 ^ 64) below lt fits few
+    let below : value < (n + 1) * 10 ^ i = subst (λ (k : ℕ). value < (n + 1) * 10 ^ k) prefix (rw (← e) at (value_after-below n (take i ds) h)) in
+    search (rules, digit_fits)
 
 pub digit_few : (c : ℕ) → is_ascii_digit c ≡ true → (48 ≤ c) × (c - 48 ≤ 9)
-digit_few c h = let range = digit_range c h in (range.0, omega (arith, range.1))
+digit_few c h = omega (arith, digit_range)
 
 -- A division by a power of ten is done one ten at a time.
 if_both : {A : Type 0} (a b : Bool) (x y : A) → (if a && b then x else y) ≡ (if b then (if a then x else y) else y)
-if_both true true x y = refl
-if_both true false x y = refl
-if_both false true x y = refl
-if_both false false x y = refl
+if_both a b x y = grind (arith, common_steps)
 
 more_parts : (n q p ten s m r : ℕ) → ten ≡ p * 10 → m * 10 + r ≡ n → q * p + s ≡ m → n ≡ q * ten + (s * 10 + r)
 more_parts n q p ten s m r e whole part = rw (e, ← whole, ← part) (omega arith)
@@ -76,15 +72,13 @@ quotient_more n k =
     ∙ if_both (m % p == 0) (r == 0) (Ok (m / p)) (Err Inexact)
 
 quotient_next : (v i times : ℕ) → i < times → whole_quotient v (10 ^ (times - i)) ≡ (if v % 10 == 0 then whole_quotient (v / 10) (10 ^ (times - (i + 1))) else Err Inexact)
-quotient_next v i times lt =
-    let next : times - i ≡ suc (times - (i + 1)) = omega arith in
-    ap (λ (k : ℕ). whole_quotient v (10 ^ k)) next ∙ quotient_more v (times - (i + 1))
+quotient_next v i times lt = grind (arith, quotient_more v (times - (i + 1)))
 
 pub quotient_goes_on : (v i times : ℕ) → i < times → v % 10 ≡ 0 → whole_quotient v (10 ^ (times - i)) ≡ whole_quotient (v / 10) (10 ^ (times - (i + 1)))
 quotient_goes_on v i times lt e = grind (arith, common_steps, quotient_next)
 
 pub quotient_stops : (v i times : ℕ) → i < times → 0 < v % 10 → whole_quotient v (10 ^ (times - i)) ≡ Err Inexact
-quotient_stops v i times lt some = grind (arith, common_steps, nat_tests, quotient_next)
+quotient_stops v i times lt some = search (rules, quotient_next)
 
 -- Powers of ten in both directions cancel, and leave a multiplication or a division.
 pub scaled_by_times : (n up less : ℕ) → less ≤ up → Ok (n * 10 ^ (up - less)) ≡ whole_quotient (n * 10 ^ up) (10 ^ less)
@@ -127,7 +121,7 @@ fraction_fits text fraction count m few lt f h e =
     omega (arith, product, split, most, literal)
 
 pub rest_is : (text : List ℕ) (i : ℕ) → take (length text - i) (drop i text) ≡ drop i text
-rest_is text i = take_all (length text - i) (drop i text) (omega (arith, length-drop i text))
+rest_is text i = grind (arith, common_steps)
 
 -- ---- The text of a short decimal: its digits, and its number at a scale.
 
@@ -144,13 +138,13 @@ more_zeros : (k len : ℕ) (xs ds : List ℕ) → k ≤ len → replicate (len -
 more_zeros k len xs ds le h = grind (arith, common_steps)
 
 padded_least : (k : ℕ) (xs ds : List ℕ) → length xs ≡ k → replicate (length ds - k) 48 ++ xs ≡ ds → k ≤ length ds
-padded_least k xs ds e h = omega (arith, ap length h, length-append (replicate (length ds - k) 48) xs, length-replicate {A = ℕ} (length ds - k) 48)
+padded_least k xs ds e h = grind (arith, common_steps)
 
 zero_first : (d : ℕ) (ds : List ℕ) → d ≡ 48 → digits_value 10 (d ∷ ds) ≡ digits_value 10 ds
 zero_first d ds e = rw e refl
 
 other_first : (d : ℕ) → (d == 48) ≡ false → d ≡ 48 → (n : ℕ) → n ≡ 1
-other_first d h e n = absurd (grind (arith, nat_tests, h, e))
+other_first d h e n = cc
 
 same_first : (d : ℕ) → (d == 48) ≡ true → d ≡ 48
 same_first d h = grind arith
@@ -200,9 +194,8 @@ padded_is ds k h some le first small = by (get_or ds 0 0 == 48) refl
 pub plain_alone : (ds : List ℕ) (n : ℕ) → all_digits ds ≡ true → 0 < length ds → (get_or ds 0 0 ≡ 48 → length ds ≡ 1) → n ≡ digits_value_after 10 0 ds → n < 2 ^ 64 → IsPlainDecimal ds n 0
 unfolding unsigned_text
 plain_alone ds n h some first value small =
-    let e : n ≡ digits_value 10 ds = value in
     record {
-      is = sym (ap decimal e ∙ decimal-digits_value own ds h some first (omega (arith, e)));
+      is = sym (ap decimal value ∙ decimal-digits_value own ds h some first (omega arith));
       octets = digits_octets ds h;
     }
 
@@ -238,7 +231,7 @@ short_number_at : (negative : Bool) (n places : ℕ) (scale : ℤ) → n < 10 ^ 
 unfolding decimal_text_of
 short_number_at false n places scale h = read_alone (unsigned_text n (pos places)) n places scale (unsigned_is_decimal n places h)
 short_number_at true zero places scale h = read_alone (unsigned_text 0 (pos places)) 0 places scale (unsigned_is_decimal 0 places h) ∙ zero_number places scale
-short_number_at true (suc n) places scale h = read_after_minus (unsigned_text (suc n) (pos places)) (suc n) places scale (unsigned_is_decimal (suc n) places h)
+short_number_at true (suc n) places scale h = search (rules, read_after_minus, unsigned_is_decimal)
 
 -- the number of its text at a scale: its digits at its own scale, otherwise multiplied or divided
 abbrev value_at : (negative : Bool) (n places : ℕ) (scale : ℤ) → Result ℤ NumberFault
@@ -246,39 +239,30 @@ value_at negative n places scale = decimal_value_of (decimal_text_of (signed_num
 
 module _ (negative : Bool) (n places : ℕ) (scale : ℤ) (small : n < 2 ^ 128) where
   value_is : value_at negative n places scale ≡ number_at negative n places scale
-  value_is = short_number_at negative n places scale (omega arith)
+  value_is = omega (arith, short_number_at)
 
   pub value_own : scale ≡ pos places → value_at negative n places scale ≡ signed negative n
-  value_own e =
-      value_is ∙ ap (number_at negative n places) e ∙ number_at_own negative n places
+  value_own e = cc (value_is, e, number_at_own negative n places)
 
   pub value_up : (up down : ℕ) (r : Result ℤ NumberFault) → up ≡ positive_scale scale → down ≡ negative_scale scale → places + down ≤ up → r ≡ signed negative (n * 10 ^ (up - (places + down)))
       → r ≡ value_at negative n places scale
-  value_up up down r u d le e =
-      e ∙ ap (λ (q : Result ℕ NumberFault). (q >>= (signed negative))) (scaled_by_times n up (places + down) le) ∙ rw (u, d) (sym value_is)
+  value_up up down r u d le e = search (rules, scaled_by_times, value_is)
 
   pub value_down : (up down : ℕ) (q : Result ℕ NumberFault) → up ≡ positive_scale scale → down ≡ negative_scale scale → up < places + down → q ≡ whole_quotient n (10 ^ (places + down - up))
       → (q >>= (signed negative)) ≡ value_at negative n places scale
-  value_down up down q u d lt e =
-      ap (λ (r : Result ℕ NumberFault). (r >>= (signed negative))) (e ∙ scaled_by_quotient n up (places + down) lt) ∙ rw (u, d) (sym value_is)
+  value_down up down q u d lt e = search (rules, scaled_by_quotient, value_is)
 
 -- Digits at the start of a window are those at the start of the text. A zero that comes first is
 -- the only digit before the point.
 pub take_window : (text : List ℕ) (most count : ℕ) → count ≤ most → take count (take most text) ≡ take count text
-take_window text zero zero le = refl
-take_window text (suc most) zero le = refl
-take_window text zero (suc count) le = absurd (omega arith)
-take_window [] (suc most) (suc count) le = refl
-take_window (c ∷ text) (suc most) (suc count) le = ap (λ (t : List ℕ). c ∷ t) (take_window text most count (omega arith))
+take_window text most count le = grind (arith, common_steps)
 
 pub first_taken : (text : List ℕ) (count : ℕ) → 0 < count → get_or (take count text) 0 0 ≡ get_or text 0 0
-first_taken text zero h = absurd (omega arith)
-first_taken [] (suc count) h = refl
-first_taken (c ∷ text) (suc count) h = refl
+first_taken text count h = grind arith
 
 -- A number of at most 19 digits fits.
 small_value : (n : ℕ) (ds : List ℕ) → all_digits ds ≡ true → n ≡ digits_value_after 10 0 ds → length ds ≤ 19 → n < 2 ^ 64
-small_value n ds h e few = grind (arith, common_steps, value-below, pow-le-pow_right)
+small_value n ds h e few = search (rules, value-below)
 
 pub prefix_alone : (text : List ℕ) (most count n : ℕ) → most ≤ 19 → count ≤ length (take most text) → 0 < count → (get_or (take most text) 0 0 ≡ 48 → count ≤ 1)
     → all_digits (take count (take most text)) ≡ true → n ≡ digits_value_after 10 0 (take count (take most text)) → IsPlainDecimal (take count text) n 0
@@ -337,23 +321,14 @@ plain_text text body count n places h e d = grind (arith, common_steps)
 
 -- An octet of the text is the one in the window that is searched.
 window_octet : (text : List ℕ) (most i : ℕ) → (most < length text → i < most) → get_or (take most text) i 0 ≡ get_or text i 0
-window_octet text most i h = by (nat_le (length text) most) refl
-  where
-    by : (b : Bool) → nat_le (length text) most ≡ b → get_or (take most text) i 0 ≡ get_or text i 0
-    by true q = ap (λ (t : List ℕ). get_or t i 0) (take_all most text (grind (arith, nat_tests)))
-    by false q = get_or-take most text i 0 (h (grind (arith, nat_tests)))
+window_octet text most i h = grind (arith, common_steps)
 
 -- A number without a point ends before an octet that is neither a digit nor a point.
 pub alone_ends : (text : List ℕ) (most count : ℕ) → (most < length text → most ≡ 19) → is_ascii_digit (get_or (take most text) count 0) ≡ false
     → (get_or (take most text) count 0 ≡ 46 → ⊥) → count < 19 → continues_number 0 (get_or text count 0) ≡ false
-alone_ends text most count few digit point lt =
-    let same = window_octet text most count (λ long. omega (arith, few long)) in
-    grind (arith, common_steps, nat_tests)
+alone_ends text most count few digit point lt = search (rules, nat_tests, window_octet)
 
 -- A number with a point ends before an octet that is not a digit.
 pub pointed_ends : (text fraction : List ℕ) (most count places : ℕ) → (most < length text → most ≡ 19) → fraction ≡ drop (count + 1) (take most text)
     → is_ascii_digit (get_or fraction places 0) ≡ false → 0 < places → count + 1 + places < 19 → continues_number places (get_or text (count + 1 + places) 0) ≡ false
-pointed_ends text fraction most count places few f digit some lt =
-    let same = window_octet text most (count + 1 + places) (λ long. omega (arith, few long)) in
-    let after = get_or-drop (count + 1) (take most text) places 0 in
-    grind (arith, common_steps, nat_tests)
+pointed_ends text fraction most count places few f digit some lt = search (rules, nat_tests, window_octet, get_or-drop)
