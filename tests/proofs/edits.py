@@ -13,7 +13,8 @@ LET = re.compile(r"(?<![^\s(\[{])let(?=\s)|(?<=\s)in(?=\s|$)")
 TACTIC = re.compile(r"(?<![^\s(\[{])(omega|grind|search|cc|simp) (?=\()")
 PATH = re.compile(r"(?<![^\s(\[{,←])c\.[^\s(){}\[\],;]+")
 WORD = re.compile(r"[^\s(){}\[\],;.`]+")
-MOST_CITED = 10
+MOST_CITED = 5  # facts of a tactic that takes the place of a term: with more, nobody sees which step fails
+LEAST_SAVED = 20  # characters: such a tactic says less than the term, so it has to be clearly shorter
 MOST_INLINE = 40  # characters: a longer `let` is not written where it is used, since that is harder to read
 
 
@@ -212,7 +213,7 @@ def forms(text: str, citable: set[str]) -> list[str]:
     words = [word for word in dict.fromkeys(WORD.findall(text)) if word in citable]
     sets = ["nat_tests"] if "nat_tests" in text else []
     lemmas, facts = ", ".join([*sets, *words[:MOST_CITED]]), ", ".join(facts_of(text)[:MOST_CITED])
-    made = ["refl", "cc", "omega arith", "search rules", "grind (arith, common_steps)"]
+    made = ["refl", "cc", "omega arith", "grind (arith, common_steps)"]
     if lemmas:
         made += [f"search (rules, {lemmas})", f"grind (arith, common_steps, {lemmas})", f"simp ({lemmas})"]
     for cited in {lemmas, facts} - {""}:
@@ -226,7 +227,7 @@ def forms(text: str, citable: set[str]) -> list[str]:
         heads = ", ".join(dict.fromkeys(part.split()[0] for part in chain if part))
         made += [f"cc ({', '.join(chain)})", f"grind (arith, common_steps, {', '.join(chain)})", f"rw ({heads})", f"simp ({heads})"]
     size = len(" ".join(text.split()))
-    return sorted({one for one in made if len(one) < size}, key=len)
+    return sorted({one for one in made if len(one) + LEAST_SAVED <= size}, key=len)
 
 
 def strong_edits(file: ProofFile, lemma: Declaration, body: str) -> Iterator[Edit]:
@@ -254,7 +255,8 @@ def strong_edits(file: ProofFile, lemma: Declaration, body: str) -> Iterator[Edi
 
 
 def weak_edits(file: ProofFile, lemma: Declaration, body: str) -> Iterator[Edit]:
-    """Removes a `let`, its type or an item of a list, or shortens what they contain."""
+    """Removes a `let` or an item of a list, or shortens what they contain. The type of a `let` that stays says what the step
+    proves, so it stays too."""
     citable = file.citable(lemma)
     for one in lets(body):
         text = body[one.value : one.value_end]
@@ -268,8 +270,6 @@ def weak_edits(file: ProofFile, lemma: Declaration, body: str) -> Iterator[Edit]
             if len(flat) <= MOST_INLINE:
                 yield ((one.start, one.end, ""), (uses[0], uses[0] + len(one.name), flat if is_item else f"({flat})"))
         if body[one.colon : one.value].strip() != "=":
-            if not re.match(r"(omega|grind|cc|search|rw|simp|refl|record|λ|elim|absurd)\b", text):
-                yield ((one.colon, one.value, " = "),)
             yield from (((one.value, one.value_end, form),) for form in forms(text, citable))
     for tactic in TACTIC.finditer(body):
         found = items(body, tactic.end())

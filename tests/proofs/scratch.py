@@ -3,6 +3,7 @@ import fcntl
 import os
 import pathlib
 import re
+import resource
 import shutil
 import signal
 import subprocess
@@ -42,11 +43,18 @@ class Outcome(NamedTuple):
     errors: list[tuple[int, str]]  # the line and the message
 
 
+class Run(NamedTuple):
+    status: int
+    output: str
+    seconds: float  # of processor time
+
+
 class Report(NamedTuple):
     proved: bool  # the functions that were asked for, and all that they rest on
     outcomes: list[Outcome]
     errors: list[tuple[str, int, str]]  # those in other files: the file, the line and the message
     output: str
+    seconds: float  # of processor time
 
 
 def libraries(crate: str) -> list[str]:
@@ -142,17 +150,16 @@ class Scratch:
         clock = self.kept / "began"
         clock.touch()
         try:
-            status, output = run(self.words(), self.top)
-            verdict = re.search(r"(?m)^only=(\d+) proved=(\d+)$", output)
-            if status not in (0, 1) or not verdict:
-                raise Bad(f"the check of {self.crate} gave no verdict (status {status}):\n{output[-3000:]}")
-            return self.report(names, modules, output, status == 0 and verdict[1] == verdict[2], clock.stat().st_mtime)
+            return self.report(names, modules, run(self.words(), self.top), clock.stat().st_mtime)
         finally:
             for tried in [*self.kept.rglob(f"*.Tried{os.getpid()}x*"), *below.glob("Tried*.antt")]:
                 tried.unlink()
 
-    def report(self, names: list[str], modules: list[str], output: str, proved: bool, began: float) -> Report:
-        errors = [(one[1], int(one[2] or 0), one[3]) for one in map(ERROR.match, output.splitlines()) if one]
+    def report(self, names: list[str], modules: list[str], ran: Run, began: float) -> Report:
+        verdict = re.search(r"(?m)^only=(\d+) proved=(\d+)$", ran.output)
+        if ran.status not in (0, 1) or not verdict:
+            raise Bad(f"the check of {self.crate} gave no verdict (status {ran.status}):\n{ran.output[-3000:]}")
+        errors = [(one[1], int(one[2] or 0), one[3]) for one in map(ERROR.match, ran.output.splitlines()) if one]
         times, outcomes = self.times(names, began), []
         for name, module in zip(names, modules):
             own = [(line, message) for file, line, message in errors if file.endswith(f"/{name}.antt")]
@@ -161,7 +168,8 @@ class Scratch:
             if passed and name not in times:
                 raise Bad(f"the checker wrote no file in {self.kept} for a module that it read, so times are not known")
             outcomes.append(Outcome(passed, times.get(name, 0.0), own))
-        return Report(proved, outcomes, [one for one in errors if "/Tried" not in one[0]], output)
+        proved = ran.status == 0 and verdict[1] == verdict[2]
+        return Report(proved, outcomes, [one for one in errors if "/Tried" not in one[0]], ran.output, ran.seconds)
 
     def times(self, names: list[str], began: float) -> dict[str, float]:
         """The seconds that each module took. The checker writes a file for each module as soon as it has checked it."""
@@ -175,12 +183,15 @@ class Scratch:
         return {name: gaps[name] for name in names if name in gaps}
 
 
-def run(words: list[str], folder: pathlib.Path) -> tuple[int, str]:
+def run(words: list[str], folder: pathlib.Path) -> Run:
     """Runs a command in a process group of its own, and ends all of the group if this program is stopped."""
+    before = resource.getrusage(resource.RUSAGE_CHILDREN)
     with subprocess.Popen(words, cwd=folder, stdout=subprocess.PIPE, stderr=subprocess.STDOUT, start_new_session=True) as process:
         try:
             output, _ = process.communicate()
         except BaseException:
             os.killpg(process.pid, signal.SIGKILL)
             raise
-    return process.returncode, output.decode("utf-8", "replace")
+    after = resource.getrusage(resource.RUSAGE_CHILDREN)
+    seconds = after.ru_utime + after.ru_stime - before.ru_utime - before.ru_stime
+    return Run(process.returncode, output.decode("utf-8", "replace"), seconds)

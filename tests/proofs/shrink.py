@@ -201,11 +201,12 @@ class Shrinker:
         return bool(names)
 
     def seconds(self, text: str, checked: str) -> float:
-        """How long a text takes as the whole file, while the file itself has a text that was just checked."""
-        outcomes = self.scratch.check(checked, ["", *[text] * 3]).outcomes
-        if not all(one.passed for one in outcomes):
-            raise Bad(f"{self.name}: a copy of the file is refused: {[one.errors for one in outcomes if not one.passed][0]}")
-        return min(one.seconds for one in outcomes[1:])
+        """How much processor time a text takes as the whole file, while the file itself has a text that was just checked. Other
+        programs that run at the same time hardly change the result."""
+        report = self.scratch.check(checked, ["", *[text] * 3])
+        if not all(one.passed for one in report.outcomes):
+            raise Bad(f"{self.name}: a copy of the file is refused: {[one.errors for one in report.outcomes if not one.passed][0]}")
+        return (report.seconds - self.scratch.check(checked, [""]).seconds) / 3
 
     def whole(self) -> tuple[str, float, float]:
         """The text of the file with all changes that pass together in time, and the seconds before and after."""
