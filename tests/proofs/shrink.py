@@ -11,7 +11,8 @@ crates below it built (`rt lib`). The tool works in a copy of the crate, so a ru
 For each lemma, the tool makes shorter proofs: one tactic in place of a term, fewer `let`s, shorter lists. Each of them is a
 module of its own, and one check judges hundreds of these modules. If several shorter proofs of a lemma pass, the next round
 tries all of their edits together, until nothing gets shorter. A new proof may take at most twice the time of the old one, and
-the file a tenth more. The tool prints or applies the changes only if a check of the whole file, with all changes, passes.
+all of a file's at most a second more, so that a crate, which takes minutes, takes at most a tenth more. The tool prints or
+applies the changes only if a check of the whole file, with all changes, passes.
 
 Each check runs at the lowest priority. --prefix puts words before its command, such as `flock FILE`.
 """
@@ -36,7 +37,8 @@ from scratch import Scratch  # noqa: E402
 
 MOST_TRIALS = 300  # in one check
 MOST_ROUNDS = 12
-SLOWER, FILE_SLOWER = 2.0, 1.1  # how many times its old time a proof, and a file, may take
+SLOWER = 2.0  # how many times its old time a proof may take
+MOST_ADDED = 1.0  # seconds that the new proofs of a file may add
 CLOCK = 0.012  # seconds: differences below this say nothing
 
 
@@ -211,7 +213,7 @@ class Shrinker:
     def whole(self) -> tuple[str, float, float]:
         """The text of the file with all changes that pass together in time, and the seconds before and after."""
         before = self.seconds(self.text, self.text) if self.bodies() else 0.0
-        budget = most = (FILE_SLOWER - 1) * before
+        budget = MOST_ADDED
         while True:
             self.choose(budget)
             while self.measure():
@@ -228,9 +230,9 @@ class Shrinker:
                     self.searches[name].drop()
                 continue
             after = self.seconds(text, text)
-            if after <= before + most:
+            if after <= before + MOST_ADDED:
                 return text, before, after
-            budget = min(budget, sum(one.options[one.body] for one in self.searches.values())) - max(after - before - most, CLOCK)
+            budget = min(budget, sum(one.options[one.body] for one in self.searches.values())) - max(after - before - MOST_ADDED, CLOCK)
 
     def wrong_lemmas(self, text: str, lines: list[int]) -> set[str]:
         """The changed lemmas at these lines."""

@@ -28,13 +28,6 @@ number_after_bits-append n (x ∷ xs) ys = number_after_bits-append (2 * n + bit
 pub number_of-append : (xs ys : List Bool) → number_of (xs ++ ys) ≡ number_of xs * 2 ^ length ys + number_of ys
 number_of-append xs ys = number_after_bits-append 0 xs ys ∙ number_after_bits-is (number_of xs) ys
 
-bit-le : (b : Bool) → bit b ≤ 1
-bit-le true = omega arith
-bit-le false = omega arith
-
-below_twice : (b p r : ℕ) → b ≤ 1 → r < p → (2 * 0 + b) * p + r < p * 2
-below_twice b p r h k = let m = mul-le-mul_right p h in omega (arith, m)
-
 pub number_of-below : (xs : List Bool) → number_of xs < 2 ^ length xs
 number_of-below [] = omega arith
 number_of-below (x ∷ xs) = grind (arith, number_of-below xs, number_after_bits-is)
@@ -45,10 +38,6 @@ bit_of_test n = grind arith
 -- A number is twice its half plus its last bit.
 halved : (n h : ℕ) → h ≡ n / 2 → n ≡ 2 * h + bit (n % 2 == 1)
 halved n h e = let t = bit_of_test n in omega (arith, t)
-
-eight_halves : (x q1 q2 q3 q4 q5 q6 q7 b0 b1 b2 b3 b4 b5 b6 b7 : ℕ) → x ≡ 2 * q1 + b0 → q1 ≡ 2 * q2 + b1 → q2 ≡ 2 * q3 + b2 → q3 ≡ 2 * q4 + b3 → q4 ≡ 2 * q5 + b4 → q5 ≡ 2 * q6 + b5 → q6 ≡ 2 * q7 + b6
-    → q7 ≡ 2 * 0 + b7 → 2 * (2 * (2 * (2 * (2 * (2 * (2 * (0 + b7) + b6) + b5) + b4) + b3) + b2) + b1) + b0 ≡ x
-eight_halves x q1 q2 q3 q4 q5 q6 q7 b0 b1 b2 b3 b4 b5 b6 b7 e0 e1 e2 e3 e4 e5 e6 e7 = omega arith
 
 -- The eight bits of an octet represent the octet.
 pub number-bits_of_octet : (x : ℕ) → x < 256 → number_of (bits_of_octet x) ≡ x
@@ -161,9 +150,6 @@ list_all-append p xs ys = grind (arith, common_steps)
 
 greatest_ahead : (n p : ℕ) → n < p → eqb (1 * p + n) (p * 2 - 1) ≡ eqb n (p - 1)
 greatest_ahead n p h = grind arith
-
-greatest_not : (n p : ℕ) → n < p → eqb (0 * p + n) (p * 2 - 1) ≡ false
-greatest_not n p h = grind arith
 
 -- Bits are all ones if and only if they represent the greatest number of their width.
 pub are_all_ones-number : (xs : List Bool) → eqb (number_of xs) (2 ^ length xs - 1) ≡ are_all_ones xs

@@ -1,7 +1,7 @@
 -- Decimal texts by their parts, at a scale, and read back.
 use Rattle.std.proofs.lemmas.Grind.{common_steps}
-use Rattle.std.proofs.Common.{◌≡◌, ℕ, zero, suc, min, ◌+◌, ◌-◌, ◌*◌, ◌^◌, ◌<◌, ◌≤◌, ◌==◌, ◌&&◌, Bool, true, if◌then◌else◌, List, [], ◌∷◌, ◌++◌, length, take, get_or, Ok, Err, refl, sym, ap, ◌∙◌, subst, ⊎_elim, rules, arith, false, drop, Result, ℤ, length-drop, length-take-le, take-append-drop, replicate, pos, negsuc, length-append, drop-drop, lt-ltb, le-leb, append-nil, length-take, append_assoc, is_some, unsigned_abs}
-use Rattle.std.specs.List.{list_all, position, position_or_len}
+use Rattle.std.proofs.Common.{◌≡◌, ℕ, zero, suc, min, ◌+◌, ◌-◌, ◌*◌, ◌^◌, ◌<◌, ◌≤◌, ◌==◌, ◌&&◌, Bool, true, if◌then◌else◌, List, [], ◌∷◌, ◌++◌, length, take, get_or, Ok, Err, refl, sym, ap, ◌∙◌, subst, ⊎_elim, rules, arith, false, drop, Result, ℤ, length-drop, length-take-le, take-append-drop, replicate, pos, negsuc, length-append, drop-drop, lt-ltb, le-leb, append-nil, length-take, append_assoc, unsigned_abs}
+use Rattle.std.specs.List.{list_all, position_or_len}
 use Rattle.std.specs.Char.{digit_value, is_ascii_digit}
 use Rattle.std.specs.Str.Parse.{digits_value, digits_value_after, starts_with_minus}
 use Rattle.std.proofs.lemmas.Str.Parse.{IsNumeralModel, numerals_by_value, IsDigitsTest, digits_value_short}
@@ -10,7 +10,7 @@ use Rattle.std.proofs.lemmas.Bool.{cases_lt}
 use Rattle.std.proofs.lemmas.Bool.Decides.{nat_tests}
 use Rattle.std.proofs.Math.Nat.{pow-suc, one-le-pow, mul-le-mul_right, pow-le-pow_right}
 use Rattle.std.proofs.lemmas.List.{take_all, drop_all, take_at, drop_at, length-replicate}
-use Rattle.bufr_bits.specs.Prelude.{capped, capped_ok, all_digits, whole_quotient, scaled, signed, ◌>>=◌, IsParts, is_unsigned, unsigned_part, decimal_value_of, positive_scale, negative_scale, decimal_text_of, unsigned_text, pointed, is_digits, whole_part, fraction_part, sign_of}
+use Rattle.bufr_bits.specs.Prelude.{capped, capped_ok, all_digits, whole_quotient, scaled, signed, ◌>>=◌, IsParts, is_unsigned, unsigned_part, decimal_value_of, positive_scale, negative_scale, decimal_text_of, unsigned_text, pointed, whole_part, fraction_part, sign_of}
 use Rattle.bufr_bits.specs.declared.decimal.NumberFault.TheVariants.{Inexact, Syntax}
 use Rattle.bufr_bits.specs.declared.decimal.NumberFault.{NumberFault}
 use Rattle.bufr_bits.proofs.BitLemmas.{list_all-append}
@@ -351,19 +351,6 @@ whole_alone whole h = grind (arith, point_nowhere, take_all)
 
 pub fraction_alone : (whole : List ℕ) → all_digits whole ≡ true → fraction_part whole ≡ []
 fraction_alone whole h = omega (arith, point_nowhere, drop_all)
-
-is_digits_true : (ds : List ℕ) → 0 < length ds → all_digits ds ≡ true → is_digits ds ≡ true
-is_digits_true ds some h = rw h (grind (arith, nat_tests))
-
-position_somewhere : (text : List ℕ) (i : ℕ) → position_or_len (λ c. c == 46) text ≡ i → i < length text → is_some (position (λ c. c == 46) text) ≡ true
-position_somewhere text i e h = grind (arith, common_steps)
-
-position_none : (text : List ℕ) → position_or_len (λ c. c == 46) text ≡ length text → is_some (position (λ c. c == 46) text) ≡ false
-position_none text e = grind (arith, common_steps)
-
--- texts that have the form of a number
-pub form_with_point : (whole fraction : List ℕ) → 0 < length whole → 0 < length fraction → all_digits whole ≡ true → all_digits fraction ≡ true → is_unsigned (whole ++ 46 ∷ fraction) ≡ true
-form_with_point whole fraction sw sf hw hf = search (rules, whole_with_point, fraction_with_point)
 
 pub form_alone : (whole : List ℕ) → 0 < length whole → all_digits whole ≡ true → is_unsigned whole ≡ true
 form_alone whole sw hw = search (rules, whole_alone)

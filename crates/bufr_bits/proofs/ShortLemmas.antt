@@ -5,10 +5,9 @@ use Rattle.std.specs.Int.{IsInRange}
 use Rattle.std.specs.Char.{is_ascii_digit}
 use Rattle.std.specs.Str.Parse.{digits_value_after, digits_value, starts_with_minus}
 use Rattle.std.proofs.lemmas.Nat.{div-add-mod', mod_below}
-use Rattle.std.proofs.lemmas.Bool.Decides.{nat_tests}
-use Rattle.std.proofs.lemmas.List.{get_or-drop, drop_more}
+use Rattle.std.proofs.lemmas.List.{drop_more}
 use Rattle.std.proofs.Math.Nat.{pow-suc, mul-le-mul_right, pow-le-pow_right}
-use Rattle.bufr_bits.specs.Prelude.{all_digits, whole_quotient, decimal_text_of, unsigned_text, pointed, decimal_value_of, positive_scale, negative_scale, signed, ◌>>=◌, unsigned_part, signed_number, is_decimal_octet, continues_number, IsPlainDecimal}
+use Rattle.bufr_bits.specs.Prelude.{all_digits, whole_quotient, decimal_text_of, unsigned_text, pointed, decimal_value_of, positive_scale, negative_scale, signed, ◌>>=◌, unsigned_part, signed_number, is_decimal_octet, IsPlainDecimal}
 use Rattle.bufr_bits.specs.declared.decimal.NumberFault.TheVariants.{Inexact}
 use Rattle.bufr_bits.proofs.BitLemmas.{list_all-append}
 use Rattle.bufr_bits.proofs.DecimalLemmas.{value_after-is, value_after-append, value-below, quotient_is, ten_pos, ten_split, product_zero, sum_zero, and_first, and_second, own, unsigned_is_decimal, read_alone, read_after_minus, number_at, number_at_own}
@@ -318,17 +317,3 @@ pub plain_text : (text body : List ℕ) (count n places : ℕ) → false ≡ sta
     → take count text ≡ decimal_text_of (signed_number false n) (pos places)
 unfolding decimal_text_of
 plain_text text body count n places h e d = grind (arith, common_steps)
-
--- An octet of the text is the one in the window that is searched.
-window_octet : (text : List ℕ) (most i : ℕ) → (most < length text → i < most) → get_or (take most text) i 0 ≡ get_or text i 0
-window_octet text most i h = grind (arith, common_steps)
-
--- A number without a point ends before an octet that is neither a digit nor a point.
-pub alone_ends : (text : List ℕ) (most count : ℕ) → (most < length text → most ≡ 19) → is_ascii_digit (get_or (take most text) count 0) ≡ false
-    → (get_or (take most text) count 0 ≡ 46 → ⊥) → count < 19 → continues_number 0 (get_or text count 0) ≡ false
-alone_ends text most count few digit point lt = search (rules, nat_tests, window_octet)
-
--- A number with a point ends before an octet that is not a digit.
-pub pointed_ends : (text fraction : List ℕ) (most count places : ℕ) → (most < length text → most ≡ 19) → fraction ≡ drop (count + 1) (take most text)
-    → is_ascii_digit (get_or fraction places 0) ≡ false → 0 < places → count + 1 + places < 19 → continues_number places (get_or text (count + 1 + places) 0) ≡ false
-pointed_ends text fraction most count places few f digit some lt = search (rules, nat_tests, window_octet, get_or-drop)

@@ -44,9 +44,6 @@ below a b h = grind (arith, nat_tests)
 moved-long : (n : ℕ) (line : List ℕ) → 8 ≤ length line → moved n line ≡ (take 7 line ++ decimal n) ++ drop 8 line
 moved-long n line long = ap (λ b. if b then [] else (take 7 line ++ decimal n) ++ drop 8 line) (at_least (length line) 8 long)
 
-pub moved-none : (n : ℕ) (line : List ℕ) → length line < 8 → moved n line ≡ []
-moved-none n line few = ap (λ b. if b then [] else (take 7 line ++ decimal n) ++ drop 8 line) (below (length line) 8 few)
-
 -- the slices that the code takes
 pub moved-parts : (n : ℕ) (line : List ℕ) → 8 ≤ length line → (take 7 line ++ decimal n) ++ take (length line - 8) (drop 8 line) ≡ moved n line
 moved-parts n line long = ap (λ l. (take 7 line ++ decimal n) ++ l) (take_rest line 8) ∙ sym (moved-long n line long)
@@ -150,36 +147,6 @@ pub four-long : (m : List ℕ) → StartsWithBufr m → 4 ≤ length m
 four-long m here =
     let same : take 4 m ≡ codes "BUFR" = (bytes_eq-Decides (take 4 m) (codes "BUFR")).0 here in
     omega (arith, ap length same, length-take 4 m)
-
-pub cut-short : (m : List ℕ) → StartsWithBufr m → length m < 8 → IsStray m Cut
-cut-short m here few =
-    let a = below (length m) 8 few in
-    record { event = λ offset. rw (here, a) refl; moves = rw (here, a) refl; within = four-long m here }
-
-pub cut-long : (m : List ℕ) (n : ℕ) → StartsWithBufr m → 8 ≤ length m → n ≡ stated_length m → length m < n → IsStray m Cut
-cut-long m n here eight states few =
-    let a = at_least (length m) 8 eight in
-    let b = below (length m) (stated_length m) (omega (arith, states, few)) in
-    record { event = λ offset. rw (here, a, b) refl; moves = rw (here, a, b) refl; within = four-long m here }
-
-pub short-length : (m : List ℕ) (n : ℕ) → StartsWithBufr m → 8 ≤ length m → n ≡ stated_length m → n ≤ length m → n < 12 → IsStray m ShortLength
-short-length m n here eight states whole few =
-    let a = at_least (length m) 8 eight in
-    let b = at_least (length m) (stated_length m) (omega (arith, states, whole)) in
-    let c = below (stated_length m) 12 (omega (arith, states, few)) in
-    record { event = λ offset. rw (here, a, b, c) refl; moves = rw (here, a, b, c) refl; within = four-long m here }
-
-pub no-end : (m : List ℕ) (n : ℕ) → StartsWithBufr m → n ≡ stated_length m → n ≤ length m → 12 ≤ n → has_word_at (codes "7777") (n - 4) m ≡ false → IsStray m NoEnd
-no-end m n here states whole least ends =
-    let a = at_least (length m) 8 (omega (arith, least, whole)) in
-    let b = at_least (length m) (stated_length m) (omega (arith, states, whole)) in
-    let c = at_least (stated_length m) 12 (omega (arith, states, least)) in
-    let d : has_word_at (codes "7777") (stated_length m - 4) m ≡ false = ap (λ k. has_word_at (codes "7777") (k - 4) m) (sym states) ∙ ends in
-    record { event = λ offset. rw (here, a, b, c, d) refl; moves = rw (here, a, b, c, d) refl; within = four-long m here }
-
--- the comparison, as the code makes it
-pub starts_with-word : (m : List ℕ) (k : ℕ) → starts_with eqb (drop k m) (codes "7777") ≡ has_word_at (codes "7777") k m
-starts_with-word m k = search rules
 
 -- the tests that a message passes, one by one
 tests : (m : List ℕ) (n : ℕ) → IsMessage m n

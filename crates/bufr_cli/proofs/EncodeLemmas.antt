@@ -24,11 +24,6 @@ use Rattle.bufr_text.specs.declared.fault.DocumentFault.TheVariants as document
 use Rattle.bufr_text.specs.Prelude.{IsDocumentRefusal}
 use Rattle.std.specs.List.{onto_first}
 
--- A document is refused, unless memory ran out.
-pub is-refused : {A : Type 0} (why : DocumentFault) (defined : Result A DocumentFault) → why ≢ document.Memory → IsDocumentRefusal why defined → defined ≡ Err why
-is-refused why defined some (inl out) = absurd (some out)
-is-refused why defined some (inr is) = is
-
 -- the report of a fault in the text
 pub read-refusal : (fault : ReadFault) → ((run : RunFault) → fault ≡ Run run → ⊥) → (line : ℕ) × (why : TextLineFault) × (parse_results (Err fault) ≡ Refused line why ∷ [])
 read-refusal (Line line why) some = (line, why, refl)
@@ -362,13 +357,3 @@ blames-none w Read none = ((refl, refl), (refl, refl))
 blames-none w Write none = absurd (none refl)
 blames-none w InputTooLong none = ((refl, refl), (refl, refl))
 blames-none w Memory none = ((refl, refl), (refl, refl))
-
--- the number of reads after one read
-pub text-counted : (left left' : Option (List ℕ)) (s s' : ReaderModel) (f : RunFault) (bs : List ℕ) → FillsBuffer left left' s s' (Err (Run f)) bs → CountsRead s.reads s'.reads (Err f)
-text-counted left left' s s' f bs (x, reads, is, short) = let C : ℕ → Type 0 = λ n. CountsRead s.reads n (Err f) in subst C (sym (ap (λ m. m.reads) is)) (by f reads.fills.ends)
-  where
-    by : (g : RunFault) → FillEnds (s.reads ≡ 0) (text_input s s.held) (text_input x (s.held ++ bs)) bs (Err g) → CountsRead s.reads x.reads (Err g)
-    by Read ends = tt
-    by Write ends = absurd ends.2
-    by InputTooLong ends = ends.2.1
-    by Memory ends = ends.2.1

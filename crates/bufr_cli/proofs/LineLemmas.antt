@@ -30,45 +30,6 @@ no-some {A} x same =
     IsThere None = ⊥
     IsThere (Some y) = Unit {0}
 
--- properties that distinguish the names of the subcommands
-abbrev HasThreeLetters : Text → Type 0
-HasThreeLetters (a ∷ b ∷ c ∷ rest) = Unit {0}
-HasThreeLetters _ = ⊥
-
-abbrev HasFiveLetters : Text → Type 0
-HasFiveLetters (a ∷ b ∷ c ∷ d ∷ e ∷ rest) = Unit {0}
-HasFiveLetters _ = ⊥
-
--- A subcommand that reads tables is not `ls`.
-not-ls : (name : Text) → (name ≡ codes "dump") ⊎ (name ≡ codes "encode") → name ≡ codes "ls" → ⊥
-not-ls name (inl dump) ls = subst HasThreeLetters (sym dump ∙ ls) tt
-not-ls name (inr encode) ls = subst HasThreeLetters (sym encode ∙ ls) tt
-
--- No job belongs to the subcommand on the command line.
-abbrev pub HasNoJob : Option (Text × List Row) → Type 0
-HasNoJob subcommand = (job : Job) → ¬ IsJobOf subcommand job
-
--- If a look-up failed, there is no job.
-pub why-no-job : (name : Text) (rows : List Row) (why : NoJob) → IsWhyNoJob name rows why → HasNoJob (Some (name, rows))
-why-no-job name rows UnknownCommand lacks job is = lacks job.command is.0
-why-no-job name rows MissingTable (named, lacks) job is = no-tables job.command is.0 is.1
-  where
-    no-tables : (command : Subcommand) → name ≡ name_of command → HasTables rows command → ⊥
-    no-tables Ls is-ls has = not-ls name named is-ls
-    no-tables (Dump tables) is-dump has = lacks tables has
-    no-tables (Encode tables form) is-encode has = lacks tables has.0
-why-no-job name rows UnknownForm (named, lacks) job is = no-form job.command is.0 is.1
-  where
-    no-form : (command : Subcommand) → name ≡ name_of command → HasTables rows command → ⊥
-    no-form Ls is-ls has = subst HasFiveLetters (sym named ∙ is-ls) tt
-    no-form (Dump tables) is-dump has = subst HasFiveLetters (sym named ∙ is-dump) tt
-    no-form (Encode tables form) is-encode has = lacks form has.1
-
--- If a usage text of our own is written, there is no job.
-pub no-job : (subcommand : Option (Text × List Row)) (text : Text) → GivesNoJob subcommand text → HasNoJob subcommand
-no-job None text gives = λ job is. is
-no-job (Some (name, rows)) text gives = why-no-job name rows gives.0 gives.1
-
 -- Running out of memory is not a request for help or the version.
 abbrev IsShown : ErrorKind → Type 0
 IsShown DisplayHelp = Unit {0}

@@ -20,12 +20,6 @@ use Rattle.std.specs.Borrow.{Bor}
 
 -- ---- Pieces that were written.
 
-pub Written-then : (before mid after : Writers) (pieces more : List Piece) → WritesPieces before mid pieces → WritesPieces mid after more → WritesPieces before after (pieces ++ more)
-Written-then before mid after pieces more one two = record {
-  output = rw flat_map-append (Appends-trans before.output.taken mid.output.taken after.output.taken (flat_map output_of pieces) (flat_map output_of more) one.output two.output);
-  errors = rw flat_map-append (Appends-trans before.errors.taken mid.errors.taken after.errors.taken (flat_map errors_of pieces) (flat_map errors_of more) one.errors two.errors);
-}
-
 Written-nil : (w : Writers) → WritesPieces w w []
 Written-nil w = record { output = Appends-nil w.output.taken; errors = Appends-nil w.errors.taken }
 
@@ -61,15 +55,6 @@ map-append piece xs ys = grind (arith, common_steps)
 
 pub count-append : (p : Piece → Bool) (xs ys : List Piece) → count_by p (xs ++ ys) ≡ count_by p xs + count_by p ys
 count-append p xs ys = grind (arith, common_steps)
-
--- Another piece is counted.
-Tallies-then : (tally tally' : Tally) (v : Verdict) (pieces more : List Piece) → Tallies tally pieces → tally' ≡ tally_after tally v
-    → counted_accepted v ≡ count_by is_accepted more → counted_refused v ≡ count_by is_refused more → Tallies tally' (pieces ++ more)
-Tallies-then tally tally' v pieces more before is accepted refused =
-    rw is (record {
-      accepted = ap (λ n. n + counted_accepted v) before.accepted ∙ ap (λ n. count_by is_accepted pieces + n) accepted ∙ sym (count-append is_accepted pieces more);
-      refused = ap (λ n. n + counted_refused v) before.refused ∙ ap (λ n. count_by is_refused pieces + n) refused ∙ sym (count-append is_refused pieces more);
-    })
 
 -- Each piece is counted once, as accepted or as refused.
 counted-all : (pieces : List Piece) → count_by is_accepted pieces + count_by is_refused pieces ≡ length pieces
@@ -117,9 +102,6 @@ reads-at-most reads reads' n r counts long =
     (n, counts.most, counts.made ∙ ap (counted reads) e, long)
 
 -- ---- The number of times that the writers were flushed.
-
-pub flushes-none : (w : Writers) (n : ℕ) → FlushesAtMost n w w
-flushes-none w n = (counted-least w.output.flushes.made n, counted-least w.errors.flushes.made n)
 
 -- at most n flushes, followed by at most m flushes
 pub flushes-then : (n m : ℕ) (before mid after : Writers) → FlushesAtMost n before mid → FlushesAtMost m mid after → FlushesAtMost (n + m) before after
@@ -188,64 +170,15 @@ so-far-none reaches from before tally unflushed reached accepted refused = recor
   same = ((refl, refl), (refl, refl));
 }
 
--- Another piece leaves the other writer unchanged.
-piece-handed : (unflushed : Unflushed) (verdict : Verdict) (before mid after : Writers) → LeavesOther mid after verdict → IsAllFlushed unflushed before mid
-    → IsAllFlushed (unflushed_after unflushed verdict) before after
-piece-handed unflushed verdict.Accepted before mid after other handed = (
-  (λ none. absurd (false≢true (sym none))),
-  (λ none. let H : Writer → Type 0 = λ w. IsFlushed before.errors w in subst H (sym other) (handed.1 none)),
-)
-piece-handed unflushed verdict.Refused before mid after other handed = (
-  (λ none. let H : Writer → Type 0 = λ w. IsFlushed before.output w in subst H (sym other) (handed.0 none)),
-  (λ none. absurd (false≢true (sym none))),
-)
-
 -- `IsFlushedIf` implies `IsFlushed`.
 flushed-handed : (written : Bool) (before mid after : Writer) → (written ≡ false → IsFlushed before mid) → IsFlushedIf written mid after → IsFlushed before after
 flushed-handed true before mid after handed flushed = inr flushed
 flushed-handed false before mid after handed flushed = let H : Writer → Type 0 = λ w. IsFlushed before w in subst H (sym flushed) (handed refl)
 
--- Before a read, written octets are flushed, or nothing changes.
-read-handed : (waits : Bool) (unflushed unflushed' : Unflushed) (before mid after : Writers) (r : Result (Unit {0}) RunFault) → FlushesWritten waits unflushed unflushed' mid after r → r ≡ Ok tt
-    → IsAllFlushed unflushed before mid → IsAllFlushed unflushed' before after
-read-handed waits unflushed unflushed' before mid after r hands well handed =
-    let U : Unflushed → Type 0 = λ u. IsAllFlushed u before mid in
-    let W : Writers → Type 0 = λ w. IsAllFlushed unflushed' before w in
-    elim (rw well at hands.flushed) [
-      | inl flushed ↦ (
-        (λ none. flushed-handed unflushed.output before.output mid.output after.output handed.0 flushed.0),
-        (λ none. flushed-handed unflushed.errors before.errors mid.errors after.errors handed.1 flushed.1),
-      )
-      | inr still ↦ subst W (sym still.2) (subst U (sym still.1) handed)
-    ]
-
 module _ (reaches : Progress → Type 0) (from to : Input) (before mid : Writers) (tally : Tally) (unflushed : Unflushed) (ran : RunSoFar reaches from to before mid tally unflushed) where
   -- There are fewer than 2^63 pieces.
   pub tally-few : tally.accepted + tally.refused < 2 ^ 63
   tally-few = omega (arith, ran.tallies.accepted, ran.tallies.refused, counted-all ran.pieces, ran.few)
-
-  -- Another piece was written.
-  pub piece-written : (pieces : RunPieces) (on : Progress → Type 0) (after : Writers) (tally' : Tally) (unflushed' : Unflushed) (verdict : Verdict) (r : Result RunStep RunFault)
-      → ((so : Progress) → reaches so → TakesStep pieces on so mid after r) → r ≡ Ok (step.Piece verdict)
-      → BlamesWriter mid after r → after.output.flushes ≡ mid.output.flushes → after.errors.flushes ≡ mid.errors.flushes → tally' ≡ tally_after tally verdict
-      → unflushed' ≡ unflushed_after unflushed verdict
-      → RunSoFar on from to before after tally' unflushed'
-  piece-written pieces on after tally' unflushed' verdict r gives is counts output errors after-it noted =
-      let one = rw is at gives (progress from to ran.octets ran.pieces) ran.reached in
-      let stays = rw is at counts in
-      let p = one.0 ∷ [] in
-      record {
-        octets = ran.octets;
-        pieces = ran.pieces ++ p;
-        reached = one.1;
-        written = Written-then before mid after ran.pieces p ran.written one.2.0;
-        tallies = Tallies-then tally tally' verdict ran.pieces p ran.tallies after-it one.2.1 one.2.2;
-        few = omega (arith, length-append ran.pieces p, one.3);
-        failures = ran.failures;
-        flushes = (ap (λ f. f.failed) output ∙ ran.flushes.0, ap (λ f. f.failed) errors ∙ ran.flushes.1);
-        handed = rw noted (piece-handed unflushed verdict before mid after one.2.3 ran.handed);
-        same = (same-then _ _ _ _ _ _ ran.same.0 stays.0, same-then _ _ _ _ _ _ ran.same.1 stays.1);
-      }
 
   -- A read is needed.
   pub read-needed : (pieces : RunPieces) (on : Progress → Type 0) (after : Writers) (r : Result RunStep RunFault)
@@ -276,28 +209,6 @@ module _ (reaches : Progress → Type 0) (from to : Input) (before mid : Writers
   nothing-left pieces on after r gives is =
       let one = rw is at gives (progress from to ran.octets ran.pieces) ran.reached in
       rw one.0 (ran, one.1)
-
-  -- Written octets were flushed, and more octets were read.
-  pub octets-read : (on : Progress → Type 0) (waits : Bool) (unflushed' : Unflushed) (to' : Input) (after : Writers) (handed : Result (Unit {0}) RunFault) (r : Result (Unit {0}) RunFault)
-      → FlushesWritten waits unflushed unflushed' mid after handed → handed ≡ Ok tt
-      → ((so : Progress) → so.left ≡ to.left → reaches so → ReadsOctets on so to'.left r) → r ≡ Ok tt → to'.failures ≡ to.failures
-      → RunSoFar on from to' before after tally unflushed'
-  octets-read on waits unflushed' to' after handed r hands well reads is failures =
-      let more = rw is at reads (progress from to ran.octets ran.pieces) refl ran.reached in
-      let none = rw well at hands.none in
-      let stays = rw well at hands.counts in
-      record {
-        octets = ran.octets ++ more.0;
-        pieces = ran.pieces;
-        reached = more.1;
-        written = written-kept before mid after ran.pieces hands.output hands.errors ran.written;
-        tallies = ran.tallies;
-        few = ran.few;
-        failures = failures ∙ ran.failures;
-        flushes = (none.0 ∙ ran.flushes.0, none.1 ∙ ran.flushes.1);
-        handed = read-handed waits unflushed unflushed' before mid after handed hands well ran.handed;
-        same = (same-then _ _ _ _ _ _ ran.same.0 stays.0, same-then _ _ _ _ _ _ ran.same.1 stays.1);
-      }
 
 -- ---- The effects of a run on its devices, for each way in which it can end.
 
@@ -537,18 +448,6 @@ run-reads : {X : Type 0} (takes : Bool) (reads reads' n : ℕ) (r : Result X Run
 run-reads false reads reads' n r counts long wanted = let so = reads-at-most reads reads' n r counts long in (so.0, so.1, so.2, so.3, wanted refl)
 run-reads true reads reads' n r counts long wanted = reads-at-most reads reads' n r counts long
 
--- A prefix of a piece was written.
-pub run-reads-cut : (takes : Bool) (reads reads' n : ℕ) (r : Result RunStep RunFault) (f : RunFault) (result : Result Tally RunFault) → AddsReads reads reads' 0 n → StopsPiece takes r → r ≡ Err f
-    → result ≡ Err f
-    → RunReads takes reads reads' result
-run-reads-cut takes reads reads' n r f result counts stops is same = rw same (by f (rw is at stops))
-  where
-    by : (g : RunFault) → StopsPiece {X = RunStep} takes (Err g) → RunReads {X = Tally} takes reads reads' (Err g)
-    by Read stops' = absurd stops'
-    by Write stops' = run-reads takes reads reads' n (Err Write) counts (λ long. cc) (λ none wanted. cc)
-    by InputTooLong stops' = absurd stops'
-    by Memory stops' = run-reads takes reads reads' n (Err Memory) counts (λ long. cc) (λ none wanted. absurd (false≢true (sym none ∙ stops')))
-
 -- A read failed, or was not made.
 pub run-reads-unread : (takes : Bool) (a b c n n' : ℕ) (r : Result (Unit {0}) RunFault) (f : RunFault) (result : Result Tally RunFault) → AddsReads a b 0 n → AddsReads b c n n' → CountsRead n n' r
     → r ≡ Err f → result ≡ Err f → RunReads takes a c result
@@ -559,14 +458,6 @@ run-reads-unread takes a b c n n' r f result counts more made is same = rw same 
     by Write made' = absurd made'
     by InputTooLong made' = run-reads takes a c n' (Err InputTooLong) (adds-then a b c 0 n n' counts more) (λ long. made') (λ none wanted. cc)
     by Memory made' = run-reads takes a c n' (Err Memory) (adds-then a b c 0 n n' counts more) (λ long. cc) (λ none wanted. made')
-
--- A flush failed.
-pub run-reads-held : (takes : Bool) (reads reads' n : ℕ) (f : RunFault) (result : Result Tally RunFault) → AddsReads reads reads' 0 n → f ≡ Write → result ≡ Err f → RunReads takes reads reads' result
-run-reads-held takes reads reads' n f result counts write same = rw (same ∙ ap Err write) (run-reads takes reads reads' n (Err Write) counts (λ long. cc) (λ none wanted. cc))
-
--- The run completed.
-pub run-reads-done : (takes : Bool) (reads reads' n : ℕ) (tally : Tally) → AddsReads reads reads' 0 n → RunReads {X = Tally} takes reads reads' (Ok tally)
-run-reads-done takes reads reads' n tally counts = run-reads takes reads reads' n (Ok tally) counts (λ long. cc) (λ none wanted. cc)
 
 -- ---- The outcome of a job, from the result of its run.
 

@@ -264,10 +264,6 @@ pub ReadsAndPasses-then : (left mid left' : Option (List ℕ)) (s s' : FinderMod
     → ReadsAndPasses left mid new_finder s bs events → ReadsAndPasses mid left' s s' bs' es → ReadsAndPasses left left' new_finder s' (bs ++ bs') (events ++ es)
 ReadsAndPasses-then left mid left' = steps-compose left mid left' new_finder
 
--- the number of reads of successive calls
-pub CountsReads-then : (a b c : ℕ) (s s' : FinderModel) → AddsReads a b new_finder.reads s.reads → AddsReads b c s.reads s'.reads → AddsReads a c new_finder.reads s'.reads
-CountsReads-then a b c s s' = adds-then a b c 0 s.reads s'.reads
-
 -- ---- How a finder advances, turn by turn.
 
 pub none-unless : {A : Type 0} → (x : Option A) → ((a : A) → x ≡ Some a → ⊥) → x ≡ None

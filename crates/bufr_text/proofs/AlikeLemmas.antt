@@ -9,7 +9,7 @@ use Rattle.bufr_tables.specs.Prelude.{Row}
 use Rattle.bufr_walk.specs.declared.fault.ShowFault.{ShowFault}
 use Rattle.bufr_walk.specs.declared.fault.ShowFault.TheVariants as show
 use Rattle.bufr_walk.specs.Prelude.{Content, Item, Timed, timed, item_call, content_at, PackedValues, IsPackedOf, Read, together, IsSameInAll, Shows, Sofar, item_calls, items_between, items_of_subset, range_calls, without_turns, view_of}
-use Rattle.bufr_walk.proofs.PackedShowing.{items_done, shows_before, sofar_all}
+use Rattle.bufr_walk.proofs.PackedShowing.{shows_before, sofar_all}
 use Rattle.bufr_walk.proofs.ShownLemmas.{sofar_self, sofar_then}
 use Rattle.bufr_text.specs.Prelude.{LineModel, MovesOn, MovesPrefix, Moves, Pushes, PushesFrom, PushesCall, gathered_by, item_text, item_lines, lines_between, PushesAlike, AreStretches}
 use Rattle.bufr_text.specs.declared.alike.Stretch.{Stretch}
@@ -157,9 +157,6 @@ pub record SubsetSoFar (p : PackedValues) (text : List ℕ) (j : ℕ) (a b : Lin
   pub status : b.status ≡ Ok tt
   pub left : AreStretches p text index at rest
 
-pub subset-first : (p : PackedValues) (text : List ℕ) (j : ℕ) (a : LineModel) (stretches : List Stretch) → a.status ≡ Ok tt → AreStretches p text 0 0 stretches → SubsetSoFar p text j a a 0 stretches
-subset-first p text j a stretches ok left = record { index = 0; calls = sofar_self PushesCall a (range_calls p j 0 (length p.items)); status = ok; left = left }
-
 module _ (p : PackedValues) (j from to : ℕ) (a b c : LineModel) (order : from ≤ to) (within : to ≤ length p.items)
     (calls : Sofar PushesCall a (range_calls p j 0 (length p.items)) b (range_calls p j from (length p.items))) where
   parted : Sofar PushesCall a (range_calls p j 0 (length p.items)) b (range_calls p j from to ++ range_calls p j to (length p.items))
@@ -191,22 +188,11 @@ module _ (p : PackedValues) (text : List ℕ) (j : ℕ) (a b : LineModel) (at : 
     left = h.left.1;
   }
 
-pub subset-done : (p : PackedValues) (text : List ℕ) (j : ℕ) (a b : LineModel) (at : ℕ) → SubsetSoFar p text j a b at [] → Shows PushesCall a (range_calls p j 0 (length p.items)) 0 (Ok tt) b 0
-subset-done p text j a b at h = items_done PushesCall p j (length p.items) a b 0 h.index h.left (omega arith) h.calls
-
 -- the next stretch
 pub next-stretch : (stretches : List Stretch) (i : ℕ) (s : Stretch) → i < length stretches → s ≡ get_or stretches i s → drop i stretches ≡ s ∷ drop (i + 1) stretches
 next-stretch stretches i s below is = drop-cons stretches i s below ∙ ap (λ x. x ∷ drop (suc i) stretches) (sym is) ∙ ap (λ k. s ∷ drop k stretches) (sym (add-one i))
 
 -- ---- The lines are gathered.
-
--- If the sink has taken nothing and no write has failed, the text was appended to the block.
-pub held-grown : {a b : LineModel} {t : List ℕ} → a.taken ≡ Some [] → b.taken ≡ Some [] → a.status ≡ Ok tt → b.status ≡ Ok tt → Pushes a t b → b.held ≡ a.held ++ t
-held-grown {a = a} {b = b} {t = t} none none' ok ok' pushes =
-    let from = moves-of a b t a.status ok pushes.somehow.from in
-    let moves = prefix-of a.taken b.taken (a.held ++ t) b.held b.status ok' from.moves in
-    let gains : [] ≡ moves.prefix = subst (λ z. Appends (Some []) z moves.prefix) none' (subst (λ z. Appends z b.taken moves.prefix) none moves.gains) in
-    sym (moves.parts ∙ ap (λ l. l ++ b.held) (sym gains))
 
 -- another item whose line is the same in every subset
 pub alike-more : (p : PackedValues) (from to : ℕ) (a b c : LineModel) → 0 < p.subsets → to < length p.items → PushesAlike p from to a b → IsSameInAll p to
@@ -222,15 +208,6 @@ alike-more p from to a b c some below h same shows =
       alike = λ j less. join j ∙ ap (λ l. l ++ lines_between p j to (to + 1)) (h.alike j less) ∙ ap (λ l. lines_between p 0 from to ++ l) (ap (item_lines p.table) (same j less)) ∙ sym (join 0);
     }
 
-pub alike-none : (p : PackedValues) (from : ℕ) (a : LineModel) → from ≤ length p.items → a.status ≡ Ok tt → PushesAlike p from from a a
-alike-none p from a within ok = record {
-  order = omega arith;
-  within = within;
-  pushes = retold nothing_pushed (sym (lines-none p 0 from within));
-  status = ok;
-  alike = λ j less. lines-none p j from within ∙ sym (lines-none p 0 from within);
-}
-
 -- What was gathered so far: stretches for the items before `index`, and their lines in the block.
 pub record GatheredSoFar (p : PackedValues) (lines : LineModel) (index : ℕ) (stretches : List Stretch) : Type 0 where
   pub taken : lines.taken ≡ Some []
@@ -238,53 +215,6 @@ pub record GatheredSoFar (p : PackedValues) (lines : LineModel) (index : ℕ) (s
   pub within : index ≤ length p.items
   pub few : (length stretches ≤ 1024) ⊎ ((length stretches ≤ 1025) × (length p.items ≤ index))
   pub on : (more : List Stretch) (back : List ℕ) → AreStretches p (lines.held ++ back) index (length lines.held) more → AreStretches p (lines.held ++ back) 0 0 (stretches ++ more)
-
-pub gathered-first : (p : PackedValues) (lines : LineModel) (stretches : List Stretch) → lines.taken ≡ Some [] → lines.status ≡ Ok tt → lines.held ≡ [] → stretches ≡ []
-    → GatheredSoFar p lines 0 stretches
-gathered-first p lines stretches none ok empty is = record {
-  taken = none;
-  status = ok;
-  within = omega arith;
-  few = inl (omega (arith, ap length is));
-  on = λ more back left. rw is (subst (λ n. AreStretches p (lines.held ++ back) 0 n more) (ap length empty) left);
-}
-
--- another stretch
-pub gathered-more : (p : PackedValues) (a b : LineModel) (index from to : ℕ) (stretches : List Stretch) (s : Stretch) → GatheredSoFar p a index stretches → PushesAlike p index from a b
-    → b.taken ≡ Some []
-    → s ≡ record { end = length b.held; from = from; to = to } → from ≤ to → to ≤ length p.items → (length stretches < 1024) ⊎ (length p.items ≤ to) → index < length p.items
-    → GatheredSoFar p b to (stretches ++ s ∷ [])
-gathered-more p a b index from to stretches s h alike none is order within few below = record {
-  taken = none;
-  status = alike.status;
-  within = within;
-  few = counted h.few few;
-  on = λ more back left.
-      let here = lines_between p 0 index from in
-      let held : b.held ≡ a.held ++ here = held-grown h.taken none h.status alike.status alike.pushes in
-      let same : a.held ++ (here ++ back) ≡ b.held ++ back = sym (append_assoc a.held here back) ∙ ap (λ l. l ++ back) (sym held) in
-      let long : length b.held ≡ length a.held + length here = ap length held ∙ length-append a.held here in
-      let cut : take (length b.held - length a.held) (drop (length a.held) (a.held ++ (here ++ back))) ≡ here =
-      ap (take (length b.held - length a.held)) (drop-append_seam a.held (here ++ back)) ∙ ap (λ n. take n (here ++ back)) (omega (arith, long)) ∙ take-append_seam here back in
-      let left' : AreStretches p (a.held ++ (here ++ back)) index (length a.held) (s ∷ more) = rw is (
-        record {
-          first = alike.order;
-          order = order;
-          within = within;
-          start = omega (arith, long);
-          ends = omega (arith, long, length-append a.held (here ++ back), length-append here back);
-          alike = λ j less. cut ∙ sym (alike.alike j less);
-        },
-        subst (λ text. AreStretches p text to (length b.held) more) (sym same) left,
-      ) in
-      rw append_assoc (subst (λ text. AreStretches p text 0 0 (stretches ++ s ∷ more)) same (h.on (s ∷ more) (here ++ back) left'));
-}
-  where
-    counted : (length stretches ≤ 1024) ⊎ ((length stretches ≤ 1025) × (length p.items ≤ index)) → (length stretches < 1024) ⊎ (length p.items ≤ to)
-        → (length (stretches ++ s ∷ []) ≤ 1024) ⊎ ((length (stretches ++ s ∷ []) ≤ 1025) × (length p.items ≤ to))
-    counted (inr (many, ended)) last = absurd (omega (arith, ended, below))
-    counted (inl fits) (inl short) = inl (omega (arith, length-append stretches (s ∷ []), short))
-    counted (inl fits) (inr ended) = inr (omega (arith, length-append stretches (s ∷ []), fits), ended)
 
 -- The stretches cover all items.
 pub gathered-all : (p : PackedValues) (lines : LineModel) (index : ℕ) (stretches : List Stretch) (text : List ℕ) → GatheredSoFar p lines index stretches → length p.items ≤ index → text ≡ lines.held

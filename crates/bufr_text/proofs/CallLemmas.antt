@@ -191,13 +191,6 @@ module _ (left left' : Option (List ℕ)) (s s' : ReaderModel) (bs : List ℕ) (
 
 -- ---- What a call returns.
 
--- the number of reads in a call
-pub counts-none : (a : ℕ) (s : ReaderModel) → s.reads ≤ max_reads → AddsReads a a s.reads s.reads
-counts-none a s = adds-none a s.reads
-
-pub counts-then : (a b c : ℕ) (old s s' : ReaderModel) → AddsReads a b old.reads s.reads → AddsReads b c s.reads s'.reads → AddsReads a c old.reads s'.reads
-counts-then a b c old s s' = adds-then a b c old.reads s.reads s'.reads
-
 pub waits-same : (left : Option (List ℕ)) (old s s' : ReaderModel) (bs bs' : List ℕ) → ((s.reads ≡ old.reads) ⊎ ReadsOnlyIfNoLine left old s.reads bs) → s'.reads ≡ s.reads → bs ≡ bs'
     → (s'.reads ≡ old.reads) ⊎ ReadsOnlyIfNoLine left old s'.reads bs'
 waits-same left old s s' bs bs' (inl e) same is = inl (same ∙ e)

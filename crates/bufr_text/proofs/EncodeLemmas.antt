@@ -455,11 +455,6 @@ reported_here line next mid stop s' h1 h2 = grind (arith, nat_tests, common_step
 packed_still : (next : Next) (mid : PackedOutModel) (stop : WalkStop DraftFault) (s' : PackedOutModel) → StopsWalk PackedFills next mid stop s' → s' ≡ mid
 packed_still next mid stop s' h1 = grind (arith, nat_tests, common_steps)
 
--- Compressed data consist of the bits that are written.
-packed_data_is : (course : CountedCourse) (ss : List Subset) → data_bits true (uncounted course) ss ≡ bits_of_writing (writing_of true course ss)
-packed_data_is course [] = refl
-packed_data_is course (s ∷ more) = refl
-
 -- The walk stopped at its fault, or because memory ran out.
 packed_stopped_at : (n : ℕ) (course : CountedCourse) (ss : List Subset) (walked : List TakenField) (mid : PackedOutModel) (o : DraftFault) (why : DocumentFault) (c' : ℕ) → AddsTurns course
     → 1 ≤ length ss → Takes (oks PackedFills) (uncounted course) (new_packed_out ss) walked mid → IfDraftFault o (IsFaultHere (course (answers_of walked)).next mid) → why ≡ document_fault o

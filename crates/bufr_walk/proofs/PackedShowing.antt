@@ -170,14 +170,6 @@ module _ {S E : Type 0} (sees : S → Call → Result (Unit {0}) E → S → Typ
       subst (Sofar sees s (range_calls p j from to) s1) (next_calls i item below within e) so in
       so_far.on 0 (Err (fault.Visitor f)) s2 0 (inl (call, refl))
 
-  -- All items were shown.
-  pub items_done : (s s1 : S) (from i : ℕ) → to ≤ i → to ≤ length p.items → Sofar sees s (range_calls p j from to) s1 (range_calls p j i to) → Shows sees s (range_calls p j from to) 0 (Ok tt) s1 0
-  items_done s s1 from i end within so =
-      let none : drop i (take to p.items) ≡ [] = drop_all i (take to p.items) (omega (arith, end, length-take-le to p.items within)) in
-      let so_far : Sofar sees s (range_calls p j from to) s1 [] = subst (Sofar sees s (range_calls p j from to) s1) (ap (λ items. item_calls p.table 0 without_turns (items_of_subset j items)) none)
-      so in
-      so_far.on 0 (Ok tt) s1 0 (refl, refl)
-
 -- the same for the items of stored entries
 module _ {S E : Type 0} (sees : S → Call → Result (Unit {0}) E → S → Type 0) (table : List Row) (bits : List Bool) (n : ℕ) (kept : List IndexedItem) (p : PackedValues) (j to from i : ℕ)
     (s s1 s2 : S) where
@@ -259,37 +251,6 @@ module _ {S E : Type 0} (sees : S → Call → Result (Unit {0}) E → S → Typ
       so_far.on 0 (Ok tt) s1 0 (refl, refl)
 
 -- ---- What a reading stores, as its users see it.
-
--- There is a valid item at the location of each stored entry.
-pub entries_fit : (r : Read) (entries : List IndexedItem) → IsStoredReading r (kept.Together entries) → list_all (fits_at r.source.bits r.source.subsets) entries ≡ true
-entries_fit r entries h = by (values_read r) h.keeps
-  where
-    by : (v : Values) → KeepsValues (kept.Together entries) r.source v → list_all (fits_at r.source.bits r.source.subsets) entries ≡ true
-    by (apart xs) k = absurd k
-    by (together xs) k = k.1
-
--- The items at these locations are those that were read.
-pub packed_of : (r : Read) (entries : List IndexedItem) → IsStoredReading r (kept.Together entries)
-    → IsPackedOf (packed_values r.table r.source.bits r.source.subsets entries) r
-packed_of r entries h = record { table = refl; subsets = refl; values = by (values_read r) h.keeps }
-  where
-    by : (v : Values) → KeepsValues (kept.Together entries) r.source v → v ≡ together (items_at r.source.bits r.source.subsets entries)
-    by (apart xs) k = absurd k
-    by (together xs) k = ap together (sym k.0)
-
--- whether entries are stored, which is so for compressed data only
-abbrev are_together : StoredItems → Bool
-are_together kept.Apart = false
-are_together (kept.Together entries) = true
-
-pub compressed_kept : (r : Read) (k : StoredItems) → IsStoredReading r k → are_together k ≡ r.source.compressed
-compressed_kept r k h = by k r.source.compressed h.keeps
-  where
-    by : (k : StoredItems) (b : Bool) → KeepsValues k r.source (reading_in (course_of r) b r.source.subsets r.source.bits).values → are_together k ≡ b
-    by kept.Apart false w = refl
-    by kept.Apart true w = absurd w
-    by (kept.Together entries) false w = absurd w
-    by (kept.Together entries) true w = refl
 
 -- If compressed data were shown from the stored items, the reading was shown.
 pub packed_shown : {V E : Type 0} (sees : V → Call → Result (Unit {0}) E → V → Type 0) (p : PackedValues) (r : Read) (v v' : V) (result : Result (Unit {0}) (ShowFault E)) (steps : ℕ) → IsPackedOf p r

@@ -7,14 +7,6 @@ use Rattle.bufr_fill.proofs.RowLemmas.{many_fault, put_fault}
 use Rattle.bufr_fill.proofs.packed_out.PackedOutFields.take.Goals as goal
 use Rattle.bufr_fill.proofs.packed_out.PackedOutFields.take.Goals.{then-row-eq0+in_ok-transpose, else-row-eq0}
 
-abbrev with_bits : List Subset → ℕ → List Bool → PackedOutModel
-with_bits subsets index bits = record { subsets = subsets; index = index; bits = bits }
-
--- the room that one more item takes
-room_for : (old new item : List Bool) (index count : ℕ) → new ≡ old ++ item → length old ≤ 2550 * (index * count) → length item ≤ 2046 + 504 * count → 1 ≤ count
-    → length new ≤ 2550 * ((index + 1) * count)
-room_for old new item index count e room few some = omega (arith, ap length e, length-append old item)
-
 pub pack_row-requires-clause-room : goal.pack_row-requires-clause-room
 pack_row-requires-clause-room c =
     let few = ends_few 0 c.self.inside.entries.now in
