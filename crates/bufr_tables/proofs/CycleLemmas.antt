@@ -1,4 +1,5 @@
 -- Chains of members, and what the search for a cycle has established.
+use Rattle.std.proofs.lemmas.Grind.{common_steps}
 use Rattle.std.proofs.Common.{◌≡◌, ℕ, ◌+◌, ◌<◌, ◌≤◌, ◌⊎◌, inl, inr, Bool, true, false, List, [], ◌∷◌, ◌++◌, length, set, take, drop, Option, Some, None, refl, sym, ap, ◌∙◌, arith, suc, zero, get_or, length-append, replicate, ◌==◌, cond, option_map, slice_index, IsSome, Contains}
 use Rattle.std.proofs.lemmas.Bool.{eqb-true}
 use Rattle.std.proofs.lemmas.List.{append_assoc, get_or_append_left, get_or-set_same, get_or_default, length-set, drop_more, take-append-drop, get_or-map, get_or-take, length-take-le}
@@ -41,11 +42,7 @@ pub set-is : (flags : List Bool) (x : ℕ) → x < length flags → IsSet (set f
 set-is flags x inside = get_or-set_same flags x true false inside
 
 pub set-cases : (flags : List Bool) (x y : ℕ) → IsSet (set flags x true) y → (y ≡ x) ⊎ IsSet flags y
-set-cases [] x y is = inr is
-set-cases (flag ∷ flags) zero zero is = inl refl
-set-cases (flag ∷ flags) zero (suc y) is = inr is
-set-cases (flag ∷ flags) (suc x) zero is = inr is
-set-cases (flag ∷ flags) (suc x) (suc y) is = elim (set-cases flags x y is) [ inl e ↦ inl (ap suc e) | inr old ↦ inr old ]
+set-cases flags x y is = grind (arith, common_steps)
 
 pub unset-set : (flags : List Bool) (x : ℕ) → x < length flags → get_or flags x false ≡ false → unset (set flags x true) + 1 ≡ unset flags
 unset-set [] x inside is = absurd (omega arith)
@@ -60,10 +57,7 @@ pub record Listed (table : List Sequence) (from to : ℕ) : Type 0 where
   pub sequence : IsSome (members_of table to)
 
 pub listed-leads : (table : List Sequence) (from to : ℕ) → Leads table from to → Listed table from to
-listed-leads table from to l =
-    let same : members_or_none table from ≡ l.members = rw l.has refl in
-    let (k, inside, at) = l.member in
-    record { place = k; inside = rw same inside; at = rw same (get_or_default l.members k 0 to inside ∙ at); sequence = l.sequence }
+listed-leads table from to l = grind (arith, common_steps, get_or_default)
 
 pub leads-listed : (table : List Sequence) (from k : ℕ) → k < length (members_or_none table from) → IsSome (members_of table (slice_index (members_or_none table from) k))
     → Leads table from (slice_index (members_or_none table from) k)
@@ -86,7 +80,7 @@ chain-falls table ranks falls (more l rest) = omega (arith, falls _ _ l, chain-f
 -- A sequence whose rank is above the ranks of its members does not reach itself.
 pub falls-none : (table : List Sequence) (ranks : List ℕ) (fxy : ℕ) → Falls table ranks → IsAbove table ranks fxy (rank_of ranks fxy) → ReachesItself table fxy → ⊥
 falls-none table ranks fxy falls above (one l) = absurd (omega (arith, above _ l))
-falls-none table ranks fxy falls above (more l rest) = absurd (omega (arith, above _ l, chain-falls table ranks falls rest))
+falls-none table ranks fxy falls above (more l rest) = absurd (omega (arith, chain-falls table ranks falls rest))
 
 -- The ranks of the first `count` members of a sequence are below a limit. `FallsFirst` says this of
 -- all members of the first sequences of the file.
@@ -99,7 +93,7 @@ above-all table ranks fxy rank count members same above all to l =
     let listed = listed-leads table fxy to l in
     let inside : listed.place < length members = rw same listed.inside in
     let at : slice_index members listed.place ≡ to = rw same listed.at in
-    rw at at (above listed.place (omega (arith, inside, all)) inside (rw at listed.sequence))
+    rw at at (above listed.place (omega (arith, inside)) inside (rw at listed.sequence))
 
 abbrev pub FallsFirst : List Sequence → List ℕ → ℕ → Type 0
 FallsFirst table ranks count = (k : ℕ) → k < count → k < length table → IsAbove table ranks (slice_index (fxys_of table) k) (rank_of ranks (slice_index (fxys_of table) k) + 1)
@@ -246,8 +240,7 @@ place-in (s ∷ table) fxy some = by (s.fxy == fxy) refl some (place-in table fx
 pub falls-all : (table : List Sequence) (ranks : List ℕ) (count : ℕ) → FallsFirst table ranks count → length table ≤ count → Falls table ranks
 falls-all table ranks count falls all fxy to l =
     let (k, inside, at) = place-in table fxy (chain-sequence table (one l)) in
-    let above = rw at at (falls k (omega arith) inside) in
-    above to l
+    (rw at at (falls k (omega arith) inside)) to l
 
 -- the sequences before index `place`, none of which reaches itself
 module _ (table : List Sequence) (place : ℕ) (was : IsPassed table place) where
@@ -275,13 +268,11 @@ module _ (table : List Sequence) (place : ℕ) (was : IsPassed table place) wher
 
   -- No sequence reaches itself.
   pub passed-all : length table ≤ place → (fxy : ℕ) → ¬ ReachesItself table fxy
-  passed-all all fxy chain =
-      let (k, inside, at) = place-in table fxy (chain-sequence table chain) in
-      was k (omega arith) inside (rw at chain)
+  passed-all all fxy chain = grind (arith, place-in, chain-sequence)
 
 -- The members of the next sequence have no greater rank than the sequence.
 pub falls-more : (table : List Sequence) (ranks : List ℕ) (place fxy limit : ℕ) → FallsFirst table ranks place → fxy ≡ slice_index (fxys_of table) place
     → IsAbove table ranks fxy limit → limit ≤ rank_of ranks fxy + 1 → FallsFirst table ranks (place + 1)
 falls-more table ranks place fxy limit falls at above most =
     below_more (λ k. k < length table → IsAbove table ranks (slice_index (fxys_of table) k) (rank_of ranks (slice_index (fxys_of table) k) + 1)) place falls
-    (λ inside. rw (← at) (λ to l. let h = above to l in omega arith))
+    (λ inside. rw (← at) (λ to l. omega arith))

@@ -1,7 +1,7 @@
 -- Steps of the expansion: trees, cells that are converted back to trees, and one part at a time.
 use Rattle.std.proofs.lemmas.Grind.{common_steps}
-use Rattle.std.proofs.Common.{◌≡◌, max, Bool, true, false, ◌||◌, refl, ◌∙◌, ap, arith, ℕ, zero, suc, ◌+◌, ◌-◌, ◌<◌, List, [], ◌∷◌, drop, Option, Some, None, Result, Ok, Err, sym, sub-one, ◌++◌, length, subst, append_assoc, ◌≤◌, set, ◌≢◌, take, if◌then◌else◌, ◌==◌, ok_or}
-use Rattle.bufr_tables.specs.Prelude.{Tree, bare, element, operator, fixed, delayed, join, depth, consumes, is_inserted_text, gives_width, size, places, TemplateFault, Tables, Expansion, part, ◌>>=◌, part_of, level, inner_of, ExpandedPart, unless, with_places, body_of, sequence_part, element_part, group_part, operator_part, delayed_part, Cell, first_tree, cells_of, factor_first, prepend_cell, read_cells, trees_of_cells, AreCellsOf, IsTemplate, own_places, group_of, first_cell, factor_cells, BuilderModel, growth, places_so_far, push_tree, with_open_group, with_closed_group, PushesTree, PushesPart, IsFaultOrMemory, PushesTreeUnlessMemory, GivesPart, GivesGrowth, OpensGroup, f_of, x_of, y_of}
+use Rattle.std.proofs.Common.{◌≡◌, max, Bool, true, false, ◌||◌, refl, ◌∙◌, ap, arith, ℕ, zero, suc, ◌+◌, ◌-◌, ◌<◌, List, [], ◌∷◌, drop, Option, Some, None, Result, Ok, Err, sym, sub-one, ◌++◌, length, subst, append_assoc, ◌≤◌, set, ◌≢◌, take, if◌then◌else◌, ◌==◌, ok_or, rules}
+use Rattle.bufr_tables.specs.Prelude.{Tree, bare, element, operator, fixed, delayed, join, depth, consumes, is_inserted_text, gives_width, size, places, TemplateFault, Tables, Expansion, part, ◌>>=◌, part_of, level, inner_of, ExpandedPart, unless, with_places, body_of, sequence_part, element_part, group_part, operator_part, delayed_part, Cell, first_tree, cells_of, read_cells, trees_of_cells, AreCellsOf, IsTemplate, own_places, group_of, first_cell, factor_cells, BuilderModel, growth, places_so_far, push_tree, with_open_group, with_closed_group, PushesTree, PushesPart, IsFaultOrMemory, PushesTreeUnlessMemory, GivesPart, GivesGrowth, OpensGroup, f_of, x_of, y_of}
 use Rattle.std.proofs.lemmas.List.{append-nil, length-append}
 use Rattle.std.proofs.lemmas.Bool.Decides.{nat_tests}
 use Rattle.std.proofs.Math.Seq.{set-append_seam}
@@ -14,17 +14,17 @@ use Rattle.bufr_tables.specs.declared.fault.TemplateFault.TheVariants as fault
 
 pub join_assoc : (a b c : Tree) → join (join a b) c ≡ join a (join b c)
 join_assoc bare b c = refl
-join_assoc (element fxy rest) b c = ap (element fxy) (join_assoc rest b c)
-join_assoc (operator fxy rest) b c = ap (operator fxy) (join_assoc rest b c)
-join_assoc (fixed count body rest) b c = ap (fixed count body) (join_assoc rest b c)
-join_assoc (delayed factor body rest) b c = ap (delayed factor body) (join_assoc rest b c)
+join_assoc (element fxy rest) b c = cc (join_assoc rest b c)
+join_assoc (operator fxy rest) b c = cc (join_assoc rest b c)
+join_assoc (fixed count body rest) b c = cc (join_assoc rest b c)
+join_assoc (delayed factor body rest) b c = cc (join_assoc rest b c)
 
 pub join-bare : (a : Tree) → join a bare ≡ a
 join-bare bare = refl
-join-bare (element fxy rest) = ap (element fxy) (join-bare rest)
-join-bare (operator fxy rest) = ap (operator fxy) (join-bare rest)
-join-bare (fixed count body rest) = ap (fixed count body) (join-bare rest)
-join-bare (delayed factor body rest) = ap (delayed factor body) (join-bare rest)
+join-bare (element fxy rest) = rw (join-bare rest) refl
+join-bare (operator fxy rest) = cc (join-bare rest)
+join-bare (fixed count body rest) = cc (join-bare rest)
+join-bare (delayed factor body rest) = cc (join-bare rest)
 
 pub depth-join : (a b : Tree) → depth (join a b) ≡ max (depth a) (depth b)
 depth-join bare b = omega arith
@@ -69,39 +69,34 @@ pub level-part : (tables : Tables) (inner : Option Expansion) (given : Bool) (pl
     → part_of tables inner given places d after ≡ Ok (part tree taken)
     → level tables inner given 0 places (d ∷ after) ≡ prefixed tree (level tables inner (gives_width d) 0 (places + size tree) (drop taken after))
 unfolding level
-level-part tables inner given places d after tree taken h = grind (arith, common_steps, level-skip)
+level-part tables inner given places d after tree taken h = grind (arith, level-skip)
 
 pub level-fault : (tables : Tables) (inner : Option Expansion) (given : Bool) (places d : ℕ) (after : List ℕ) (why : TemplateFault) → part_of tables inner given places d after ≡ Err why
     → level tables inner given 0 places (d ∷ after) ≡ Err why
 unfolding level
-level-fault tables inner given places d after why h = grind (arith, common_steps)
+level-fault tables inner given places d after why h = cc
 
 pub inner_of-room : (tables : Tables) (room : ℕ) → 0 < room → inner_of tables room ≡ Some (level tables (inner_of tables (room - 1)) false 0)
 unfolding inner_of
 inner_of-room tables zero h = absurd (omega arith)
-inner_of-room tables (suc room) h = ap (λ r. Some (level tables (inner_of tables r) false 0)) (sym (sub-one (suc room)))
+inner_of-room tables (suc room) h = simp sub-one
 
 pub inner_of-none : (tables : Tables) (room : ℕ) → room ≡ 0 → inner_of tables room ≡ None
 unfolding inner_of
-inner_of-none tables zero h = refl
-inner_of-none tables (suc room) h = absurd (omega arith)
+inner_of-none tables room h = cc
 
 -- ---- Cells are converted back to the tree that they represent.
 
 read_flattened : (t : Tree) (at : ℕ) (tail : List Cell) (x : Tree) (xs : List Tree) → read_cells tail ≡ x ∷ xs → read_cells (cells_of t at tail) ≡ join t x ∷ xs
 read_flattened bare at tail x xs h = h
-read_flattened (element fxy more) at tail x xs h = ap (prepend_cell (cell.Element fxy) (factor_first (cells_of more (at + 1) tail))) (read_flattened more (at + 1) tail x xs h)
-read_flattened (operator fxy more) at tail x xs h = ap (prepend_cell (cell.Operator fxy) (factor_first (cells_of more (at + 1) tail))) (read_flattened more (at + 1) tail x xs h)
+read_flattened (element fxy more) at tail x xs h = cc (read_flattened more (at + 1) tail x xs h)
+read_flattened (operator fxy more) at tail x xs h = cc (read_flattened more (at + 1) tail x xs h)
 read_flattened (fixed n body more) at tail x xs h =
     let suffix : List Cell = cell.PassEnd ∷ cells_of more (at + 2 + size body) tail in
-    ap (prepend_cell (cell.Fixed n (at + 2 + size body)) (factor_first (cells_of body (at + 1) suffix)))
-    (read_flattened body (at + 1) suffix bare (join more x ∷ xs) (ap (λ ts. bare ∷ ts) (read_flattened more (at + 2 + size body) tail x xs h)))
-    ∙ ap (λ b. fixed n b (join more x) ∷ xs) (join-bare body)
+    grind (arith, read_flattened body (at + 1) suffix bare (join more x ∷ xs) (ap (λ ts. bare ∷ ts) (read_flattened more (at + 2 + size body) tail x xs h)), join-bare)
 read_flattened (delayed fxy body more) at tail x xs h =
     let suffix : List Cell = cell.PassEnd ∷ cells_of more (at + 3 + size body) tail in
-    ap (prepend_cell (cell.Delayed (at + 3 + size body)) fxy) (read_flattened body (at + 2) suffix bare (join more x ∷ xs)
-    (ap (λ ts. bare ∷ ts) (read_flattened more (at + 3 + size body) tail x xs h)))
-    ∙ ap (λ b. delayed fxy b (join more x) ∷ xs) (join-bare body)
+    grind (arith, read_flattened body (at + 2) suffix bare (join more x ∷ xs) (ap (λ ts. bare ∷ ts) (read_flattened more (at + 3 + size body) tail x xs h)), join-bare)
 
 pub raised_cells : (t : Tree) → trees_of_cells (cells_of t 0 (cell.Finish ∷ [])) ≡ t
 raised_cells t = ap first_tree (read_flattened t 0 (cell.Finish ∷ []) bare [] refl) ∙ join-bare t
@@ -110,7 +105,7 @@ pub raised_flattened : (cells : List Cell) (t : Tree) → AreCellsOf cells t →
 raised_flattened cells t h = ap trees_of_cells h.flattened ∙ raised_cells t
 
 pub kept_raised : (cells : List Cell) (depth_reported : ℕ) (t : Tree) → IsTemplate cells depth_reported t → IsTemplate cells depth_reported (trees_of_cells cells)
-kept_raised cells depth_reported t h = subst (IsTemplate cells depth_reported) (sym (raised_flattened cells t h.is_flattened)) h
+kept_raised cells depth_reported t h = grind (arith, raised_flattened)
 
 pub length-cells : (t : Tree) (at : ℕ) (tail : List Cell) → length (cells_of t at tail) ≡ size t + length tail
 length-cells bare at tail = omega arith
@@ -136,12 +131,10 @@ pub cells-tail : (t : Tree) (at : ℕ) (tail : List Cell) → cells_of t at tail
 cells-tail bare at tail = refl
 cells-tail (element fxy more) at tail = ap (λ l. cell.Element fxy ∷ l) (cells-tail more (at + 1) tail)
 cells-tail (operator fxy more) at tail = ap (λ l. cell.Operator fxy ∷ l) (cells-tail more (at + 1) tail)
-cells-tail (fixed n body more) at tail =
-    ap (λ l. cell.Fixed n (at + 2 + size body) ∷ l)
-    (cells_group body (at + 1) (cells_of more (at + 2 + size body) []) tail (cells_of more (at + 2 + size body) tail) (cells-tail body (at + 1)) (cells-tail more (at + 2 + size body) tail))
-cells-tail (delayed fxy body more) at tail =
-    ap (λ l. cell.Delayed (at + 3 + size body) ∷ cell.Factor fxy ∷ l)
-    (cells_group body (at + 2) (cells_of more (at + 3 + size body) []) tail (cells_of more (at + 3 + size body) tail) (cells-tail body (at + 2)) (cells-tail more (at + 3 + size body) tail))
+cells-tail (fixed n body more) at tail = cc (cells_group body (at + 1) (cells_of more (at + 2 + size body) []) tail (cells_of more (at + 2 + size body) tail) (cells-tail body (at + 1))
+    (cells-tail more (at + 2 + size body) tail))
+cells-tail (delayed fxy body more) at tail = cc (cells_group body (at + 2) (cells_of more (at + 3 + size body) []) tail (cells_of more (at + 3 + size body) tail) (cells-tail body (at + 2))
+    (cells-tail more (at + 3 + size body) tail))
 
 pub cells-join : (a b : Tree) (at : ℕ) (tail : List Cell) → cells_of (join a b) at tail ≡ cells_of a at (cells_of b (at + size a) tail)
 cells-join bare b at tail = ap (λ k. cells_of b k tail) (omega arith)
@@ -157,7 +150,7 @@ cells-join (delayed fxy body more) b at tail =
 -- ---- Cells that are followed by more cells.
 
 pub same_growth : (c c' : List Cell) (n n' d d' : ℕ) (f f' : Bool) → c ≡ c' → n ≡ n' → d ≡ d' → f ≡ f' → growth c n d f ≡ growth c' n' d' f'
-same_growth c c' n n' d d' f f' p q r s = ap (λ x. growth x n d f) p ∙ ap (λ x. growth c' x d f) q ∙ ap (λ x. growth c' n' x f) r ∙ ap (growth c' n' d') s
+same_growth c c' n n' d d' f f' p q r s = cc
 
 or_false : (a : Bool) → a ≡ (a || false)
 or_false true = refl
@@ -171,32 +164,30 @@ pub length-grow : (g : BuilderModel) (t : Tree) → length (push_tree g t).cells
 length-grow g t = omega (arith, length-append g.cells (cells_of t (length g.cells) []), length-cells t (length g.cells) [])
 
 pub places_of-grow : (g : BuilderModel) (t : Tree) → places_so_far (push_tree g t) ≡ places_so_far g + size t
-places_of-grow g t = omega (arith, length-grow g t)
+places_of-grow g t = omega (arith, length-grow)
 
 pub grow-bare : (g : BuilderModel) → g.groups ≤ g.deep → g ≡ push_tree g bare
-grow-bare g h = same_growth g.cells (g.cells ++ []) g.groups g.groups g.deep (max g.deep (g.groups + 0)) g.full (g.full || false) (sym (append-nil g.cells)) refl (omega arith) (or_false g.full)
+grow-bare g h = search (rules, same_growth, append-nil, or_false)
 
 pub grow-grow : (g : BuilderModel) (a b : Tree) → push_tree (push_tree g a) b ≡ push_tree g (join a b)
-grow-grow g a b = grind (arith, common_steps, same_growth, append_assoc, length-grow, cells-tail, cells-join, depth-join, or_assoc, consumes-join)
+grow-grow g a b = grind (arith, append_assoc, length-grow, cells-tail, cells-join, depth-join, consumes-join)
 
 -- The code's cells for a group, of which the first is set last, are those of the definition.
 group_cells : (cells : List Cell) (p : Passes) (body : Tree) (place : ℕ) → place ≡ length cells
     → set (((cells ++ first_cell p 0 ∷ factor_cells p) ++ cells_of body (length (cells ++ first_cell p 0 ∷ factor_cells p)) []) ++ cell.PassEnd ∷ []) place
     (first_cell p (length cells + own_places p + size body))
     ≡ cells ++ cells_of (group_of p body) (length cells) []
-group_cells cells (passes.Fixed count) body place e = grind (arith, common_steps, length-append, set, append_assoc, set-append_seam, cells-tail)
-group_cells cells (passes.Delayed factor) body place e = grind (arith, common_steps, length-append, set, append_assoc, set-append_seam, cells-tail)
+group_cells cells p body place e = search (rules, length-append, append_assoc, set-append_seam, cells-tail)
 
 pub length-begun : (g : BuilderModel) (p : Passes) → length (with_open_group g p).cells + 1 ≡ length g.cells + own_places p
-length-begun g (passes.Fixed count) = omega (arith, length-append g.cells (cell.Fixed count 0 ∷ []))
-length-begun g (passes.Delayed factor) = omega (arith, length-append g.cells (cell.Delayed 0 ∷ cell.Factor factor ∷ []))
+length-begun g p = grind (arith, common_steps)
 
 group_depth : (p : Passes) (body : Tree) → depth (group_of p body) ≡ 1 + depth body
 group_depth (passes.Fixed count) body = omega arith
 group_depth (passes.Delayed factor) body = omega arith
 
 group_consumes : (p : Passes) (body : Tree) → consumes body ≡ true → true ≡ consumes (group_of p body)
-group_consumes (passes.Fixed count) body h = sym h ∙ or_false (consumes body)
+group_consumes (passes.Fixed count) body h = cc
 group_consumes (passes.Delayed factor) body h = refl
 
 -- A group is opened, its body takes bits, and the group is closed.
@@ -207,10 +198,10 @@ ended-begun g p body place e full =
     (with_closed_group (push_tree (with_open_group g p) body) place p).groups g.groups (with_closed_group (push_tree (with_open_group g p) body) place p).deep (push_tree g (group_of p body)).deep
     (with_closed_group (push_tree (with_open_group g p) body) place p).full (push_tree g (group_of p body)).full
     (ap (λ k. set ((push_tree (with_open_group g p) body).cells ++ cell.PassEnd ∷ []) place (first_cell p k))
-    (let n : length (push_tree (with_open_group g p) body).cells + 1 ≡ length g.cells + own_places p + size body = omega (arith, length-grow (with_open_group g p) body, length-begun g p) in n)
+    ((omega (arith, length-grow, length-begun)))
     ∙ group_cells g.cells p body place e)
     (omega arith)
-    (omega (arith, group_depth p body))
+    (omega (arith, group_depth))
     (full ∙ or_true g.full ∙ ap (λ c. g.full || c) (group_consumes p body full))
 
 -- ---- The definition of one part, given what the code has found out.
@@ -233,17 +224,17 @@ by_f tables inner given places d after f =
 pub part-element : (tables : Tables) (inner : Option Expansion) (given : Bool) (places d : ℕ) (after : List ℕ) (f : ℕ) → f ≡ f_of d → f ≡ 0
     → element_part tables given places d ≡ part_of tables inner given places d after
 unfolding part_of
-part-element tables inner given places d after f e h = ap (by_f tables inner given places d after) (sym h ∙ e)
+part-element tables inner given places d after f e h = cc
 
 pub part-group : (tables : Tables) (inner : Option Expansion) (given : Bool) (places d : ℕ) (after : List ℕ) (f : ℕ) → f ≡ f_of d → f ≡ 1
     → group_part tables inner places d after ≡ part_of tables inner given places d after
 unfolding part_of
-part-group tables inner given places d after f e h = ap (by_f tables inner given places d after) (sym h ∙ e)
+part-group tables inner given places d after f e h = cc
 
 pub part-operator : (tables : Tables) (inner : Option Expansion) (given : Bool) (places d : ℕ) (after : List ℕ) (f : ℕ) → f ≡ f_of d → f ≡ 2
     → operator_part places d after ≡ part_of tables inner given places d after
 unfolding part_of
-part-operator tables inner given places d after f e h = ap (by_f tables inner given places d after) (sym h ∙ e)
+part-operator tables inner given places d after f e h = cc
 
 other_part : (tables : Tables) (inner : Option Expansion) (given : Bool) (places d : ℕ) (after : List ℕ) (f : ℕ) → f ≢ 0 → f ≢ 1 → f ≢ 2
     → sequence_part tables inner places d ≡ by_f tables inner given places d after f
@@ -256,7 +247,7 @@ other_part tables inner given places d after f h0 h1 h2 =
 pub part-sequence : (tables : Tables) (inner : Option Expansion) (given : Bool) (places d : ℕ) (after : List ℕ) (f : ℕ) → f ≡ f_of d → f ≢ 0 → f ≢ 1 → f ≢ 2
     → sequence_part tables inner places d ≡ part_of tables inner given places d after
 unfolding part_of
-part-sequence tables inner given places d after f e h0 h1 h2 = other_part tables inner given places d after f h0 h1 h2 ∙ ap (by_f tables inner given places d after) e
+part-sequence tables inner given places d after f e h0 h1 h2 = cc (other_part tables inner given places d after f h0 h1 h2, e)
 
 -- the remaining steps for a body, once its depth is known to be allowed
 abbrev pub opened_body : Expansion → (places own d : ℕ) → List ℕ → Result Tree TemplateFault
@@ -265,7 +256,7 @@ opened_body expand places own d after =
 
 body_fits : (inner : Option Expansion) (places own d : ℕ) (after : List ℕ) → x_of d ≤ length after
     → body_of inner places own d after ≡ (ok_or inner (fault.Depth d) >>= λ expand. opened_body expand places own d after)
-body_fits inner places own d after h = grind (arith, common_steps)
+body_fits inner places own d after h = grind arith
 
 -- the expansion of a body, if `room` allows another level
 abbrev pub within : Tables → ℕ → Expansion
@@ -273,46 +264,45 @@ within tables room = level tables (inner_of tables (room - 1)) false 0
 
 body_open : (tables : Tables) (room places own d : ℕ) (after : List ℕ) → 0 < room → x_of d ≤ length after
     → body_of (inner_of tables room) places own d after ≡ opened_body (within tables room) places own d after
-body_open tables room places own d after r h = grind (arith, common_steps, body_fits, inner_of-room)
+body_open tables room places own d after r h = simp (body_fits, inner_of-room)
 
 pub body-depth : (tables : Tables) (room places own d : ℕ) (after : List ℕ) → room ≡ 0 → x_of d ≤ length after → body_of (inner_of tables room) places own d after ≡ Err (fault.Depth d)
-body-depth tables room places own d after r h = grind (arith, common_steps, body_fits, inner_of-none)
+body-depth tables room places own d after r h = simp (body_fits, inner_of-none)
 
 pub body-places : (tables : Tables) (room places own d : ℕ) (after : List ℕ) (why : TemplateFault) → 0 < room → x_of d ≤ length after → with_places places own d ≡ Err why
     → body_of (inner_of tables room) places own d after ≡ Err why
-body-places tables room places own d after why r h e = grind (arith, common_steps, body_open)
+body-places tables room places own d after why r h e = grind (arith, body_open)
 
 body_room : (tables : Tables) (room places own d : ℕ) (after : List ℕ) → 0 < room → x_of d ≤ length after → with_places places own d ≡ Ok tt
     → body_of (inner_of tables room) places own d after ≡ (within tables room (places + own) (take (x_of d) after) >>= λ body. unless (consumes body) (fault.EmptyGroup d) >>= λ _. Ok body)
-body_room tables room places own d after r h e = grind (arith, common_steps, body_open)
+body_room tables room places own d after r h e = grind (arith, body_open)
 
 pub body-fault : (tables : Tables) (room places own d : ℕ) (after : List ℕ) (why : TemplateFault) → 0 < room → x_of d ≤ length after → with_places places own d ≡ Ok tt
     → within tables room (places + own) (take (x_of d) after) ≡ Err why → body_of (inner_of tables room) places own d after ≡ Err why
-body-fault tables room places own d after why r h e f = grind (arith, common_steps, body_room)
+body-fault tables room places own d after why r h e f = grind (arith, body_room)
 
 pub body-empty : (tables : Tables) (room places own d : ℕ) (after : List ℕ) (tree : Tree) → 0 < room → x_of d ≤ length after → with_places places own d ≡ Ok tt
     → within tables room (places + own) (take (x_of d) after) ≡ Ok tree → consumes tree ≡ false → body_of (inner_of tables room) places own d after ≡ Err (fault.EmptyGroup d)
-body-empty tables room places own d after tree r h e f empty = grind (arith, common_steps, body_room)
+body-empty tables room places own d after tree r h e f empty = grind (arith, body_room)
 
 pub body-ok : (tables : Tables) (room places own d : ℕ) (after : List ℕ) (tree : Tree) → 0 < room → x_of d ≤ length after → with_places places own d ≡ Ok tt
     → within tables room (places + own) (take (x_of d) after) ≡ Ok tree → consumes tree ≡ true → body_of (inner_of tables room) places own d after ≡ Ok tree
-body-ok tables room places own d after tree r h e f full = grind (arith, common_steps, body_room)
+body-ok tables room places own d after tree r h e f full = grind (arith, body_room)
 
 sequence_listed : (tables : Tables) (inner : Option Expansion) (places d : ℕ) (members : List ℕ) → tables.members d ≡ Some members
     → sequence_part tables inner places d ≡ (ok_or inner (fault.Depth d) >>= λ expand. expand places members >>= λ tree. Ok (part tree 0))
-sequence_listed tables inner places d members e = grind (arith, common_steps)
+sequence_listed tables inner places d members e = cc
 
 pub sequence-depth : (tables : Tables) (room places d : ℕ) (members : List ℕ) → room ≡ 0 → tables.members d ≡ Some members → sequence_part tables (inner_of tables room) places d ≡ Err (fault.Depth d)
-sequence-depth tables room places d members r e = grind (arith, common_steps, sequence_listed, inner_of-none)
+sequence-depth tables room places d members r e = grind (arith, inner_of-none)
 
 sequence_open : (tables : Tables) (room places d : ℕ) (members : List ℕ) → 0 < room → tables.members d ≡ Some members
     → sequence_part tables (inner_of tables room) places d ≡ (within tables room places members >>= λ tree. Ok (part tree 0))
-sequence_open tables room places d members r e = grind (arith, common_steps, sequence_listed, inner_of-room)
+sequence_open tables room places d members r e = grind (arith, inner_of-room)
 
 pub sequence-fault : (tables : Tables) (room places d : ℕ) (members : List ℕ) (why : TemplateFault) → 0 < room → tables.members d ≡ Some members
     → IsFaultOrMemory (within tables room places members) why → IsFaultOrMemory (sequence_part tables (inner_of tables room) places d) why
-sequence-fault tables room places d members why r e refuses other =
-    sequence_open tables room places d members r e ∙ ap (λ z. z >>= λ tree. Ok (part tree 0)) (refuses other)
+sequence-fault tables room places d members why r e refuses other = cc (sequence_open tables room places d members r e, refuses other)
 
 pub sequence-ok : (tables : Tables) (room d : ℕ) (members : List ℕ) (old new : BuilderModel) → 0 < room → tables.members d ≡ Some members
     → PushesTree old (within tables room (places_so_far old) members) new → PushesPart old (sequence_part tables (inner_of tables room) (places_so_far old) d) 0 new
@@ -327,12 +317,11 @@ abbrev pub grouped : Tables → ℕ → Passes → (places d : ℕ) → List ℕ
 grouped tables room p places d after = body_of (inner_of tables room) places (own_places p) d after >>= λ body. Ok (group_of p body)
 
 pub group-depth : (tables : Tables) (room : ℕ) (p : Passes) (places d : ℕ) (after : List ℕ) → room ≡ 0 → x_of d ≤ length after → grouped tables room p places d after ≡ Err (fault.Depth d)
-group-depth tables room p places d after r h = ap (λ z. z >>= λ body. Ok (group_of p body)) (body-depth tables room places (own_places p) d after r h)
+group-depth tables room p places d after r h = grind (arith, body-depth)
 
 pub group-places : (tables : Tables) (room : ℕ) (p : Passes) (places d : ℕ) (after : List ℕ) (why : TemplateFault) → 0 < room → x_of d ≤ length after
     → IsFaultOrMemory (with_places places (own_places p) d) why → IsFaultOrMemory (grouped tables room p places d after) why
-group-places tables room p places d after why r h refuses other =
-    ap (λ z. z >>= λ body. Ok (group_of p body)) (body-places tables room places (own_places p) d after why r h (refuses other))
+group-places tables room p places d after why r h refuses other = cc (body-places tables room places (own_places p) d after why r h (refuses other))
 
 -- The code expands the same body list as the definition.
 same_list : (tables : Tables) (room : ℕ) (p : Passes) (d place : ℕ) (after : List ℕ) (old begun_one : BuilderModel) (count x : ℕ) (list : List ℕ) → OpensGroup old p d place begun_one
@@ -344,18 +333,18 @@ pub group-list-fault : (tables : Tables) (room : ℕ) (p : Passes) (d place : �
     → x_of d ≤ length after → OpensGroup old p d place begun_one → list ≡ take count after → count ≡ x → x ≡ x_of d
     → IsFaultOrMemory (level tables (inner_of tables (room - 1)) false 0 (places_so_far begun_one) list) why → IsFaultOrMemory (grouped tables room p (places_so_far old) d after) why
 group-list-fault tables room p d place after old begun_one why count x list r h begins el ec ex refuses other =
-    ap (λ z. z >>= λ body. Ok (group_of p body))
-    (body-fault tables room (places_so_far old) (own_places p) d after why r h begins.is_left (sym (same_list tables room p d place after old begun_one count x list begins el ec ex) ∙ refuses other))
+    cc (body-fault tables room (places_so_far old) (own_places p) d after why r h begins.is_left
+    (sym (same_list tables room p d place after old begun_one count x list begins el ec ex) ∙ refuses other))
 
 -- The code and the definition agree on whether the body takes bits.
 same_full : (old begun_one new : BuilderModel) (p : Passes) (d place : ℕ) (tree : Tree) → OpensGroup old p d place begun_one → new ≡ push_tree begun_one tree → new.full ≡ consumes tree
-same_full old begun_one new p d place tree begins e = ap (λ (g : BuilderModel). g.full) e ∙ ap (λ (g : BuilderModel). (push_tree g tree).full) begins.is_begun
+same_full old begun_one new p d place tree begins e = rw (e, begins.is_begun)
 
 pub group-list-empty : (tables : Tables) (room : ℕ) (p : Passes) (d place : ℕ) (after : List ℕ) (old begun_one new : BuilderModel) (count x : ℕ) (list : List ℕ) → 0 < room → x_of d ≤ length after
     → OpensGroup old p d place begun_one → list ≡ take count after → count ≡ x → x ≡ x_of d
     → PushesTree begun_one (level tables (inner_of tables (room - 1)) false 0 (places_so_far begun_one) list) new → new.full ≡ false
     → grouped tables room p (places_so_far old) d after ≡ Err (fault.EmptyGroup d)
-group-list-empty tables room p d place after old begun_one new count x list r h begins el ec ex puts empty = grind (arith, common_steps, body-empty, same_list, same_full)
+group-list-empty tables room p d place after old begun_one new count x list r h begins el ec ex puts empty = grind (arith, body-empty, same_list)
 
 same_ok : (a b : BuilderModel) → ◌≡◌ {A = Result BuilderModel TemplateFault} (Ok a) (Ok b) → a ≡ b
 same_ok a b h = cc
@@ -379,18 +368,17 @@ pub group-closed : (tables : Tables) (room : ℕ) (p : Passes) (d place : ℕ) (
     (answer : Result (Unit {0}) TemplateFault) → 0 < room → x_of d ≤ length after → OpensGroup old p d place begun_one → list ≡ take count after → count ≡ x → x ≡ x_of d
     → PushesTree begun_one (level tables (inner_of tables (room - 1)) false 0 (places_so_far begun_one) list) new → new.full ≡ true → GivesGrowth (Ok (with_closed_group new place p)) answer last
     → PushesTreeUnlessMemory old (grouped tables room p (places_so_far old) d after) answer last
-group-closed tables room p d place after old begun_one new last count x list (Ok done) r h begins el ec ex puts full is_ended =
-    group-list-ok tables room p d place after old begun_one new last count x list r h begins el ec ex puts full (same_ok (with_closed_group new place p) last is_ended)
+group-closed tables room p d place after old begun_one new last count x list (Ok done) r h begins el ec ex puts full is_ended = search (rules, group-list-ok, same_ok)
 group-closed tables room p d place after old begun_one new last count x list (Err why) r h begins el ec ex puts full refuses = λ other. absurd (let e = refuses other in cc)
 
 -- A replication with Y = 0 is a delayed one.
 pub group-delayed : (tables : Tables) (inner : Option Expansion) (places d x y : ℕ) (after : List ℕ) → x ≡ x_of d → 0 < x → y ≡ y_of d → y ≤ 0
     → delayed_part tables inner places d after ≡ group_part tables inner places d after
-group-delayed tables inner places d x y after ex some ey none = let zero_passes : y_of d ≡ 0 = omega arith in let more : 0 < x_of d = omega arith in grind (arith, common_steps, nat_tests)
+group-delayed tables inner places d x y after ex some ey none = search (rules, nat_tests)
 
 pub group-fixed-fault : (tables : Tables) (inner : Option Expansion) (places d y : ℕ) (after : List ℕ) (why : TemplateFault) → 0 < x_of d → 0 < y_of d
     → (body_of inner places 2 d after >>= λ body. Ok (group_of (passes.Fixed y) body)) ≡ Err why → group_part tables inner places d after ≡ Err why
-group-fixed-fault tables inner places d y after why some more e = grind (arith, common_steps)
+group-fixed-fault tables inner places d y after why some more e = grind arith
 
 -- ---- The progress of the expansion of one list.
 
@@ -419,8 +407,7 @@ came_part tables inner list start given d after now taken next came puts = recor
 pub came_fault : (tables : Tables) (inner : Option Expansion) (list : List ℕ) (start : BuilderModel) (given : Bool) (d : ℕ) (after : List ℕ) (now : BuilderModel) (why : TemplateFault)
     → Came tables inner list start given (d ∷ after) now → IsFaultOrMemory (part_of tables inner given (places_so_far now) d after) why
     → IsFaultOrMemory (level tables inner false 0 (places_so_far start) list) why
-came_fault tables inner list start given d after now why came refuses other =
-    came.leads ∙ ap (prefixed came.tree) (level-fault tables inner given (places_so_far now) d after why (refuses other))
+came_fault tables inner list start given d after now why came refuses other = cc (came.leads, level-fault tables inner given (places_so_far now) d after why (refuses other))
 
 no_rest : (rest : List ℕ) → length rest ≡ 0 → rest ≡ []
 no_rest [] h = refl
@@ -428,7 +415,7 @@ no_rest (d ∷ after) h = absurd (omega arith)
 
 end_level : (tables : Tables) (inner : Option Expansion) (given : Bool) (places : ℕ) (rest : List ℕ) → length rest ≡ 0 → level tables inner given 0 places rest ≡ Ok bare
 unfolding level
-end_level tables inner given places rest h = ap (level tables inner given 0 places) (no_rest rest h)
+end_level tables inner given places rest h = cc (no_rest rest h)
 
 pub came_end : (tables : Tables) (inner : Option Expansion) (list : List ℕ) (start : BuilderModel) (given : Bool) (rest : List ℕ) (now : BuilderModel) → length rest ≡ 0
     → Came tables inner list start given rest now → PushesTree start (level tables inner false 0 (places_so_far start) list) now

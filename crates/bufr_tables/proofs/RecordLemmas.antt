@@ -1,6 +1,6 @@
 -- Steps of a record reader, its rows and its numbers.
 use Rattle.std.proofs.lemmas.Grind.{common_steps}
-use Rattle.std.proofs.Common.{◌≡◌, ℕ, neg_ℤ, ◌+◌, ◌^◌, ◌<◌, ◌≤◌, Bool, true, false, List, [], ◌∷◌, ◌++◌, length, Option, Some, None, refl, ap, ◌∙◌, add-one, arith, suc, zero, Bor, inl, inr, sym, drop, get_or, Result, Ok, Err, ◌≢◌, ◌-◌, ◌*◌, min, take, ℤ, pos, option_map, IsSome, if◌then◌else◌, ◌==◌, ◌&&◌, not, option_and_then}
+use Rattle.std.proofs.Common.{◌≡◌, ℕ, neg_ℤ, ◌+◌, ◌^◌, ◌<◌, ◌≤◌, Bool, true, false, List, [], ◌∷◌, length, Option, Some, None, refl, ap, ◌∙◌, add-one, arith, suc, zero, Bor, sym, drop, get_or, Result, Ok, Err, ◌≢◌, ◌-◌, ◌*◌, min, take, ℤ, pos, option_map, IsSome, if◌then◌else◌, ◌==◌, ◌&&◌, not, option_and_then, rules}
 use Rattle.std.proofs.lemmas.Bool.{cases_Bool}
 use Rattle.std.proofs.lemmas.Option.{same_Some}
 use Rattle.std.proofs.lemmas.Bool.Decides.{nat_tests}
@@ -11,7 +11,7 @@ use Rattle.std.specs.Char.{digit_value, is_ascii_digit}
 use Rattle.std.specs.List.{list_all}
 use Rattle.std.specs.Str.Parse.{digits_value}
 use Rattle.csv.specs.Machine.{Read, ends_at_end, fields_after, field_after, is_end, next_record, step, is_byte, in_field, start_field, start_record, ends_with, after_end}
-use Rattle.csv.specs.Reading.{NextIs, ReadRecord, ReadsNext, records_from, records_next, pending_of, default_config, is_flexible, reader_state, strip_bom, took_first}
+use Rattle.csv.specs.Reading.{NextIs, ReadRecord, ReadsNext, records_from, pending_of, default_config, is_flexible, reader_state, strip_bom, took_first}
 use Rattle.csv.specs.declared.parser.Config.{Config}
 use Rattle.csv.specs.declared.parser.State.{State}
 use Rattle.csv.specs.declared.parser.Terminator.{Terminator}
@@ -23,13 +23,12 @@ use Rattle.std.specs.Str.{bytes_eq}
 use Rattle.std.specs.Cmp.Lexicographic.{pointwise}
 use Rattle.std.proofs.lemmas.Slice.Eq.{bytes_eq-Decides, slice_eq-Decides}
 use Rattle.csv.specs.Records.{field_at}
-use Rattle.bufr_tables.specs.declared.fault.TableFault.TheVariants.{Header, Row, Duplicate, Cycle, TableSize, Csv, Memory}
-use Rattle.csv.specs.declared.parser.State.TheVariants as st
+use Rattle.bufr_tables.specs.declared.fault.TableFault.TheVariants.{Header, Cycle, Memory}
 use Rattle.csv.specs.declared.parser.Terminator.TheVariants as term
 
 -- After the octet that ends a record, no record has begun.
 after_end-between : (t : Terminator) (c : ℕ) → ends_at_end (after_end t c) ≡ false
-after_end-between term.CRLF c = elim (cases_Bool (c == 13)) [ inl e ↦ rw e refl | inr e ↦ rw e refl ]
+after_end-between term.CRLF c = grind (arith, common_steps, cases_Bool)
 after_end-between (term.Any t) c = refl
 
 -- After an action that ends the record, no record has begun.
@@ -41,8 +40,7 @@ Ends-cond true p q a b = a
 Ends-cond false p q a b = b
 
 in_field-between : (cfg : Config) (c : ℕ) → Ends (in_field cfg c)
-in_field-between cfg c =
-    Ends-cond (c == cfg.delimiter) _ _ (λ e. cc e) (Ends-cond (ends_with cfg.terminator c) _ _ (λ _. after_end-between cfg.terminator c) (λ e. cc e))
+in_field-between cfg c = search (rules, Ends-cond, after_end-between)
 
 start_field-between : (cfg : Config) (c : ℕ) → Ends (start_field cfg c)
 start_field-between cfg c = Ends-cond (cfg.quoting && (c == cfg.quote)) _ _ (λ e. cc e) (in_field-between cfg c)
@@ -52,15 +50,7 @@ start_record-between cfg c =
     Ends-cond (ends_with cfg.terminator c) _ _ (λ e. cc e) (Ends-cond (is_byte cfg.comment c) _ _ (λ e. cc e) (start_field-between cfg c))
 
 step-between : (cfg : Config) (s : State) (c : ℕ) → Ends (step cfg s c)
-step-between cfg st.StartRecord c = start_record-between cfg c
-step-between cfg st.StartField c = start_field-between cfg c
-step-between cfg st.InField c = in_field-between cfg c
-step-between cfg st.InQuoted c =
-    Ends-cond (cfg.quoting && (c == cfg.quote)) _ _ (λ e. cc e) (Ends-cond (cfg.quoting && is_byte cfg.escape c) _ _ (λ e. cc e) (λ e. cc e))
-step-between cfg st.InEscape c = λ e. cc e
-step-between cfg st.AfterQuote c = Ends-cond (cfg.quoting && cfg.double_quote && (c == cfg.quote)) _ _ (λ e. cc e) (in_field-between cfg c)
-step-between cfg st.InComment c = Ends-cond (c == 10) _ _ (λ e. cc e) (λ e. cc e)
-step-between cfg st.AfterCr c = Ends-cond (c == 10) _ _ (λ e. cc e) (start_record-between cfg c)
+step-between cfg s c = search (rules, start_record-between, in_field-between, Ends-cond)
 
 -- A read record leaves the reader between two records. If the reader was between two records
 -- before, fewer octets remain.
@@ -71,11 +61,7 @@ pub record Leaves (s : State) (xs : List ℕ) (read : Read) : Type 0 where
 
 pub next_record-leaves : (cfg : Config) (s : State) (fields : List (List ℕ)) (field xs : List ℕ) (read : Read) → next_record cfg s fields field xs ≡ Some read → Leaves s xs read
 unfolding next_record
-next_record-leaves cfg s fields field [] read is = at_end (ends_at_end s) refl is
-  where
-    at_end : (b : Bool) → ends_at_end s ≡ b → (if b then Some (fields ++ (field ∷ []), st.StartRecord, []) else None) ≡ Some read → Leaves s [] read
-    at_end true e is = let same = same_Some _ _ is in rw (← same) (record { between = refl; most = omega arith; fewer = λ none. cc (e, none) })
-    at_end false e is = cc is
+next_record-leaves cfg s fields field [] read is = search (rules, same_Some)
 next_record-leaves cfg s fields field (c ∷ xs) read is =
     by (is_end (step cfg s c).1) refl is (next_record-leaves cfg (step cfg s c).0 (fields_after (step cfg s c).1 fields field) (field_after (step cfg s c).1 c field) xs read)
   where
@@ -84,7 +70,7 @@ next_record-leaves cfg s fields field (c ∷ xs) read is =
         (field_after (step cfg s c).1 c field) xs) ≡ Some read
         → (next_record cfg (step cfg s c).0 (fields_after (step cfg s c).1 fields field) (field_after (step cfg s c).1 c field) xs ≡ Some read → Leaves (step cfg s c).0 xs read)
         → Leaves s (c ∷ xs) read
-    by true e is more = let same = same_Some _ _ is in rw (← same) (record { between = step-between cfg s c e; most = omega arith; fewer = λ _. omega arith })
+    by true e is more = rw (← (same_Some _ _ is)) (record { between = step-between cfg s c e; most = omega arith; fewer = λ _. omega arith })
     by false e is more = let h = more is in record { between = h.between; most = omega (arith, h.most); fewer = λ _. omega (arith, h.most) }
 
 -- If there are more turns than octets, their number makes no difference.
@@ -93,16 +79,7 @@ pub records_from-enough : (cfg : Config) (n m : ℕ) (s : State) (xs : List ℕ)
 unfolding records_from
 records_from-enough cfg zero m s xs between a b = absurd (omega arith)
 records_from-enough cfg (suc n) zero s xs between a b = absurd (omega arith)
-records_from-enough cfg (suc n) (suc m) s xs between a b = by (next_record cfg s [] [] xs) refl (records_from-enough cfg n m)
-  where
-    by : (o : Option Read) → next_record cfg s [] [] xs ≡ o
-        → ((s' : State) (xs' : List ℕ) → ends_at_end s' ≡ false → length xs' < n → length xs' < m → records_from cfg n s' xs' ≡ records_from cfg m s' xs')
-        → records_next (records_from cfg n) o ≡ records_next (records_from cfg m) o
-    by None e more = refl
-    by (Some read) e more =
-        let left = next_record-leaves cfg s [] [] xs read e in
-        let less : length read.2 < length xs = left.fewer between in
-        ap (λ (rest : List Record). read.0 ∷ rest) (more read.1 read.2 left.between (omega arith) (omega arith))
+records_from-enough cfg (suc n) (suc m) s xs between a b = grind (arith, records_from-enough cfg n m, next_record-leaves)
 
 -- the effects of a read that found a record
 pub record Found (a : State) (before : Option (List ℕ)) (b : State) (after : Option (List ℕ)) (fields : Record) : Type 0 where
@@ -131,14 +108,12 @@ found-next a b xs ys fields between next = by (next_record default_config a [] [
 
 pub found-record : (a b : State) (before after : Option (List ℕ)) (fields : Record) → ends_at_end a ≡ false → IsSome before
     → ReadsNext default_config a before after true fields b → Found a before b after fields
-found-record a b None after fields between known read = cc known
-found-record a b (Some xs) None fields between known read = absurd read
-found-record a b (Some xs) (Some ys) fields between known read = found-next a b xs ys fields between read
+found-record a b before after fields between known read = search (rules, found-next)
 
 -- a read that found no record
 found-no_more : (a b : State) (xs ys : List ℕ) (fields : Record) → NextIs (next_record default_config a [] [] xs) false fields b ys → records_after a (Some xs) ≡ []
 unfolding records_from
-found-no_more a b xs ys fields next = grind (arith, common_steps)
+found-no_more a b xs ys fields next = grind arith
 
 pub found-end : (a b : State) (before after : Option (List ℕ)) (fields : Record) → IsSome before
     → ReadsNext default_config a before after false fields b → records_after a before ≡ []
@@ -152,7 +127,7 @@ unfolding strip_bom
 stripped-count [] m h = omega arith
 stripped-count (a ∷ []) m h = omega arith
 stripped-count (a ∷ b ∷ []) m h = omega arith
-stripped-count (a ∷ b ∷ c ∷ rest) m h = grind (arith, common_steps)
+stripped-count (a ∷ b ∷ c ∷ rest) m h = grind arith
 
 -- After the check for a byte order mark, the reader reads from its buffer.
 pending-is : (reader : Reader (Bor (List ℕ))) → reader.bom_checked ≡ true → text_left reader ≡ pending_of (Some reader.rdr.now) reader
@@ -168,20 +143,7 @@ module _ (old new : RecordReader) (was : IsBetween old) (read : ReadRecord (λ s
   number-fits = omega (arith, was.counted, reader-found.fewer)
 
   pub gives-found : took_first new.reader ≡ true → is_flexible new.reader ≡ is_flexible old.reader → new.number ≡ old.number + 1 → GivesNext old new true
-  gives-found first flexible number = record {
-    next = reader-found.records;
-    number = λ _. number;
-    between = λ _. record {
-      config = read.2 ∙ was.config;
-      trim = read.3 ∙ was.trim;
-      ready = inl first;
-      flexible = flexible ∙ was.flexible;
-      known = reader-found.known;
-      between = reader-found.between;
-      counted = omega (arith, was.counted, reader-found.fewer);
-    };
-    fewer = λ _. reader-found.fewer;
-  }
+  gives-found first flexible number = grind (arith, reader-found)
 
 -- the effects on the record reader, if no record was found
 pub gives-end : (old new : RecordReader) (fields : Record) → IsBetween old → ReadRecord (λ s. Some s.now) old.reader new.reader false fields → GivesNext old new false
@@ -196,14 +158,7 @@ gives-end old new fields was read = record {
 
 -- A record with another number of fields does not match the names.
 pub other-length : (names : List (Bor (List ℕ))) (r : Record) → (length r ≡ length names → ⊥) → pointwise bytes_eq r (field_texts names) ≡ false
-other-length [] [] other = absurd (other refl)
-other-length [] (field ∷ fields) other = refl
-other-length (name ∷ names) [] other = refl
-other-length (name ∷ names) (field ∷ fields) other = by (bytes_eq field name.now) (other-length names fields (λ same. other (omega (arith, same))))
-  where
-    by : (b : Bool) → pointwise bytes_eq fields (field_texts names) ≡ false → (b && pointwise bytes_eq fields (field_texts names)) ≡ false
-    by true e = e
-    by false e = refl
+other-length names r other = grind (arith, common_steps)
 
 -- Fields that match the names one by one are equal to the names.
 pub names-are : (r : Record) (names : List (List ℕ)) → pointwise bytes_eq r names ≡ true → r ≡ names
@@ -217,7 +172,7 @@ unfolding field_at
 fields-at [] r place d same inside = absurd (omega arith)
 fields-at (name ∷ names) [] place d same inside = absurd (omega arith)
 fields-at (name ∷ names) (field ∷ fields) zero d same inside = refl
-fields-at (name ∷ names) (field ∷ fields) (suc place) d same inside = fields-at names fields place d (omega (arith, same)) (omega arith)
+fields-at (name ∷ names) (field ∷ fields) (suc place) d same inside = fields-at names fields place d (omega arith) (omega arith)
 
 -- one field, which was compared with its name
 module _ (names : List (Bor (List ℕ))) (r : Record) (place : ℕ) (d : Bor (List ℕ)) (field : List ℕ) (differs : Bool) (same : length r ≡ length names) (inside : place < length names)
@@ -274,7 +229,7 @@ gives-fault A expected answer fault is same = rw is same
 
 record-no_cycle : (n : ℕ) (table : List Sequence) (r : Record) (fxy : ℕ) → with_record_d n table r ≡ Err (Cycle fxy) → ⊥
 unfolding with_record_d
-record-no_cycle n table r fxy e = grind (arith, common_steps)
+record-no_cycle n table r fxy e = grind arith
 
 rows-no_cycle : (n : ℕ) (table : List Sequence) (rs : List Record) (fxy : ℕ) → table_from with_record_d n table rs ≡ Err (Cycle fxy) → ⊥
 unfolding table_from
@@ -289,18 +244,12 @@ rows-no_cycle n table (r ∷ rs) fxy e = by (with_record_d n table r) refl e (λ
 table-no_cycle : (records : List Record) (fxy : ℕ) → table_d_of records ≡ Err (Cycle fxy) → ⊥
 unfolding table_of
 table-no_cycle [] fxy e = cc e
-table-no_cycle (first ∷ rest) fxy e = grind (arith, common_steps, rows-no_cycle)
+table-no_cycle (first ∷ rest) fxy e = grind (arith, rows-no_cycle)
 
 -- The same for a read of Table D, which looks for cycles only after all records.
 pub reads-fault : (records : List Record) (answer : Result (List Sequence) TableFault) (fault : TableFault) → answer ≡ Err fault → (fault ≢ Memory → table_d_of records ≡ Err fault)
     → ReadsTableD records answer
-reads-fault records answer Header is given = rw is given
-reads-fault records answer (Row n) is given = rw is given
-reads-fault records answer (Duplicate fxy) is given = rw is given
-reads-fault records answer (Cycle fxy) is given = absurd (table-no_cycle records fxy (given (λ e. cc e)))
-reads-fault records answer TableSize is given = rw is given
-reads-fault records answer Csv is given = rw is given
-reads-fault records answer Memory is given = rw is given
+reads-fault records answer fault is given = search (rules, table-no_cycle)
 
 -- ---- Digits one after another, and numbers that do not fit.
 
@@ -319,8 +268,8 @@ pub number_more : (digits : List ℕ) (i number m tens digit more : ℕ) → i <
 number_more digits i number m tens digit more inside all is by_ten last sum =
     let d = get_or digits i 0 in
     let is_digit = digit_at digits i all inside in
-    let own : digit_value d + 48 ≡ d = digit_value_digit d (grind (arith, nat_tests), grind (arith, nat_tests)) in
-    omega (arith, digits_value_more 10 digits i inside, own, is, by_ten, last, sum)
+    let own : digit_value d + 48 ≡ d = digit_value_digit d (grind arith, grind (arith, nat_tests)) in
+    omega (arith, own, is, by_ten, last, sum, digits_value_more)
 
 -- ---- The number, if it fits in 64 bits.
 
@@ -336,25 +285,25 @@ fitting-capped n = grind arith
 
 past : (k : ℕ) → 2 ^ 63 < k → if_i64 (negated k) ≡ None
 past zero h = absurd (omega arith)
-past (suc k) h = grind (arith, common_steps)
+past (suc k) h = grind arith
 
 pub fitting-negated_capped : (n : ℕ) → if_i64 (negated (min n (2 ^ 64 - 1))) ≡ if_i64 (negated n)
 fitting-negated_capped zero = refl
-fitting-negated_capped (suc n) = grind (arith, common_steps)
+fitting-negated_capped (suc n) = grind arith
 
 -- the `i64` of a capped number, if there is a number
 capped_then : (o : Option ℕ) (f : ℕ → ℤ) (m : ℕ) → ((n : ℕ) → if_i64 (f (min n (2 ^ 64 - 1))) ≡ if_i64 (f n))
     → Some m ≡ option_map (λ n. min n (2 ^ 64 - 1)) o → if_i64 (f m) ≡ option_and_then if_i64 (option_map f o)
 capped_then None f m same is = cc is
-capped_then (Some n) f m same is = grind (arith, common_steps)
+capped_then (Some n) f m same is = grind arith
 
 -- the `i64` of a text, from a magnitude that is capped at the greatest `u64`
 pub i64_of-negative : (text digits : List ℕ) (m : ℕ) (result : Option ℤ) → (get_or text 0 0 == 45) ≡ true → digits ≡ drop 1 text
     → Some m ≡ option_map (λ n. min n (2 ^ 64 - 1)) (natural_of digits) → result ≡ if_i64 (negated m) → result ≡ i64_of text
 unfolding i64_of integer_of
-i64_of-negative text digits m result minus rest is so = grind (arith, common_steps, capped_then, fitting-negated_capped)
+i64_of-negative text digits m result minus rest is so = grind arith
 
 pub i64_of-positive : (text : List ℕ) (m : ℕ) (result : Option ℤ) → (get_or text 0 0 == 45) ≡ false
     → Some m ≡ option_map (λ n. min n (2 ^ 64 - 1)) (natural_of text) → result ≡ if_i64 (pos m) → result ≡ i64_of text
 unfolding i64_of integer_of
-i64_of-positive text m result plus is so = grind (arith, common_steps, capped_then, pos, fitting-capped)
+i64_of-positive text m result plus is so = grind arith

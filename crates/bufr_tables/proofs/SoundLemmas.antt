@@ -1,10 +1,10 @@
 -- Properties of every tree that the expansion returns.
 use Rattle.std.proofs.lemmas.Grind.{common_steps}
 use Rattle.std.proofs.lemmas.Bool.Decides.{nat_tests}
-use Rattle.std.proofs.Common.{◌≡◌, ◌≢◌, ℕ, zero, suc, ◌+◌, ◌<◌, ◌≤◌, ◌==◌, Bool, true, false, not, ◌&&◌, ◌||◌, List, [], ◌∷◌, length, take, Option, Some, None, Result, Ok, Err, refl, sym, ◌∙◌, ap, subst, arith, inl, inr, ◌++◌, drop, append_assoc, IfOk, nat_le, nat_lt, ok_or, slice_index, if◌then◌else◌}
+use Rattle.std.proofs.Common.{◌≡◌, ◌≢◌, ℕ, zero, suc, ◌+◌, ◌<◌, ◌≤◌, ◌==◌, Bool, true, false, not, ◌&&◌, ◌||◌, List, [], ◌∷◌, length, take, Option, Some, None, Result, Ok, Err, refl, sym, ◌∙◌, ap, subst, arith, inl, inr, ◌++◌, drop, append_assoc, nat_le, nat_lt, ok_or, slice_index, if◌then◌else◌, rules}
 use Rattle.std.proofs.lemmas.Bool.{ne_eqb, eqb-true}
 use Rattle.bufr_tables.specs.Prelude.{TemplateFault, f_of, x_of, y_of, is_legal_operator, gives_width, Tree, bare, element, operator, fixed, delayed, join, size, depth, consumes, Tables, Expansion, ExpandedPart, part, ◌>>=◌, unless, with_places, is_factor, begins_with_element, element_part, operator_part, body_of, fixed_part, delayed_part, group_part, sequence_part, part_of, level, inner_of, tree_of, max_open, IsKnownAfter, IsKnown, IsLegal, is_element_first, EveryGroupConsumes, IsSound, leaves, ListsLeaves, says_nothing, says_itself, says_replication, says_sequence, Cell, cells_of, trees_of_cells, AreCellsOf, IsTemplate, BuilderModel, growth, places_so_far, push_tree, PushesTree, IsFaultOrMemory}
-use Rattle.bufr_tables.proofs.ExpansionLemmas.{depth-join, part-element, cells-tail, length-cells, raised_flattened, kept_raised, part-group, part-operator, part-sequence}
+use Rattle.bufr_tables.proofs.ExpansionLemmas.{depth-join, part-element, cells-tail, length-cells, raised_flattened, part-group, part-operator, part-sequence}
 use Rattle.std.proofs.lemmas.List.{append-nil, take-append-drop}
 use Rattle.bufr_tables.specs.declared.fault.TemplateFault.TheVariants as fault
 use Rattle.bufr_tables.specs.declared.template.Cell.TheVariants as cell
@@ -65,11 +65,7 @@ groups-join (fixed count body rest) b h more = (h.0, (h.1.0, (h.1.1.0, groups-jo
 groups-join (delayed factor body rest) b h more = (h.0, (h.1.0, groups-join rest b h.1.1 more))
 
 begins-join : (a b : Tree) → is_element_first a ≡ true → is_element_first (join a b) ≡ true
-begins-join bare b h = absurd cc
-begins-join (element fxy rest) b h = refl
-begins-join (operator fxy rest) b h = absurd cc
-begins-join (fixed count body rest) b h = absurd cc
-begins-join (delayed factor body rest) b h = absurd cc
+begins-join a b h = grind arith
 
 legal-join : (a b : Tree) → IsLegal a → IsLegal b → IsLegal (join a b)
 legal-join bare b h more = more
@@ -79,12 +75,7 @@ legal-join (fixed count body rest) b h more = (h.0, legal-join rest b h.1 more)
 legal-join (delayed factor body rest) b h more = (h.0, (h.1.0, legal-join rest b h.1.1 more))
 
 fine-join : (known : ℕ → Bool) (room : ℕ) (given : Bool) (a b : Tree) → IsFine known room given a → IsFine known room false b → IsFine known room given (join a b)
-fine-join known room given a b h more = record {
-  groups = groups-join a b h.groups more.groups;
-  is_known = known-join known given a b h.is_known more.is_known;
-  legal = legal-join a b h.legal more.legal;
-  shallow = omega (arith, depth-join a b, h.shallow, more.shallow);
-}
+fine-join known room given a b h more = grind (arith, groups-join, known-join, legal-join, depth-join)
 
 -- The inner expansion returns trees with these properties, and with less room.
 abbrev pub IsInnerFine : (ℕ → Bool) → ℕ → Option Expansion → Type 0
@@ -92,7 +83,7 @@ IsInnerFine known room None = Unit {0}
 IsInnerFine known room (Some expand) = (room' : ℕ) × (room' < room) × ((places : ℕ) (list : List ℕ) (tree : Tree) → expand places list ≡ Ok tree → IsFine known room' false tree)
 
 no_width : (d f : ℕ) → f ≡ f_of d → f ≢ 2 → gives_width d ≡ false
-no_width d f e h = ap (λ b. b && x_of d == 6) (ne_eqb (f_of d) 2 (λ two. h (e ∙ two)))
+no_width d f e h = cc (ne_eqb (f_of d) 2 (λ two. h (e ∙ two)))
 
 fine_plainly : (known : ℕ → Bool) (room : ℕ) (given : Bool) (rest : Tree) → given ≡ false → IsFine known room given rest → IsFine known room false rest
 fine_plainly known room given rest e = subst (λ g. IsFine known room g rest) e
@@ -112,8 +103,7 @@ element_joins tables room given places d first rest f h fine =
     (record { groups = plain.groups; is_known = (known.met, plain.is_known); legal = (f, plain.legal); shallow = plain.shallow })
 
 or_met : (gives begins : Bool) → (not gives || begins) ≡ true → gives ≡ true → begins ≡ true
-or_met true begins h e = h
-or_met false begins h e = absurd cc
+or_met gives begins h e = cc
 
 -- an operator, followed by the remaining list
 operator_joins : (known : ℕ → Bool) (room : ℕ) (given : Bool) (places d : ℕ) (after : List ℕ) (first : ExpandedPart) (rest : Tree) → f_of d ≡ 2 → operator_part places d after ≡ Ok first
@@ -126,8 +116,7 @@ operator_joins known room given places d after first rest f h begins fine =
     let e = part_is (part (operator d bare) 0) first sized.then_is in
     let begin : gives_width d ≡ true → is_element_first rest ≡ true =
     λ gives. begins (or_met (gives_width d) (begins_with_element after) shaped.met gives) (ap (λ (p : ExpandedPart). p.taken) (sym e)) in
-    subst (λ (p : ExpandedPart). IsFine known room given (join p.tree rest)) e
-    (record { groups = fine.groups; is_known = fine.is_known; legal = (f, (legal.met, (begin, fine.legal))); shallow = fine.shallow })
+    grind arith
 
 -- the properties of a group's body
 pub record IsFineBody (known : ℕ → Bool) (room : ℕ) (body : Tree) : Type 0 where
@@ -146,15 +135,8 @@ body_fine known room (Some expand) fine places own d after body h =
     let shaped = tested (nat_le (x_of d) (length after)) (fault.GroupShape d) (with_places places own d >>= λ _. expand (places + own) (take (x_of d) after) >>= k) body h in
     let sized = tested (nat_le (places + own) 65535) (fault.TemplateSize d) (expand (places + own) (take (x_of d) after) >>= k) body shaped.then_is in
     let two = steps (expand (places + own) (take (x_of d) after)) k body sized.then_is in
-    let full = tested (consumes two.middle) (fault.EmptyGroup d) (Ok two.middle) body two.then_is in
-    let e = tree_is two.middle body full.then_is in
     let inside = fine.2 (places + own) (take (x_of d) after) two.middle two.first_is in
-    subst (IsFineBody known room) e
-    (record {
-      fine = record { groups = inside.groups; is_known = inside.is_known; legal = inside.legal; shallow = omega (arith, inside.shallow, fine.1) };
-      deeper = omega (arith, inside.shallow, fine.1);
-      full = full.met;
-    })
+    grind arith
 
 -- a fixed group, followed by the remaining list
 fixed_joins : (known : ℕ → Bool) (room : ℕ) (inner : Option Expansion) → IsInnerFine known room inner → (given : Bool) (places d : ℕ) (after : List ℕ) (first : ExpandedPart) (rest : Tree)
@@ -162,14 +144,7 @@ fixed_joins : (known : ℕ → Bool) (room : ℕ) (inner : Option Expansion) →
 fixed_joins known room inner fine given places d after first rest y h plain =
     let two = steps (body_of inner places 2 d after) (λ body. Ok (part (fixed (y_of d) body bare) (x_of d))) first h in
     let body = body_fine known room inner fine places 2 d after two.middle two.first_is in
-    let e = part_is (part (fixed (y_of d) two.middle bare) (x_of d)) first two.then_is in
-    subst (λ (p : ExpandedPart). IsFine known room given (join p.tree rest)) e
-    (record {
-      groups = (y, (body.full, (body.fine.groups, plain.groups)));
-      is_known = (body.fine.is_known, plain.is_known);
-      legal = (body.fine.legal, plain.legal);
-      shallow = omega (arith, body.deeper, plain.shallow);
-    })
+    grind arith
 
 -- a delayed group, followed by the remaining list
 delayed_joins : (tables : Tables) (room : ℕ) (inner : Option Expansion) → IsInnerFine tables.known room inner → (given : Bool) (places d : ℕ) (after : List ℕ) (first : ExpandedPart) (rest : Tree)
@@ -181,14 +156,7 @@ delayed_joins tables room inner fine given places d (factor ∷ after) first res
     let known = tested (tables.known factor) (fault.UnknownElement factor) (body_of inner places 3 d after >>= k) first factored.then_is in
     let two = steps (body_of inner places 3 d after) k first known.then_is in
     let body = body_fine tables.known room inner fine places 3 d after two.middle two.first_is in
-    let e = part_is (part (delayed factor two.middle bare) (1 + x_of d)) first two.then_is in
-    subst (λ (p : ExpandedPart). IsFine tables.known room given (join p.tree rest)) e
-    (record {
-      groups = (body.full, (body.fine.groups, plain.groups));
-      is_known = (known.met, (body.fine.is_known, plain.is_known));
-      legal = (factored.met, (body.fine.legal, plain.legal));
-      shallow = omega (arith, body.deeper, plain.shallow);
-    })
+    grind arith
 
 by_y_joins : (y : ℕ) (tables : Tables) (room : ℕ) (inner : Option Expansion) → IsInnerFine tables.known room inner
     → (given : Bool) (places d : ℕ) (after : List ℕ) (first : ExpandedPart) (rest : Tree)
@@ -204,7 +172,7 @@ group_joins : (tables : Tables) (room : ℕ) (inner : Option Expansion) → IsIn
     → group_part tables inner places d after ≡ Ok first → IsFine tables.known room false rest → IsFine tables.known room given (join first.tree rest)
 group_joins tables room inner fine given places d after first rest h plain =
     let shaped = tested (nat_lt 0 (x_of d)) (fault.GroupShape d) (if y_of d == 0 then delayed_part tables inner places d after else fixed_part inner places d after) first h in
-    by_y_joins (y_of d) tables room inner fine given places d after first rest refl shaped.then_is plain
+    search (rules, by_y_joins)
 
 -- a sequence, followed by the remaining list
 sequence_joins : (tables : Tables) (room : ℕ) (inner : Option Expansion) → IsInnerFine tables.known room inner → (given : Bool) (places d : ℕ) (first : ExpandedPart) (rest : Tree)
@@ -283,10 +251,8 @@ unfolding tree_of
 tree_fine tables list tree h =
     let k : Tree → Result Tree TemplateFault = λ tree. unless (consumes tree) (fault.EmptyGroup (slice_index list 0)) >>= λ _. Ok tree in
     let one = steps (level tables (inner_of tables max_open) false 0 1 list) k tree h in
-    let full = tested (consumes one.middle) (fault.EmptyGroup (slice_index list 0)) (Ok one.middle) tree one.then_is in
     let fine = level_fine tables max_open (inner_of tables max_open) (inner_fine tables max_open) false 0 1 list one.middle one.first_is in
-    subst (IsFineWhole tables.known) (tree_is one.middle tree full.then_is)
-    (record { sound = (fine.groups, full.met); is_known = fine.is_known; legal = fine.legal; shallow = fine.shallow })
+    grind arith
 
 -- ---- The leaves of the expanded tree are those that the list describes.
 
@@ -332,14 +298,7 @@ operator_says members places d after first f h =
 
 body_says : (members : ℕ → Option (List ℕ)) (inner : Option Expansion) → InnerSays members inner → (places own d : ℕ) (after : List ℕ) (body : Tree) → body_of inner places own d after ≡ Ok body
     → ListsLeaves members (take (x_of d) after) (leaves body)
-body_says members None says places own d after body h = absurd (let t = (tested (nat_le (x_of d) (length after)) (fault.GroupShape d) (Err (fault.Depth d)) body h) in cc)
-body_says members (Some expand) says places own d after body h =
-    let k : Tree → Result Tree TemplateFault = λ body. unless (consumes body) (fault.EmptyGroup d) >>= λ _. Ok body in
-    let shaped = tested (nat_le (x_of d) (length after)) (fault.GroupShape d) (with_places places own d >>= λ _. expand (places + own) (take (x_of d) after) >>= k) body h in
-    let sized = tested (nat_le (places + own) 65535) (fault.TemplateSize d) (expand (places + own) (take (x_of d) after) >>= k) body shaped.then_is in
-    let two = steps (expand (places + own) (take (x_of d) after)) k body sized.then_is in
-    let full = tested (consumes two.middle) (fault.EmptyGroup d) (Ok two.middle) body two.then_is in
-    subst (λ t. ListsLeaves members (take (x_of d) after) (leaves t)) (tree_is two.middle body full.then_is) (says (places + own) (take (x_of d) after) two.middle two.first_is)
+body_says members inner says places own d after body h = grind arith
 
 fixed_says : (members : ℕ → Option (List ℕ)) (inner : Option Expansion) → InnerSays members inner → (places d : ℕ) (after : List ℕ) (first : ExpandedPart) → f_of d ≡ 1
     → fixed_part inner places d after ≡ Ok first → PartSays members d after first
@@ -354,7 +313,7 @@ first_of_and true b h = refl
 first_of_and false b h = h
 
 take_factor : (factor n : ℕ) (after : List ℕ) → take (1 + n) (factor ∷ after) ≡ factor ∷ take n after
-take_factor factor n after = let e : 1 + n ≡ suc n = omega arith in ap (λ k. take k (factor ∷ after)) e
+take_factor factor n after = grind arith
 
 delayed_says : (tables : Tables) (inner : Option Expansion) → InnerSays tables.members inner → (places d : ℕ) (after : List ℕ) (first : ExpandedPart) → f_of d ≡ 1
     → delayed_part tables inner places d after ≡ Ok first → PartSays tables.members d after first
@@ -373,10 +332,7 @@ delayed_says tables inner says places d (factor ∷ after) first f h =
 
 by_y_says : (y : ℕ) (tables : Tables) (inner : Option Expansion) → InnerSays tables.members inner → (places d : ℕ) (after : List ℕ) (first : ExpandedPart) → f_of d ≡ 1
     → (if y == 0 then delayed_part tables inner places d after else fixed_part inner places d after) ≡ Ok first → PartSays tables.members d after first
-by_y_says zero tables inner says places d after first f h = delayed_says tables inner says places d after first f h
-by_y_says (suc count) tables inner says places d after first f h =
-    let some : (suc count == 0) ≡ false = grind (arith, nat_tests) in
-    fixed_says tables.members inner says places d after first f (rw some at h)
+by_y_says y tables inner says places d after first f h = search (rules, delayed_says, fixed_says)
 
 group_says : (tables : Tables) (inner : Option Expansion) → InnerSays tables.members inner → (places d : ℕ) (after : List ℕ) (first : ExpandedPart) → f_of d ≡ 1
     → group_part tables inner places d after ≡ Ok first → PartSays tables.members d after first
@@ -411,7 +367,7 @@ part_says tables inner says given places d after first h = by (f_of d) refl
     by (suc zero) e = group_says tables inner says places d after first (sym e) (part-group tables inner given places d after 1 e refl ∙ h)
     by (suc (suc zero)) e = operator_says tables.members places d after first (sym e) (part-operator tables inner given places d after 2 e refl ∙ h)
     by (suc (suc (suc f))) e =
-        sequence_says tables inner says places d after first (subst (λ n. 3 ≤ n) e (omega arith))
+        sequence_says tables inner says places d after first (rw (← e) (omega arith))
         (part-sequence tables inner given places d after (suc (suc (suc f))) e (λ x. omega arith) (λ x. omega arith) (λ x. omega arith) ∙ h)
 
 level_says : (tables : Tables) (inner : Option Expansion) → InnerSays tables.members inner → (given : Bool) (skip places : ℕ) (list : List ℕ) (tree : Tree)
@@ -427,9 +383,7 @@ level_says tables inner says given zero places (d ∷ after) tree h =
     let here = part_says tables inner says given places d after one.middle one.first_is in
     let more = level_says tables inner says (gives_width d) one.middle.taken (places + size one.middle.tree) after two.middle two.first_is in
     let both = says-append tables.members (d ∷ take one.middle.taken after) (drop one.middle.taken after) (leaves one.middle.tree) (leaves two.middle) here more in
-    subst (λ t. ListsLeaves tables.members (d ∷ after) (leaves t)) (tree_is (join one.middle.tree two.middle) tree two.then_is)
-    (subst (ListsLeaves tables.members (d ∷ after)) (sym (leaves-join one.middle.tree two.middle))
-    (subst (λ l. ListsLeaves tables.members (d ∷ l) (leaves one.middle.tree ++ leaves two.middle)) (take-append-drop one.middle.taken after) both))
+    grind (arith, common_steps, tree_is, leaves-join, take-append-drop)
 
 inner_says : (tables : Tables) (room : ℕ) → InnerSays tables.members (inner_of tables room)
 unfolding inner_of
@@ -460,7 +414,7 @@ after_list list expanded = expanded >>= λ tree. unless (consumes tree) (fault.E
 -- The code starts the list with the same number of places as the definition.
 same_start : (tables : Tables) (list : List ℕ) (start : BuilderModel) → start ≡ growth [] 0 0 false
     → level tables (inner_of tables max_open) false 0 1 list ≡ level tables (inner_of tables max_open) false 0 (places_so_far start) list
-same_start tables list start e = ap (λ (g : BuilderModel). level tables (inner_of tables max_open) false 0 (places_so_far g) list) (sym e)
+same_start tables list start e = cc
 
 pub whole-fault : (tables : Tables) (list : List ℕ) (start : BuilderModel) (why : TemplateFault) → start ≡ growth [] 0 0 false
     → IsFaultOrMemory (level tables (inner_of tables max_open) false 0 (places_so_far start) list) why → IsFaultOrMemory (tree_of tables list) why
@@ -469,13 +423,13 @@ whole-fault tables list start why e refuses other = ap (after_list list) (same_s
 
 -- the builder after a tree is pushed onto an empty one
 put_tree : (start new : BuilderModel) (tree : Tree) → start ≡ growth [] 0 0 false → new ≡ push_tree start tree → new ≡ growth (cells_of tree 0 []) 0 (depth tree) (consumes tree)
-put_tree start new tree es e = grind (arith, common_steps)
+put_tree start new tree es e = grind arith
 
 pub whole-empty : (tables : Tables) (list : List ℕ) (start new : BuilderModel) (first : ℕ) → start ≡ growth [] 0 0 false
     → PushesTree start (level tables (inner_of tables max_open) false 0 (places_so_far start) list) new → new.full ≡ false → first ≡ slice_index list 0
     → tree_of tables list ≡ Err (fault.EmptyGroup first)
 unfolding tree_of after_list
-whole-empty tables list start new first es puts empty ef = grind (arith, common_steps)
+whole-empty tables list start new first es puts empty ef = cc
 
 -- The tree of the list is defined, and the builder has its cells.
 pub record IsWhole (tables : Tables) (list : List ℕ) (new : BuilderModel) : Type 0 where
@@ -503,13 +457,7 @@ whole-flattened : (tables : Tables) (list : List ℕ) (new : BuilderModel) (cell
     → length new.cells + new.groups < 65535 → AreCellsOf cells whole.tree
 whole-flattened tables list new cells whole e within =
     let fine = tree_fine tables list whole.tree whole.is_defined in
-    record {
-      flattened = e ∙ ap (λ l. l ++ cell.Finish ∷ []) whole.cells_are ∙ sym (cells-tail whole.tree 0 (cell.Finish ∷ []));
-      within = omega (arith, whole.groups_are, ap length whole.cells_are, length-cells whole.tree 0 []);
-      shallow = fine.shallow;
-      sound = fine.sound;
-      legal = fine.legal;
-    }
+    search (rules, cells-tail, length-cells)
 
 -- The cells are a template, and their tree is the one defined for the list.
 pub record IsBuilt (tables : Tables) (list : List ℕ) (cells : List Cell) (depth_reported : ℕ) : Type 0 where
@@ -521,7 +469,4 @@ pub whole-built : (tables : Tables) (list : List ℕ) (new : BuilderModel) (cell
     → IsBuilt tables list cells new.deep
 whole-built tables list new cells whole e within =
     let flattened = whole-flattened tables list new cells whole e within in
-    record {
-      is_kept = kept_raised cells new.deep whole.tree (record { is_flattened = flattened; depth_is = whole.depth_is });
-      is_defined = whole.is_defined ∙ ap Ok (sym (raised_flattened cells whole.tree flattened));
-    }
+    grind (arith, raised_flattened)

@@ -1,20 +1,19 @@
 -- The rows of Table B, and how the code stores them.
 use Rattle.std.proofs.lemmas.Grind.{common_steps}
-use Rattle.std.proofs.Common.{◌≡◌, ◌≢◌, ℕ, ◌+◌, ◌-◌, ◌<◌, ◌≤◌, Bool, true, false, List, [], ◌∷◌, ◌++◌, length, Option, Some, None, refl, sym, ap, ◌∙◌, arith, suc, eqb, inl, inr, option_map, get_or, set, length-append, rules, tests, append_assoc, append-nil, codes, ℤ, subst, Result, Ok, Err, cond, map, nat_eq, ◌==◌, ◌||◌, if◌then◌else◌, IfSome, slice_range, is_some, nat_le}
+use Rattle.std.proofs.Common.{◌≡◌, ◌≢◌, ℕ, ◌+◌, ◌-◌, ◌<◌, ◌≤◌, Bool, true, false, List, [], ◌∷◌, ◌++◌, length, Option, Some, None, refl, sym, ap, ◌∙◌, arith, suc, eqb, option_map, get_or, set, length-append, rules, tests, append_assoc, append-nil, codes, ℤ, subst, Result, Ok, Err, cond, map, nat_eq, ◌==◌, if◌then◌else◌, IfSome, slice_range, nat_le}
 use Rattle.std.specs.Str.{bytes_eq}
 use Rattle.bufr_tables.proofs.RecordLemmas.{names-are}
 use Rattle.std.specs.Cmp.Lexicographic.{pointwise}
 use Rattle.std.specs.Int.RustNames.{unsigned_abs}
 use Rattle.std.specs.List.{AllByRecursion, IsDistinct, find, list_any}
-use Rattle.std.proofs.lemmas.Bool.{cases_eq, eqb-true}
-use Rattle.std.proofs.lemmas.List.{get_or-set_same, get_or-set_other, map-append, map-id}
+use Rattle.std.proofs.lemmas.List.{map-append, map-id}
 use Rattle.std.proofs.lemmas.Map.Steps.{length-le_from_distinct_below}
 use Rattle.std.proofs.lemmas.Option.{same_Some, option_and_then_some}
-use Rattle.bufr_tables.specs.Prelude.{◌>>=◌, mark_of, place_of, f_of, fxy_text, key_of, ExtendsBlock, IsStored, row_parsed, rows_kept, IsRowKept, row_kept, Row, entry_of, row_comment, row_line_start, kind_of, IsRow, allows_width, element_of, is_name, plain_of, row_of, scale_of, width_of, AreRows, columns_b, table_b_of, with_record_b, with_row, i64_of, Record, field_of, only_if, table_from, table_of, TableFault}
+use Rattle.bufr_tables.specs.Prelude.{◌>>=◌, mark_of, place_of, f_of, fxy_text, key_of, ExtendsBlock, IsStored, row_parsed, rows_kept, IsRowKept, row_kept, Row, entry_of, row_comment, row_line_start, kind_of, IsRow, allows_width, element_of, is_name, plain_of, row_of, scale_of, width_of, AreRows, columns_b, table_b_of, with_record_b, i64_of, Record, field_of, only_if, table_from, table_of, TableFault}
 use Rattle.bufr_tables.specs.declared.table_b.ParsedRow.{ParsedRow}
 use Rattle.bufr_tables.specs.declared.table_b.Stored.{Stored}
 use Rattle.bufr_tables.specs.declared.table_b.Kind.{Kind}
-use Rattle.bufr_tables.specs.declared.fault.TableFault.TheVariants.{Csv, Duplicate, Header}
+use Rattle.bufr_tables.specs.declared.fault.TableFault.TheVariants.{Header}
 
 -- ---- A list of keys to which a key is added, and the number of keys.
 
@@ -43,8 +42,8 @@ place_of-added (k ∷ keys) key absent =
 
 -- The result for any other key is unchanged.
 pub place_of-other : (keys : List ℕ) (key other : ℕ) → key ≢ other → place_of (keys ++ key ∷ []) other ≡ place_of keys other
-place_of-other [] key other differ = let e : (key == other) ≡ false = search (rules, tests) in rw e refl
-place_of-other (k ∷ keys) key other differ = ap (λ (o : Option ℕ). if k == other then Some 0 else option_map suc o) (place_of-other keys key other differ)
+place_of-other [] key other differ = let e : (key == other) ≡ false = search rules in rw e refl
+place_of-other (k ∷ keys) key other differ = cc (place_of-other keys key other differ)
 
 -- An index that is found is inside the list.
 pub place_of-inside : (keys : List ℕ) (key : ℕ) → IfSome (place_of keys key) (λ place. place < length keys)
@@ -78,11 +77,7 @@ distinct-added (k ∷ keys) key distinct absent =
 -- There are at most n distinct keys below n.
 has-below : (keys : List ℕ) (q n : ℕ) → AllByRecursion (λ k. k < n) keys → list_any (eqb q) keys ≡ true → q < n
 has-below [] q n below has = cc has
-has-below (k ∷ keys) q n below has = by (eqb q k) refl has (has-below keys q n below.1)
-  where
-    by : (b : Bool) → eqb q k ≡ b → (b || list_any (eqb q) keys) ≡ true → (list_any (eqb q) keys ≡ true → q < n) → q < n
-    by true e has more = rw (eqb-true q k e) below.0
-    by false e has more = more has
+has-below (k ∷ keys) q n below has = grind (arith, has-below keys q n below.1)
 
 pub count-below : (keys : List ℕ) (n : ℕ) → AllByRecursion (λ k. k < n) keys → IsDistinct nat_eq keys → length keys ≤ n
 count-below keys n below distinct = length-le_from_distinct_below keys n distinct (λ q has. has-below keys q n below has)
@@ -96,7 +91,7 @@ count-added keys key n below distinct small absent =
 pub marks-added : (keys : List ℕ) (key : ℕ) (marks : List ℕ) (n : ℕ) → length marks ≡ n → key < n → place_of keys key ≡ None
     → ((other : ℕ) → other < n → get_or marks other 0 ≡ mark_of (place_of keys other))
     → (other : ℕ) → other < n → get_or (set marks key (length keys + 1)) other 0 ≡ mark_of (place_of (keys ++ key ∷ []) other)
-marks-added keys key marks n size small absent was other inside = grind (arith, common_steps, cases_eq, inl, place_of-added, get_or-set_same, inr, place_of-other, get_or-set_other)
+marks-added keys key marks n size small absent was other inside = search (rules, place_of-added, place_of-other)
 
 -- A mark other than 0 is that of an index inside the list.
 pub mark-inside : (keys : List ℕ) (key mark : ℕ) → mark ≡ mark_of (place_of keys key) → mark ≢ 0 → mark - 1 < length keys
@@ -104,7 +99,7 @@ mark-inside keys key mark is some = by (place_of keys key) (place_of-inside keys
   where
     by : (o : Option ℕ) → IfSome o (λ place. place < length keys) → mark ≡ mark_of o → mark - 1 < length keys
     by None inside is = absurd (some is)
-    by (Some place) inside is = omega (arith, inside)
+    by (Some place) inside is = omega arith
 
 -- The directory of the keys answers a search by key among the values that `f` gives for a list.
 module _ (X Y : Type 0) (f : X → Y) (p : Y → Bool) (k : X → ℕ) (key : ℕ) where
@@ -159,7 +154,7 @@ pub entry-found : (octets : List ℕ) (stored : List Stored) (fxy place : ℕ) (
 entry-found octets stored fxy place d = find-found Stored Row (row_kept octets) (λ row. row.fxy == fxy) (λ s. s.fxy) fxy stored place d (all-same octets fxy stored)
 
 unlike : (a b : ℕ) → a < 16384 → 16384 ≤ b → (a == b) ≡ false
-unlike a b small large = search (rules, tests)
+unlike a b small large = search rules
 
 -- All rows are those of elements, so no other descriptor has a row.
 pub entry-other : (octets : List ℕ) (stored : List Stored) (fxy : ℕ) → AllByRecursion (λ s. s.fxy < 16384) stored → 16384 ≤ fxy → entry_of (rows_kept octets stored) fxy ≡ None
@@ -176,13 +171,7 @@ row_kept-append : (octets more : List ℕ) (s : Stored) → IsRowKept octets s �
 row_kept-append octets more s kept = grind (arith, common_steps)
 
 kept-append : (octets more : List ℕ) (s : Stored) → IsRowKept octets s → IsRowKept (octets ++ more) s
-kept-append octets more s kept = record {
-  name = kept.name;
-  unit = kept.unit;
-  inside = omega (arith, kept.inside, length-append octets more);
-  line_start = range-append octets more s.start (s.start + 7) (omega arith) (omega (arith, kept.name, kept.unit, kept.inside)) ∙ kept.line_start;
-  comment = range-append octets more (s.start + 7) s.end (omega (arith, kept.name, kept.unit)) kept.inside ∙ kept.comment ∙ ap row_comment (sym (row_kept-append octets more s kept));
-}
+kept-append octets more s kept = search (rules, length-append, range-append)
 
 pub rows_kept-append : (octets more : List ℕ) (stored : List Stored) → AllByRecursion (IsRowKept octets) stored → rows_kept (octets ++ more) stored ≡ rows_kept octets stored
 rows_kept-append octets more [] kept = refl
@@ -217,14 +206,10 @@ module _ (before digits name unit : List ℕ) where
   row_pushed = commented line_started
 
   grouped : (xs : List ℕ) → xs ++ name ++ codes " [" ++ unit ++ codes "]\n" ≡ xs ++ (name ++ (codes " [" ++ (unit ++ codes "]\n")))
-  grouped xs =
-      append_assoc (xs ++ name ++ codes " [") unit (codes "]\n") ∙ append_assoc (xs ++ name) (codes " [") (unit ++ codes "]\n")
-      ∙ append_assoc xs name (codes " [" ++ (unit ++ codes "]\n"))
+  grouped xs = simp append_assoc
 
   parts : row_pushed ≡ line_started ++ commented []
-  parts =
-      grouped (line_started ++ codes "  # ") ∙ append_assoc line_started (codes "  # ") (name ++ (codes " [" ++ (unit ++ codes "]\n")))
-      ∙ ap (λ t. line_started ++ t) (sym (grouped (codes "  # ")))
+  parts = simp (grouped, append_assoc)
 
   module _ (start middle end : ℕ) (six : length digits ≡ 6) (at : start ≡ length before) (to : middle ≡ length named) (ends : end ≡ length row_pushed) where
     after_start : start + 7 ≡ length line_started
@@ -295,7 +280,7 @@ element-key fxy small = omega arith
 
 -- A descriptor that is not an element has no row.
 pub entry-not_element : (octets : List ℕ) (stored : List Stored) (fxy : ℕ) → AllByRecursion (λ s. s.fxy < 16384) stored → f_of fxy ≢ 0 → entry_of (rows_kept octets stored) fxy ≡ None
-entry-not_element octets stored fxy elements other = grind (arith, common_steps, entry-other)
+entry-not_element octets stored fxy elements other = grind (arith, entry-other)
 
 -- The row that is found is that of the element at its index.
 pub entry-row : (octets : List ℕ) (stored : List Stored) (fxy place : ℕ) (s : Stored) → place_of (fxys_of stored) fxy ≡ Some place
@@ -305,7 +290,7 @@ entry-row octets stored fxy place s found at = rw (entry-found octets stored fxy
 -- the rows after another element is added
 pub rows_kept-push : (old new : List ℕ) (stored : List Stored) (s : Stored) (row : ParsedRow) → AllByRecursion (IsRowKept old) stored → ExtendsBlock old new
     → IsStored new row s → rows_kept new (stored ++ s ∷ []) ≡ rows_kept old stored ++ row_parsed row ∷ []
-rows_kept-push old new stored s row kept grows is = grind (arith, common_steps, map-append, rows_kept-append)
+rows_kept-push old new stored s row kept grows is = grind (arith, map-append, rows_kept-append)
 
 pub kept-grown : (old new : List ℕ) (stored : List Stored) → AllByRecursion (IsRowKept old) stored → ExtendsBlock old new → AllByRecursion (IsRowKept new) stored
 kept-grown old new stored kept grows = rw grows.1 (all-kept old grows.0 stored kept)
@@ -323,11 +308,11 @@ name-plain text name is = passed _ text name is (λ test same. subst (λ t. is_n
 
 scale-allowed : (text : List ℕ) (scale : ℤ) → scale_of text ≡ Some scale → nat_le (unsigned_abs scale) 127 ≡ true
 unfolding scale_of
-scale-allowed text scale is = grind (arith, common_steps)
+scale-allowed text scale is = grind arith
 
 width-allowed : (kind : Kind) (text : List ℕ) (width : ℕ) → width_of kind text ≡ Some width → allows_width kind width ≡ true
 unfolding width_of
-width-allowed kind text width is = grind (arith, common_steps)
+width-allowed kind text width is = grind arith
 
 -- The row of a record is within the limits.
 pub row-limits : (r : Record) (row : Row) → row_of r ≡ Some row → IsRow row
@@ -382,16 +367,7 @@ pub record AddsRow (rows : List Row) (r : Record) (longer : List Row) : Type 0 w
 
 record-adds : (n : ℕ) (rows : List Row) (r : Record) (longer : List Row) → with_record_b n rows r ≡ Ok longer → AddsRow rows r longer
 unfolding with_record_b
-record-adds n rows r longer is = by (length r == 6) (row_of r) refl is
-  where
-    found : (row : Row) (o : Option Row) → entry_of rows row.fxy ≡ o → row_of r ≡ Some row → (if is_some o then Err (Duplicate row.fxy) else Ok (rows ++ row ∷ [])) ≡ Ok longer → AddsRow rows r longer
-    found row (Some other) e written is = cc is
-    found row None e written is = record { row = row; written = written; added = sym (same_Ok _ _ is); absent = e }
-
-    by : (b : Bool) (o : Option Row) → row_of r ≡ o → (if b then with_row n rows o else Err Csv) ≡ Ok longer → AddsRow rows r longer
-    by false o e is = cc is
-    by true None e is = cc is
-    by true (Some row) e is = found row (entry_of rows row.fxy) refl e is
+record-adds n rows r longer is = search (rules, same_Ok)
 
 same-keys : (fxy : ℕ) (rows : List Row) → AllByRecursion (λ row. (row.fxy == fxy) ≡ (row.fxy == fxy)) rows
 same-keys fxy [] = tt

@@ -1,16 +1,16 @@
 -- The sequences of Table D, and their members.
 use Rattle.std.proofs.lemmas.Grind.{common_steps}
-use Rattle.std.proofs.Common.{◌≡◌, ◌≢◌, ℕ, ◌+◌, ◌-◌, ◌/◌, ◌<◌, ◌≤◌, false, List, [], ◌∷◌, ◌++◌, length, map, set, Option, Some, None, refl, ap, ◌∙◌, arith, suc, zero, get_or, option_map, rules, tests, Bool, true, sym, Result, Ok, Err, ◌==◌, slice_index, slice_range, ◌&&◌, cond, if◌then◌else◌, is_some, nat_eq, nat_le, not, unwrap_or}
+use Rattle.std.proofs.Common.{◌≡◌, ◌≢◌, ℕ, ◌+◌, ◌-◌, ◌/◌, ◌<◌, ◌≤◌, false, List, [], ◌∷◌, ◌++◌, length, map, set, Option, Some, None, refl, ap, ◌∙◌, arith, suc, zero, get_or, option_map, rules, Bool, true, sym, Result, Ok, Err, ◌==◌, slice_index, slice_range, ◌&&◌, cond, if◌then◌else◌, is_some, nat_eq, not, unwrap_or}
 use Rattle.std.specs.Str.{bytes_eq}
 use Rattle.bufr_tables.proofs.RecordLemmas.{names-are}
 use Rattle.std.specs.Cmp.Lexicographic.{pointwise}
 use Rattle.std.specs.List.{AllByRecursion, IsDistinct, find}
-use Rattle.std.proofs.lemmas.List.{take_all, drop_at, map-append, append-nil, append_assoc, map-id}
+use Rattle.std.proofs.lemmas.List.{drop_at, map-append, append-nil, append_assoc, map-id}
 use Rattle.bufr_tables.proofs.TableBLemmas.{find-absent, find-found, place-absent, range-append, distinct-added, distinct-none}
-use Rattle.bufr_tables.specs.Prelude.{◌>>=◌, place_of, f_of, key_of, IsMemberRange, LastEnds, run_key, sequence_kept, sequences_kept, Sequence, extended, fxys_of, is_last, members_of, AreSequences, Member, added, begins_again, columns_d, members_or_none, member_of, members_in, table_d_of, with_member, with_record_d, Record, table_from, table_of, TableFault}
+use Rattle.bufr_tables.specs.Prelude.{◌>>=◌, place_of, f_of, key_of, IsMemberRange, LastEnds, run_key, sequence_kept, sequences_kept, Sequence, extended, fxys_of, is_last, members_of, AreSequences, Member, added, begins_again, columns_d, members_or_none, member_of, members_in, table_d_of, with_record_d, Record, table_from, table_of, TableFault}
 use Rattle.bufr_tables.specs.declared.table_d.MemberRange.{MemberRange}
 use Rattle.std.proofs.lemmas.Bool.{eqb-true}
-use Rattle.bufr_tables.specs.declared.fault.TableFault.TheVariants.{Csv, Duplicate, Header, TableSize}
+use Rattle.bufr_tables.specs.declared.fault.TableFault.TheVariants.{Header}
 
 abbrev pub IsSequence : MemberRange → Type 0
 IsSequence run = (49152 ≤ run.fxy) × (run.fxy < 65536)
@@ -53,7 +53,7 @@ module _ (members : List ℕ) (runs : List MemberRange) (fxy : ℕ) (all : AllBy
 
 -- A descriptor that is not a sequence has no members.
 unlike : (a b : ℕ) → 49152 ≤ a → a < 65536 → b / 16384 ≢ 3 → (a == b) ≡ false
-unlike a b low high other = let differ : a ≢ b = λ e. other (omega arith) in search (rules, tests)
+unlike a b low high other = grind arith
 
 pub members-other : (members : List ℕ) (runs : List MemberRange) (fxy : ℕ) → AllByRecursion IsSequence runs → f_of fxy ≢ 3 → members_of (sequences_kept members runs) fxy ≡ None
 members-other members [] fxy all other = refl
@@ -84,8 +84,7 @@ module _ (members : List ℕ) (member : ℕ) where
       → sequences_kept (members ++ member ∷ []) (set runs i (longer run)) ≡ extended (sequences_kept members runs) member
   sequences_kept-extended [] i run last at inside end = absurd (omega arith)
   sequences_kept-extended (r ∷ []) zero run last at inside end =
-      let same : run ≡ r = at in
-      rw same (ap (alone r.fxy) (range-push members member r.start r.end (omega (arith, inside.0.0)) end))
+      rw at (ap (alone r.fxy) (range-push members member r.start r.end (omega (arith, inside.0.0)) end))
   sequences_kept-extended (r ∷ []) (suc i) run last at inside end = absurd (omega arith)
   sequences_kept-extended (r ∷ t ∷ runs) zero run last at inside end = absurd (omega arith)
   sequences_kept-extended (r ∷ t ∷ runs) (suc i) run last at inside end =
@@ -123,14 +122,14 @@ all-at P (r ∷ runs) (suc i) run all inside at = all-at P runs i run all.1 (ome
 pub keys-set : (runs : List MemberRange) (i : ℕ) (run : MemberRange) → run ≡ get_or runs i run → map run_key (set runs i (longer run)) ≡ map run_key runs
 keys-set [] i run at = refl
 keys-set (r ∷ runs) zero run at = rw at refl
-keys-set (r ∷ runs) (suc i) run at = ap (λ (ks : List ℕ). run_key r ∷ ks) (keys-set runs i run at)
+keys-set (r ∷ runs) (suc i) run at = cc (keys-set runs i run at)
 
 pub last-set : (n : ℕ) (runs : List MemberRange) (i : ℕ) (run : MemberRange) → i + 1 ≡ length runs → run.end ≡ n → LastEnds n (set runs i run)
 last-set n [] i run last end = tt
 last-set n (r ∷ []) zero run last end = end
 last-set n (r ∷ []) (suc i) run last end = absurd (omega arith)
 last-set n (r ∷ t ∷ runs) zero run last end = absurd (omega arith)
-last-set n (r ∷ t ∷ runs) (suc zero) run last end = last-set n (t ∷ runs) zero run (omega arith) end
+last-set n (r ∷ t ∷ runs) (suc zero) run last end = grind arith
 last-set n (r ∷ t ∷ runs) (suc (suc i)) run last end = last-set n (t ∷ runs) (suc i) run (omega arith) end
 
 pub last-push : (n : ℕ) (runs : List MemberRange) (run : MemberRange) → run.end ≡ n → LastEnds n (runs ++ run ∷ [])
@@ -149,7 +148,7 @@ last-end n (r ∷ t ∷ runs) (suc i) run ends last at = last-end n (t ∷ runs)
 pub sequences_kept-begun : (members : List ℕ) (member : ℕ) (runs : List MemberRange) (run : MemberRange) (fxy : ℕ) → AllByRecursion (IsMemberRange (length members)) runs
     → run ≡ record { fxy = fxy; start = length members; end = length members + 1 }
     → sequences_kept (members ++ member ∷ []) (runs ++ run ∷ []) ≡ sequences_kept members runs ++ record { fxy = fxy; members = member ∷ [] } ∷ []
-sequences_kept-begun members member runs run fxy inside is = grind (arith, common_steps, drop_at, take_all, map-append, sequences_kept-append)
+sequences_kept-begun members member runs run fxy inside is = grind (arith, drop_at, map-append, sequences_kept-append)
 
 pub some-runs : (members : List ℕ) (runs : List MemberRange) → sequences_kept members runs ≢ [] → 0 < length runs
 some-runs members [] some = absurd (some refl)
@@ -159,7 +158,7 @@ some-runs members (run ∷ runs) some = omega arith
 pub fxy-at : (members : List ℕ) (runs : List MemberRange) (place : ℕ) (run : MemberRange) → place < length (sequences_kept members runs) → run ≡ get_or runs place run
     → run.fxy ≡ slice_index (fxys_of (sequences_kept members runs)) place
 fxy-at members [] place run inside at = absurd (omega arith)
-fxy-at members (r ∷ runs) zero run inside at = ap (λ (q : MemberRange). q.fxy) at
+fxy-at members (r ∷ runs) zero run inside at = rw at
 fxy-at members (r ∷ runs) (suc place) run inside at = fxy-at members runs place run (omega arith) at
 
 -- ---- The members of a sequence are those that the rows give it.
@@ -172,7 +171,7 @@ same-tests : (a b c : ℕ) → (a == c) ≡ true → (b == c) ≡ (b == a)
 same-tests a b c e = rw (eqb-true a c e) refl
 
 flip-tests : (a b : ℕ) → (a == b) ≡ false → (b == a) ≡ false
-flip-tests a b e = search (rules, tests)
+flip-tests a b e = search rules
 
 -- If a search finds nothing, the first sequence is not the one, and neither are the others.
 record Lacks (s : Sequence) (table : List Sequence) (fxy : ℕ) : Type 0 where
@@ -189,7 +188,7 @@ lacks s table fxy absent = by (s.fxy == fxy) refl absent
 -- a sequence that is appended to a table without it
 begun-listed : (table : List Sequence) (new : Sequence) (fxy : ℕ) → members_of table new.fxy ≡ None
     → members_or_none (table ++ new ∷ []) fxy ≡ members_or_none table fxy ++ only new.fxy new.members fxy
-begun-listed [] new fxy absent = grind (arith, common_steps)
+begun-listed [] new fxy absent = grind arith
 begun-listed (s ∷ table) new fxy absent =
     let parts = lacks s table new.fxy absent in
     by (s.fxy == fxy) refl parts.first (begun-listed table new fxy parts.rest)
@@ -213,7 +212,7 @@ extended-listed : (table : List Sequence) (sequence member fxy : ℕ) → is_las
     → members_or_none (extended table member) fxy ≡ members_or_none table fxy ++ only sequence (member ∷ []) fxy
 unfolding IsDistinct
 extended-listed [] sequence member fxy last distinct = cc last
-extended-listed (s ∷ []) sequence member fxy last distinct = grind (arith, common_steps)
+extended-listed (s ∷ []) sequence member fxy last distinct = grind arith
 extended-listed (s ∷ t ∷ table) sequence member fxy last distinct =
     by (s.fxy == fxy) refl (last-differs (t ∷ table) s.fxy sequence last distinct.0) (extended-listed (t ∷ table) sequence member fxy last distinct.1)
   where
@@ -229,7 +228,7 @@ extended-listed (s ∷ t ∷ table) sequence member fxy last distinct =
 extended-fxys : (table : List Sequence) (member : ℕ) → fxys_of (extended table member) ≡ fxys_of table
 extended-fxys [] member = refl
 extended-fxys (s ∷ []) member = refl
-extended-fxys (s ∷ t ∷ table) member = ap (λ (ks : List ℕ). s.fxy ∷ ks) (extended-fxys (t ∷ table) member)
+extended-fxys (s ∷ t ∷ table) member = cc (extended-fxys (t ∷ table) member)
 
 -- a row that does not begin a second run of a sequence
 record Added (table : List Sequence) (row : Member) : Type 0 where
@@ -276,18 +275,7 @@ same_Ok x y e = cc e
 
 record-adds : (n : ℕ) (table : List Sequence) (r : Record) (longer : List Sequence) → with_record_d n table r ≡ Ok longer → AddsRow table r longer
 unfolding with_record_d
-record-adds n table r longer is = by (length r == 2) (member_of r) refl is
-  where
-    found : (row : Member) (again large : Bool) → begins_again table row ≡ again → member_of r ≡ Some row
-        → (if again then Err (Duplicate row.sequence) else if large then Err TableSize else Ok (added table row)) ≡ Ok longer → AddsRow table r longer
-    found row true large e written is = cc is
-    found row false true e written is = cc is
-    found row false false e written is = record { row = row; written = written; added' = sym (same_Ok _ _ is); fresh = e }
-
-    by : (b : Bool) (o : Option Member) → member_of r ≡ o → (if b then with_member n table o else Err Csv) ≡ Ok longer → AddsRow table r longer
-    by false o e is = cc is
-    by true None e is = cc is
-    by true (Some row) e is = found row (begins_again table row) (nat_le 65536 (n - 2)) refl e is
+record-adds n table r longer is = search (rules, same_Ok)
 
 -- the rows that the remaining records add
 record AddRows (before : List Sequence) (rs : List Record) (table : List Sequence) : Type 0 where
@@ -296,7 +284,7 @@ record AddRows (before : List Sequence) (rs : List Record) (table : List Sequenc
   members : (fxy : ℕ) → members_or_none table fxy ≡ members_or_none before fxy ++ members_in rows fxy
 
 only-more : (row : Member) (rows : List Member) (fxy : ℕ) → only row.sequence (row.fxy ∷ []) fxy ++ members_in rows fxy ≡ members_in (row ∷ rows) fxy
-only-more row rows fxy = grind (arith, common_steps)
+only-more row rows fxy = grind arith
 
 rows-add : (n : ℕ) (before : List Sequence) (rs : List Record) (table : List Sequence) → table_from with_record_d n before rs ≡ Ok table → IsDistinct nat_eq (fxys_of before) → AddRows before rs table
 unfolding table_from

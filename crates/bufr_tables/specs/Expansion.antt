@@ -1,7 +1,7 @@
 -- The template for a descriptor list, or the first fault in the list (FM 94 BUFR, section 3,
 -- replications, Tables C and D; the faults, their order and the limits are our choice).
 -- Cited by public contracts.
-use Rattle.std.specs.Prelude.{ℕ, zero, suc, ◌+◌, ◌==◌, nat_lt, nat_le, not, ◌||◌, Bool, true, false, List, [], ◌∷◌, length, take, Option, Some, None, Result, Ok, Err, ok_or, is_some, ◌≡◌, ◌≤◌, ◌⊎◌, ◌++◌, ◌<◌, ◌≢◌, IfOk, IfErr, slice_index, if◌then◌else◌}
+use Rattle.std.specs.Prelude.{ℕ, zero, suc, ◌+◌, ◌==◌, nat_lt, nat_le, not, ◌||◌, Bool, true, false, List, [], ◌∷◌, length, take, Option, Some, None, Result, Ok, Err, ok_or, is_some, ◌≡◌, ◌≤◌, ◌⊎◌, ◌++◌, ◌<◌, slice_index, if◌then◌else◌}
 use Rattle.bufr_tables.specs.Records.{◌>>=◌}
 use Rattle.bufr_tables.specs.declared.fault.TemplateFault.{TemplateFault}
 use Rattle.bufr_tables.specs.Fxy.{f_of, x_of, y_of}
