@@ -1,16 +1,15 @@
 -- A parsed message is written again from its parts.
 use Rattle.std.proofs.lemmas.Grind.{common_steps}
-use Rattle.std.proofs.Common.{inl, inr, ◌≡◌, ◌==◌, ◌∙◌, ℕ, zero, suc, ◌+◌, ◌-◌, ◌*◌, ◌/◌, ◌%◌, ◌<◌, ◌≤◌, Bool, true, false, List, [], ◌∷◌, ◌++◌, length, take, drop, refl, ap, sym, subst, arith, Some, None, Ok, Err, get_or, codes, append_assoc, length-take, length-drop, Result, if◌then◌else◌, nat_lt, nat_le, not, is_some, slice_range, All, ◌&&◌, ◌||◌, slice_index}
+use Rattle.std.proofs.Common.{inl, inr, ◌≡◌, ◌==◌, ◌∙◌, ℕ, zero, suc, ◌+◌, ◌-◌, ◌*◌, ◌/◌, ◌%◌, ◌<◌, ◌≤◌, Bool, true, false, List, [], ◌∷◌, ◌++◌, length, take, drop, refl, ap, sym, subst, arith, Some, None, Ok, Err, get_or, codes, length-take, length-drop, Result, if◌then◌else◌, nat_lt, nat_le, not, is_some, slice_range, All, ◌&&◌, slice_index, rules}
 use Rattle.std.proofs.Math.Seq.{drop-cons, take-add}
 use Rattle.std.proofs.lemmas.Bool.Decides.{nat_tests}
 use Rattle.std.proofs.lemmas.Bool.{true≢false, cases_Bool}
 use Rattle.std.proofs.lemmas.List.{take-append-drop, get_or-take, get_or-drop}
 use Rattle.bufr_frame.specs.declared.fault.SectionFault.{SectionFault}
 use Rattle.bufr_frame.specs.declared.fault.SectionFault.TheVariants.{SectionShort, SectionPast}
-use Rattle.bufr_frame.specs.Prelude.{u24_at, u16_at, words, three_octets, two_octets, octets_of_words, is_edition, min_section_1, head_of, head_by, value_at, flags_of, octet_at, octets_3, octets_4, values_of, greatest_values, greatest, head_by, Sections, sections_of, section_end, parts, edition_of, has_section2, is_long_edition_3, parts_if_end_matches, IsPlain, section2_begins, section3_begins, section4_begins, parts_in, message_size, message_octets, section0_octets, section1_octets, section2_octets, section3_octets, section4_octets, head_octets, data_flags, even_size, size_from, with_even_length, max_extra_octets, max_octets, IsFitting, is_writable, Head}
+use Rattle.bufr_frame.specs.Prelude.{u24_at, u16_at, words, three_octets, two_octets, octets_of_words, is_edition, min_section_1, head_of, head_by, value_at, flags_of, octet_at, octets_3, octets_4, values_of, greatest_values, head_by, Sections, sections_of, section_end, parts, edition_of, has_section2, is_long_edition_3, parts_if_end_matches, IsPlain, section2_begins, section3_begins, section4_begins, parts_in, message_size, message_octets, section0_octets, section1_octets, section2_octets, section3_octets, section4_octets, head_octets, data_flags, even_size, size_from, with_even_length, max_extra_octets, max_octets, IsFitting, is_writable, Head}
 use Rattle.bufr_bits.specs.Prelude.{◌>>=◌}
 use Rattle.bufr_frame.proofs.LayoutLemmas.{least-section-1, message_size_is, length-octets_of_words, even-3, length-words}
-use Rattle.std.proofs.lemmas.List.Elements.{All-take, All-drop}
 use Rattle.std.proofs.lemmas.List.Folds.{drop_split}
 use Rattle.bufr_frame.proofs.ScanLemmas.{drop-twice}
 use Rattle.std.specs.List.{AllByRecursion}
@@ -22,10 +21,7 @@ head_in edition m = head_by (edition_of m) (λ key in_4 in_3. value_at m (if edi
 -- A number that is accepted passed all three tests.
 passed-all : (a b c : Bool) (e1 e2 e3 : SectionFault) (n q : ℕ) → (if a then Err e1 else if b then Err e2 else if c then Err e3 else Ok n) ≡ Ok q
     → (a ≡ false) × (b ≡ false) × (c ≡ false) × (n ≡ q)
-passed-all true b c e1 e2 e3 n q is = cc
-passed-all false true c e1 e2 e3 n q is = cc
-passed-all false false true e1 e2 e3 n q is = cc
-passed-all false false false e1 e2 e3 n q is = (refl, refl, refl, (cc))
+passed-all a b c e1 e2 e3 n q is = grind arith
 
 -- The section at `p` ends at `q`, inside the message.
 pub record EndsAt (m : List ℕ) (least p q : ℕ) : Type 0 where
@@ -102,12 +98,7 @@ sections-ended m s is =
 
 -- A message is of edition 3 or 4.
 pub edition-cases : {P : Type 0} (edition : ℕ) → is_edition edition ≡ true → (edition ≡ 3 → P) → (edition ≡ 4 → P) → P
-edition-cases {P = P} edition is of_3 of_4 = by (edition == 3) (edition == 4) refl refl is
-  where
-    by : (a b : Bool) → (edition == 3) ≡ a → (edition == 4) ≡ b → (a || b) ≡ true → P
-    by true b f g h = of_3 (grind (arith, nat_tests, f))
-    by false true f g h = of_4 (grind (arith, nat_tests, g))
-    by false false f g h = absurd (cc)
+edition-cases {P = P} edition is of_3 of_4 = search (rules, nat_tests)
 
 slice-long : (m : List ℕ) (a b : ℕ) → b ≤ length m → length (slice_range m a b) ≡ b - a
 slice-long m a b within = omega (arith, length-take (b - a) (drop a m), length-drop a m)
@@ -152,19 +143,19 @@ pub no-longer : (m : List ℕ) (s : Sections) → sections_of m ≡ Ok s → mes
 no-longer m s is =
     let e = sections-ended m s is in
     rw e.is (edition-cases (edition_of m) e.edition
-    (λ is. let l : max_extra_octets (edition_of m) ≡ 2 = ap max_extra_octets is in omega (arith, sizes-3 m s e is, l))
+    (λ is. let l : max_extra_octets (edition_of m) ≡ 2 = cc in omega (arith, sizes-3 m s e is, l))
     (λ is. omega (arith, sizes-4 m s e is)))
 
 -- The rewritten message is not too long, either.
 no-odd : (m : List ℕ) (p2 p3 p4 : ℕ) → edition_of m ≡ 3 → is_long_edition_3 m p2 p3 p4 ≡ false → length m ≤ max_octets → length m + (p3 - p2) % 2 + (p4 - p3) % 2 ≤ max_octets
-no-odd m p2 p3 p4 is short few = grind (arith, common_steps)
+no-odd m p2 p3 p4 is short few = grind arith
 
 pub not-too-long : (m : List ℕ) (s : Sections) → sections_of m ≡ Ok s → length m ≤ max_octets → message_size s.head.edition (parts_in s) ≤ max_octets
 not-too-long m s is few =
     let e = sections-ended m s is in
     rw e.is (edition-cases (edition_of m) e.edition
     (λ is. omega (arith, sizes-3 m s e is, no-odd m e.p2 e.p3 e.p4 is e.short few))
-    (λ is. omega (arith, sizes-4 m s e is, few)))
+    (λ is. omega (arith, sizes-4 m s e is)))
 
 -- n octets from index `a` on
 octets_from : ℕ → ℕ → List ℕ → List ℕ
@@ -182,24 +173,20 @@ slice-octets (suc n) a m within =
 slice-parts : (m : List ℕ) (a b c : ℕ) → a ≤ b → b ≤ c → slice_range m a c ≡ slice_range m a b ++ slice_range m b c
 slice-parts m a b c low high =
     let e : c - a ≡ (b - a) + (c - b) = omega arith in
-    let f : a + (b - a) ≡ b = omega arith in
-    ap (λ k. take k (drop a m)) e ∙ take-add (b - a) (c - b) (drop a m)
-    ∙ ap (λ l. take (b - a) (drop a m) ++ take (c - b) l) (drop-twice (b - a) a m ∙ ap (λ k. drop k m) f)
+    search (rules, take-add, drop-twice)
 
 -- the first n octets of a slice, and the others
 slice-begins : (n : ℕ) (m : List ℕ) (a c : ℕ) → a + n ≤ c → c ≤ length m → slice_range m a c ≡ octets_from n a m ++ slice_range m (a + n) c
 slice-begins n m a c fits within =
     let e : a + n - a ≡ n = omega arith in
-    slice-parts m a (a + n) c (omega arith) fits
-    ∙ ap (λ k. take k (drop a m) ++ slice_range m (a + n) c) e
-    ∙ ap (λ l. l ++ slice_range m (a + n) c) (slice-octets n a m (omega arith))
+    cc (slice-parts m a (a + n) c (omega arith) fits, slice-octets n a m (omega arith))
 
 -- A number that was read from three octets, or from two, is written as these octets.
 three-back : (a b c : ℕ) → a < 256 → b < 256 → c < 256 → three_octets (65536 * a + 256 * b + c) ≡ a ∷ b ∷ c ∷ []
-three-back a b c la lb lc = grind (arith, common_steps)
+three-back a b c la lb lc = grind arith
 
 two-back : (a b : ℕ) → b < 256 → two_octets (256 * a + b) ≡ a ∷ b ∷ []
-two-back a b lb = grind (arith, common_steps)
+two-back a b lb = grind arith
 
 words-back : (m : List ℕ) → All (λ octet. octet < 256) m → length m % 2 ≡ 0 → octets_of_words (words m) ≡ m
 words-back [] small even = refl
@@ -213,7 +200,7 @@ words-back (a ∷ b ∷ m) small even =
 -- the same, with a zero octet left over
 words-back-odd : (m : List ℕ) → All (λ octet. octet < 256) m → length m % 2 ≡ 1 → get_or m (length m - 1) 0 ≡ 0 → octets_of_words (words m) ++ 0 ∷ [] ≡ m
 words-back-odd [] small odd last = absurd (omega (arith, odd))
-words-back-odd (a ∷ []) small odd last = ap (λ x. x ∷ []) (sym last)
+words-back-odd (a ∷ []) small odd last = cc
 words-back-odd (a ∷ b ∷ m) small odd last =
     let lb : b < 256 = small 1 0 (omega arith) in
     let x : (256 * a + b) / 256 ≡ a = omega arith in
@@ -228,10 +215,7 @@ flag-back true n is small zero' = let h : 128 ≤ n = grind (arith, nat_tests, i
 flag-back false n is small zero' = let h : n < 128 = grind (arith, nat_tests, is) in omega arith
 
 flags-back : (o c : Bool) (n : ℕ) → nat_le 128 n ≡ o → nat_le 64 (n % 128) ≡ c → n < 256 → n % 64 ≡ 0 → data_flags o c ≡ n
-flags-back true true n io ic small zero' = let h : 128 ≤ n = grind (arith, nat_tests, io) in let k : 64 ≤ n % 128 = grind (arith, nat_tests, ic) in omega arith
-flags-back true false n io ic small zero' = let h : 128 ≤ n = grind (arith, nat_tests, io) in let k : n % 128 < 64 = grind (arith, nat_tests, ic) in omega arith
-flags-back false true n io ic small zero' = let h : n < 128 = grind (arith, nat_tests, io) in let k : 64 ≤ n % 128 = grind (arith, nat_tests, ic) in omega arith
-flags-back false false n io ic small zero' = let h : n < 128 = grind (arith, nat_tests, io) in let k : n % 128 < 64 = grind (arith, nat_tests, ic) in omega arith
+flags-back o c n io ic small zero' = search rules
 
 three-at : (m : List ℕ) (p : ℕ) → octets_from 3 p m ≡ get_or m p 0 ∷ get_or m (p + 1) 0 ∷ get_or m (p + 2) 0 ∷ []
 unfolding octets_from
@@ -244,7 +228,7 @@ four-at m p = let e : p + 1 + 1 ≡ p + 2 = omega arith in let f : p + 1 + 1 + 1
 seven-at : (m : List ℕ) (p : ℕ) → octets_from 7 p m
     ≡ get_or m p 0 ∷ get_or m (p + 1) 0 ∷ get_or m (p + 2) 0 ∷ get_or m (p + 3) 0 ∷ get_or m (p + 4) 0 ∷ get_or m (p + 4 + 1) 0 ∷ get_or m (p + 6) 0 ∷ []
 unfolding octets_from
-seven-at m p = grind (arith, common_steps)
+seven-at m p = grind arith
 
 module _ (m : List ℕ) (small : All (λ octet. octet < 256) m) where
   -- the octets of a declared length
@@ -253,21 +237,15 @@ module _ (m : List ℕ) (small : All (λ octet. octet < 256) m) where
       ap three_octets is ∙ three-back (get_or m p 0) (get_or m (p + 1) 0) (get_or m (p + 2) 0) (small p 0 (omega arith)) (small (p + 1) 0 (omega arith)) (small (p + 2) 0 (omega arith))
 
   word-back : (p : ℕ) → p + 2 ≤ length m → two_octets (u16_at m p) ≡ get_or m p 0 ∷ get_or m (p + 1) 0 ∷ []
-  word-back p within = two-back (get_or m p 0) (get_or m (p + 1) 0) (small (p + 1) 0 (omega arith))
+  word-back p within = omega (arith, two-back)
 
   -- a section that consists of its length, a reserved octet and its content
   content-back : (p q : ℕ) → p + 4 ≤ q → q ≤ length m → q ≡ p + u24_at m p → get_or m (p + 3) 0 ≡ 0 → section4_octets (slice_range m (p + 4) q) ≡ slice_range m p q
-  content-back p q fits within long reserved =
-      let x = slice_range m (p + 4) q in
-      let n : 4 + length x ≡ u24_at m p = omega (arith, slice-long m (p + 4) q within, long) in
-      ap (λ l. l ++ 0 ∷ x) (length-back p (4 + length x) (omega arith) n)
-      ∙ ap (λ r. get_or m p 0 ∷ get_or m (p + 1) 0 ∷ get_or m (p + 2) 0 ∷ r ∷ x) (sym reserved)
-      ∙ ap (λ l. l ++ x) (sym (four-at m p)) ∙ sym (slice-begins 4 m p q fits within)
+  content-back p q fits within long reserved = grind (arith, common_steps, reserved, four-at m p, slice-begins 4 m p q fits within)
 
   second-back : (b : Bool) (p q : ℕ) → q ≤ length m → (b ≡ true → (p + 4 ≤ q) × (q ≡ p + u24_at m p) × (get_or m (p + 3) 0 ≡ 0)) → (b ≡ false → q ≡ p)
       → section2_octets (if b then Some (slice_range m (p + 4) q) else None) ≡ slice_range m p q
-  second-back true p q within there absent = let t = there refl in content-back p q t.0 within t.1 t.2
-  second-back false p q within there absent = let z : q - p ≡ 0 = omega (arith, absent refl) in ap (λ k. take k (drop p m)) (sym z)
+  second-back b p q within there absent = search (rules, content-back)
 
   some-back : (b : Bool) (x : List ℕ) → is_some (if b then Some x else None) ≡ b
   some-back true x = refl
@@ -287,18 +265,7 @@ module _ (m : List ℕ) (small : All (λ octet. octet < 256) m) where
   octets-written = refl
 
   head-back-4 : (b : Bool) → 30 ≤ length m → nat_le 128 (get_or m 17 0) ≡ b → get_or m 17 0 % 128 ≡ 0 → octets_4 (head_in 4 m) (if b then 128 else 0) ≡ octets_from 19 11 m
-  head-back-4 b long is reserved =
-      let c = word-back 12 (omega arith) in
-      let s = word-back 14 (omega arith) in
-      let y = word-back 23 (omega arith) in
-      let f : (if b then 128 else 0) ≡ get_or m 17 0 = flag-back b (get_or m 17 0) is (small 17 0 (omega arith)) reserved in
-      head-written b ∙ (let e : written (two_octets (u16_at m 12)) (two_octets (u16_at m 14)) (two_octets (u16_at m 23)) (if b then 128 else 0)
-      ≡ written (get_or m 12 0 ∷ get_or m 13 0 ∷ []) (get_or m 14 0 ∷ get_or m 15 0 ∷ []) (get_or m 23 0 ∷ get_or m 24 0 ∷ []) (get_or m 17 0) =
-      ap (λ l. written l (two_octets (u16_at m 14)) (two_octets (u16_at m 23)) (if b then 128 else 0)) c
-      ∙ ap (λ l. written (get_or m 12 0 ∷ get_or m 13 0 ∷ []) l (two_octets (u16_at m 23)) (if b then 128 else 0)) s
-      ∙ ap (λ l. written (get_or m 12 0 ∷ get_or m 13 0 ∷ []) (get_or m 14 0 ∷ get_or m 15 0 ∷ []) l (if b then 128 else 0)) y
-      ∙ ap (written (get_or m 12 0 ∷ get_or m 13 0 ∷ []) (get_or m 14 0 ∷ get_or m 15 0 ∷ []) (get_or m 23 0 ∷ get_or m 24 0 ∷ [])) f
-      in e) ∙ sym octets-written
+  head-back-4 b long is reserved = search (rules, word-back, head-written, octets-written)
 
   written-3 : (flag : ℕ) → List ℕ
   written-3 flag = get_or m 11 0 ∷ get_or m 12 0 ∷ get_or m 13 0 ∷ get_or m 14 0 ∷ flag ∷ get_or m 16 0 ∷ get_or m 17 0 ∷ get_or m 18 0 ∷ get_or m 19 0 ∷ get_or m 20 0
@@ -339,13 +306,14 @@ module _ (m : List ℕ) (small : All (λ octet. octet < 256) m) where
       let n : min_section_1 (edition_of m) + length x ≡ u24_at m 8 = omega (arith, slice-long m from p within, long) in
       let width : from - 11 ≡ k = omega (arith, some) in
       let part : slice_range m 11 from ≡ octets_from k 11 m = ap (λ j. take j (drop 11 m)) width ∙ slice-octets k 11 m (omega (arith, some)) in
-      ap (λ l. l ++ head_octets (head_of m) b ++ x) (length-back 8 (min_section_1 (edition_of m) + length x) (omega arith) n ∙ sym (three-at m 8))
-      ∙ ap (λ l. octets_from 3 8 m ++ l ++ x) (head-back b known (omega arith) is reserved)
-      ∙ ap (λ l. l ++ octets_from k 11 m ++ x) (sym (slice-octets 3 8 m (omega (arith, some))))
-      ∙ ap (λ l. take 3 (drop 8 m) ++ l ++ x) (sym part)
-      ∙ append_assoc (slice_range m 8 11) (slice_range m 11 from) x
-      ∙ ap (λ l. slice_range m 8 11 ++ l) (sym (slice-parts m 11 from p (omega (arith, some)) fits))
-      ∙ sym (slice-parts m 8 11 p (omega arith) (omega (arith, some)))
+      cc (
+        length-back 8 (min_section_1 (edition_of m) + length x) (omega arith) n ∙ sym (three-at m 8),
+        head-back b known (omega arith) is reserved,
+        slice-octets 3 8 m (omega (arith, some)),
+        part,
+        slice-parts m 11 from p (omega (arith, some)) fits,
+        slice-parts m 8 11 p (omega arith) (omega (arith, some)),
+      )
 
   -- the octets of the descriptors, and in edition 3 the octet left over
   content-words : (p q : ℕ) → is_edition (edition_of m) ≡ true → p + 7 ≤ q → q ≤ length m → q ≡ p + u24_at m p → (edition_of m ≡ 4 → u24_at m p % 2 ≡ 1) → (edition_of m ≡ 3 → u24_at m p % 2 ≡ 0)
@@ -353,7 +321,7 @@ module _ (m : List ℕ) (small : All (λ octet. octet < 256) m) where
   content-words p q known fits within long odd even left_over =
       let x = slice_range m (p + 7) q in
       let lx = slice-long m (p + 7) q within in
-      let small_x : All (λ octet. octet < 256) x = All-take (λ octet. octet < 256) (q - (p + 7)) (drop (p + 7) m) (All-drop (λ octet. octet < 256) (p + 7) m small) in
+      let small_x : All (λ octet. octet < 256) x = grind (arith, common_steps) in
       let w = octets_of_words (words x) in
       let P : ℕ → Type 0 = λ n. with_even_length n 7 w ≡ x in
       edition-cases (edition_of m) known
@@ -378,23 +346,14 @@ module _ (m : List ℕ) (small : All (λ octet. octet < 256) m) where
   third-back : (content : List ℕ) (p q : ℕ) → p + 7 ≤ q → q ≤ length m → q ≡ p + u24_at m p → content ≡ slice_range m (p + 7) q → get_or m (p + 3) 0 ≡ 0 → get_or m (p + 6) 0 % 64 ≡ 0
       → section3_octets content (u16_at m (p + 4)) (data_flags (nat_le 128 (get_or m (p + 6) 0)) (nat_le 64 (get_or m (p + 6) 0 % 128))) ≡ slice_range m p q
   third-back content p q fits within long is reserved flags =
-      let x = slice_range m (p + 7) q in
       let lx = slice-long m (p + 7) q within in
       let n : 7 + length content ≡ u24_at m p = omega (arith, lx, long, ap length is) in
       let f = flags-back (nat_le 128 (get_or m (p + 6) 0)) (nat_le 64 (get_or m (p + 6) 0 % 128)) (get_or m (p + 6) 0) refl refl (small (p + 6) 0 (omega arith)) flags in
-      ap (λ l. l ++ 0 ∷ two_octets (u16_at m (p + 4)) ++ data_flags (nat_le 128 (get_or m (p + 6) 0)) (nat_le 64 (get_or m (p + 6) 0 % 128)) ∷ content)
-      (length-back p (7 + length content) (omega arith) n)
-      ∙ ap (λ r. get_or m p 0 ∷ get_or m (p + 1) 0 ∷ get_or m (p + 2) 0 ∷ r ∷ two_octets (u16_at m (p + 4)) ++ data_flags (nat_le 128 (get_or m (p + 6) 0)) (nat_le 64 (get_or m (p + 6) 0 % 128))
-      ∷ content) (sym reserved)
-      ∙ ap (λ l. get_or m p 0 ∷ get_or m (p + 1) 0 ∷ get_or m (p + 2) 0 ∷ get_or m (p + 3) 0 ∷ l ++ data_flags (nat_le 128 (get_or m (p + 6) 0)) (nat_le 64 (get_or m (p + 6) 0 % 128)) ∷ content)
-      (word-back (p + 4) (omega arith))
-      ∙ ap (λ r. get_or m p 0 ∷ get_or m (p + 1) 0 ∷ get_or m (p + 2) 0 ∷ get_or m (p + 3) 0 ∷ get_or m (p + 4) 0 ∷ get_or m (p + 4 + 1) 0 ∷ r ∷ content) f
-      ∙ ap (λ l. get_or m p 0 ∷ get_or m (p + 1) 0 ∷ get_or m (p + 2) 0 ∷ get_or m (p + 3) 0 ∷ get_or m (p + 4) 0 ∷ get_or m (p + 4 + 1) 0 ∷ get_or m (p + 6) 0 ∷ l) is
-      ∙ ap (λ l. l ++ x) (sym (seven-at m p)) ∙ sym (slice-begins 7 m p q fits within)
+      cc (length-back p (7 + length content) (omega arith) n, reserved, word-back (p + 4) (omega arith), f, is, seven-at m p, slice-begins 7 m p q fits within)
 
 -- the first eight octets
 prefix-back : (m : List ℕ) → All (λ octet. octet < 256) m → 8 ≤ length m → take 4 m ≡ codes "BUFR" → (n : ℕ) → n ≡ u24_at m 4 → section0_octets n (get_or m 7 0) ≡ take 8 m
-prefix-back m small long word n is = grind (arith, common_steps)
+prefix-back m small long word n is = grind arith
 
 -- the start of sections 2, 3 and 4
 module _ (m : List ℕ) (s : Sections) (e : Ended m s) where
@@ -409,7 +368,7 @@ module _ (m : List ℕ) (s : Sections) (e : Ended m s) where
   begins3 = starts_with_bufr (has_section2 m) refl
 
   begins4 : e.p3 ≡ section4_begins m
-  begins4 = e.third.long ∙ ap (λ p. p + u24_at m p) begins3
+  begins4 = rw (e.third.long, begins3)
 
 -- A plain message, written again, has the same octets.
 module _ (m : List ℕ) (plain : IsPlain m) (s : Sections) (e : Ended m s) where
@@ -440,8 +399,7 @@ module _ (m : List ℕ) (plain : IsPlain m) (s : Sections) (e : Ended m s) where
       omega (arith, even3, even4, e.third.long, e.fourth.long, sizes-3 m s e is, plain.size))
       (λ is.
       let odd : u24_at m e.p2 % 2 ≡ 1 = rw at3 (plain.whole is) in
-      let even : (e.p3 - (e.p2 + 7)) % 2 ≡ 0 = omega (arith, odd, e.third.long, e.third.least_long) in
-      omega (arith, even, sizes-4 m s e is, plain.size))
+      omega (arith, sizes-4 m s e is, plain.size))
 
   -- In edition 3, section 4 is even.
   payload : with_even_length (edition_of m) 4 (slice_range m (e.p3 + 4) e.p4) ≡ slice_range m (e.p3 + 4) e.p4
@@ -463,7 +421,7 @@ module _ (m : List ℕ) (plain : IsPlain m) (s : Sections) (e : Ended m s) where
       let w = words (slice_range m (e.p2 + 7) e.p3) in
       let R : ℕ → Type 0 = λ p. get_or m (p + 3) 0 ≡ 0 in
       let odd : edition_of m ≡ 4 → u24_at m e.p2 % 2 ≡ 1 = λ is. subst (λ p. u24_at m p % 2 ≡ 1) (sym at3) (plain.whole is) in
-      let even : edition_of m ≡ 3 → u24_at m e.p2 % 2 ≡ 0 = λ is. subst (λ p. u24_at m p % 2 ≡ 0) (sym at3) (plain.even3 is) in
+      let even : edition_of m ≡ 3 → u24_at m e.p2 % 2 ≡ 0 = search (rules, at3) in
       let s0 = prefix-back m small (omega (arith, o)) plain.word (message_size (edition_of m) (parts_in (parts m e.p1 e.p2 e.p3 e.p4))) size in
       let s1 = first-back m small b e.p1 known (omega (arith, e.first.least_long)) (omega (arith, o)) e.first.long refl plain.flags in
       let s2 = second-back m small b e.p1 e.p2 (omega (arith, o)) (λ there. ((e.second there).least_long, (e.second there).long, subst R (sym place2) (plain.section2 there))) e.no_second in
@@ -488,15 +446,14 @@ module _ (m : List ℕ) (plain : IsPlain m) (s : Sections) (e : Ended m s) where
       ∙ ap (λ l. slice_range m 8 e.p1 ++ (slice_range m e.p1 e.p2 ++ l)) (sym (drop_split m e.p2 e.p3 (omega (arith, o))))
       ∙ ap (λ l. slice_range m 8 e.p1 ++ l) (sym (drop_split m e.p1 e.p2 (omega (arith, o))))
       ∙ sym (drop_split m 8 e.p1 (omega (arith, o))) in
-      ap (λ l. l ++ (t1 (is_some (if b then Some (slice_range m (e.p1 + 4) e.p2) else None)) ++ (t2 ++ (t3 ++ (t4 ++ codes "7777"))))) s0
-      ∙ ap (λ l. take 8 m ++ l) back ∙ take-append-drop 8 m
+      grind (arith, common_steps, s0, back, take-append-drop 8 m)
 
 -- If sections 3 and 4 are even, rewriting does not lengthen an edition 3 message, either.
 pub least-when-even : (m : List ℕ) (s : Sections) → sections_of m ≡ Ok s → edition_of m ≡ 3 → u24_at m (section3_begins m) % 2 ≡ 0 → u24_at m (section4_begins m) % 2 ≡ 0
     → message_size s.head.edition (parts_in s) ≤ length m
 least-when-even m s is edition even3 even4 =
     let e = sections-ended m s is in
-    let third : u24_at m e.p2 % 2 ≡ 0 = ap (λ p. u24_at m p % 2) (begins3 m s e) ∙ even3 in
+    let third : u24_at m e.p2 % 2 ≡ 0 = rw (begins3, even3) in
     let fourth : u24_at m e.p3 % 2 ≡ 0 = ap (λ p. u24_at m p % 2) (begins4 m s e) ∙ even4 in
     rw e.is (omega (arith, third, fourth, e.third.long, e.fourth.long, sizes-3 m s e edition))
 
@@ -516,10 +473,10 @@ up a b h = grind arith
 -- ---- Heads that can be written.
 
 pub writable-4 : (h : Head) → h.edition ≡ 4 → is_writable h ≡ true
-writable-4 h e = ap (λ n. (n == 4) || ((n == 3) && (nat_le h.centre 255 && (nat_le h.subcentre 255 && (nat_le h.year 255 && (nat_le h.local_subcategory 0 && nat_le h.second 0)))))) e
+writable-4 h e = cc
 
 pub writable-3 : (h : Head) → h.edition ≡ 3 → h.centre ≤ 255 → h.subcentre ≤ 255 → h.year ≤ 255 → h.local_subcategory ≤ 0 → h.second ≤ 0 → is_writable h ≡ true
-writable-3 h e c s y l z = grind (arith, common_steps)
+writable-3 h e c s y l z = grind arith
 
 pub fitting-writable : (h : Head) → IsFitting h → is_writable h ≡ true
 fitting-writable h fits =
@@ -531,11 +488,7 @@ fitting-writable h fits =
 
 -- A property of the greatest values of both editions holds for any edition number.
 pub by-third : (P : List ℕ → Type 0) (e : ℕ) → P (greatest_values 3) → P (greatest_values 4) → P (greatest_values e)
-by-third P e of_3 of_4 = by (e == 3)
-  where
-    by : (third : Bool) → P (values_of (head_by e (λ key in_4 in_3. greatest (if third then in_3 else in_4))))
-    by true = of_3
-    by false = of_4
+by-third P e of_3 of_4 = grind arith
 
 -- ---- The head of a message.
 
@@ -553,16 +506,16 @@ at-most (x ∷ xs) (y ∷ ys) all (suc i) = at-most xs ys all.1 i
 
 module _ (m : List ℕ) (small : (i : ℕ) → slice_index m i < 256) where
   byte : (i : ℕ) → slice_index m i ≤ 255
-  byte i = omega (arith, small i)
+  byte i = omega arith
 
   two : (i : ℕ) → u16_at m i ≤ 65535
   two i = omega (arith, small i, small (i + 1))
 
   head-3-fits : AreAtMost (values_of (head_in 3 m)) (greatest_values 3)
-  head-3-fits = (byte 11, (byte 13, (byte 12, (byte 14, (byte 16, (byte 17, ((omega arith), (byte 18, (byte 19, (byte 20, (byte 21, (byte 22, (byte 23, (byte 24, ((omega arith), tt)))))))))))))))
+  head-3-fits = omega arith
 
   head-4-fits : AreAtMost (values_of (head_in 4 m)) (greatest_values 4)
-  head-4-fits = (byte 11, (two 12, (two 14, (byte 16, (byte 18, (byte 19, (byte 20, (byte 21, (byte 22, (two 23, (byte 25, (byte 26, (byte 27, (byte 28, (byte 29, tt)))))))))))))))
+  head-4-fits = omega arith
 
   head-of-fits : is_edition (edition_of m) ≡ true → IsFitting (head_of m)
   head-of-fits known =
@@ -573,15 +526,14 @@ module _ (m : List ℕ) (small : (i : ℕ) → slice_index m i < 256) where
         fits = λ i. subst (λ n. slice_index (values_of (head_in 3 m)) i ≤ slice_index (greatest_values n) i) (sym e)
             (at-most (values_of (head_in 3 m)) (greatest_values 3) head-3-fits i);
       }))
-      (λ e. let h : head_of m ≡ head_in 4 m = ap (λ n. head_in n m) e in
-      subst IsFitting (sym h) (record {
+      (λ e. subst IsFitting (sym (ap (λ n. head_in n m) e)) (record {
         edition = known;
         fits = λ i. subst (λ n. slice_index (values_of (head_in 4 m)) i ≤ slice_index (greatest_values n) i) (sym e)
             (at-most (values_of (head_in 4 m)) (greatest_values 4) head-4-fits i);
       }))
 
 pub heads-fit : (m : List ℕ) (s : Sections) → ((i : ℕ) → slice_index m i < 256) → sections_of m ≡ Ok s → IsFitting s.head
-heads-fit m s small is = let e = sections-ended m s is in subst (λ (x : Sections). IsFitting x.head) (sym e.is) (head-of-fits m small e.edition)
+heads-fit m s small is = let e = sections-ended m s is in rw (e.is) (head-of-fits m small e.edition)
 
 -- ---- The octets of a head.
 
@@ -592,14 +544,12 @@ flag-small false = omega arith
 head-3 : (h : Head) (b : Bool) → ((i : ℕ) → slice_index (values_of h) i ≤ slice_index (greatest_values 3) i) → AllByRecursion (λ octet. octet < 256) (octets_3 h (if b then 128 else 0))
 head-3 h b fits =
     let f0 = fits 0 in let f1 = fits 1 in let f2 = fits 2 in let f3 = fits 3 in let f4 = fits 4 in let f5 = fits 5 in let f6 = fits 7 in let f7 = fits 8 in let f8 = fits 9 in let f9 =
-    fits 10 in let f10 = fits 11 in let f11 = fits 12 in let f12 = fits 13 in let f13 = flag-small b in
-    grind (arith, common_steps)
+    fits 10 in let f10 = fits 11 in let f11 = fits 12 in let f12 = fits 13 in grind (arith, common_steps)
 
 head-4 : (h : Head) (b : Bool) → ((i : ℕ) → slice_index (values_of h) i ≤ slice_index (greatest_values 4) i) → AllByRecursion (λ octet. octet < 256) (octets_4 h (if b then 128 else 0))
 head-4 h b fits =
     let f0 = fits 0 in let f1 = fits 1 in let f2 = fits 2 in let f3 = fits 3 in let f4 = fits 4 in let f5 = fits 5 in let f6 = fits 6 in let f7 = fits 7 in let f8 = fits 8 in let f9 =
-    fits 9 in let f10 = fits 10 in let f11 = fits 11 in let f12 = fits 12 in let f13 = fits 13 in let f14 = fits 14 in let f15 = flag-small b in
-    grind (arith, common_steps)
+    fits 9 in let f10 = fits 10 in let f11 = fits 11 in let f12 = fits 12 in let f13 = fits 13 in let f14 = fits 14 in grind (arith, common_steps)
 
 pub head-small : (h : Head) (b : Bool) → IsFitting h → AllByRecursion (λ octet. octet < 256) (head_octets h b)
 head-small h b g =

@@ -256,6 +256,7 @@ stating-events :
     × (longest_of 0 (one_block_number ++ codes "BUFR" ++ 0 ∷ 1 ∷ 0 ∷ 4 ∷ []) (FrameAt 0 one_block_number ∷ first_event (scan_from 0 48 (codes "BUFR" ++ 0 ∷ 1 ∷ 0 ∷ 4 ∷ []))) ≡ 256)
     × (longest_of 0 (codes "BUFR") (scan (codes "BUFR")) ≡ 0)
     -- the strays of the worked streams, and lengths under 12
-    × (scan (codes "BUFR" ++ 0 ∷ 0 ∷ 64 ∷ 4 ∷ one_block_number ++ codes "xyBUF" ++ one_block_number ++ codes "BUFR" ++ 0 ∷ 0 ∷ 11 ∷ 4 ∷ codes "abcBUFR") ≡ StrayAt 0 NoEnd ∷ FrameAt 8 one_block_number ∷ FrameAt 61 one_block_number ∷ StrayAt 109 ShortLength ∷ StrayAt 120 Cut ∷ [])
+    × (scan (codes "BUFR" ++ 0 ∷ 0 ∷ 64 ∷ 4 ∷ one_block_number ++ codes "xyBUF" ++ one_block_number ++ codes "BUFR" ++ 0 ∷ 0 ∷ 11 ∷ 4 ∷ codes "abcBUFR")
+    ≡ StrayAt 0 NoEnd ∷ FrameAt 8 one_block_number ∷ FrameAt 61 one_block_number ∷ StrayAt 109 ShortLength ∷ StrayAt 120 Cut ∷ [])
 unfolding scan_from
 stating-events = (refl, refl, refl, refl, refl, refl, refl, refl, refl)

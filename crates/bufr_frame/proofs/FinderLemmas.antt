@@ -1,7 +1,7 @@
 -- Steps and calls of a finder, and the reads that they make.
-use Rattle.std.proofs.Common.{min, rules, tests, if◌then◌else◌, nat_lt, nat_le, ◌&&◌, ◌*◌, ◌≡◌, ◌≢◌, ◌^◌, ℕ, ◌+◌, ◌-◌, ◌<◌, ◌≤◌, List, [], ◌++◌, sym, ◌∙◌, ap, subst, arith, Option, Ok, Err, append_assoc, append-nil, ◌∷◌, length, take, drop, refl, length-take, length-drop, inl, inr, Bool, true, false, length-append, ◌⊎◌, ◌*◌, zero, suc, codes, Result, slice_range, take_while, Some, None, max}
+use Rattle.std.proofs.Common.{min, rules, if◌then◌else◌, nat_lt, nat_le, ◌&&◌, ◌*◌, ◌≡◌, ◌≢◌, ◌^◌, ℕ, ◌+◌, ◌-◌, ◌<◌, ◌≤◌, List, [], ◌++◌, sym, ◌∙◌, ap, subst, arith, Option, Ok, Err, append_assoc, append-nil, ◌∷◌, length, take, drop, refl, length-take, length-drop, inl, inr, Bool, true, false, length-append, ◌⊎◌, ◌*◌, zero, suc, codes, Result, slice_range, take_while, Some, None, max}
 use Rattle.std.specs.Io.KnownBytes.{Consumes, IsAtEnd}
-use Rattle.std.proofs.KnownBytes.{Consumes-nil, Consumes-trans}
+use Rattle.std.proofs.KnownBytes.{Consumes-trans}
 use Rattle.bufr_bits.specs.Prelude.{counted}
 use Rattle.bufr_bits.proofs.CountLemmas.{counted-counted, counted-none}
 use Rattle.bufr_frame.specs.Prelude.{read_failures_after, StopsFinder, IsUndecided, AddsReads, max_reads, ReadsOnce, FillFails, FillEnds, Candidate, StreamEvent, FrameAt, scan, scan_from, open_scan, stream_event, candidate_len, is_decided, Advances, NoEventCertain, first_event, StrayAt, has_word_at, classify, length_here, longest_of, offset_of, IsNextEvent, IsIncomplete, HasNoFurtherEvent, gone_to, stated_length, StartsWithBufr, FinderModel, ReadsAndPasses, Follows, new_finder, IsStatedLength, RaisesLongest, held, EachReadIsNeeded, CallReadsAreNeeded, ReturnsNextEvent, LeavesFinder, events_returned}
@@ -33,21 +33,20 @@ pub asks-once : (most reads reads' held held' free filled len n to : ℕ) → re
     → to - filled ≡ (reads' + 1 - reads) * min most (free + held' - held)
 asks-once most reads reads' held held' free filled len n to made grown fits is =
     let one : reads' + 1 - reads ≡ 1 = omega arith in
-    let all : free + held' - held ≡ len - filled = omega arith in
-    rw (one, all) (omega arith)
+    rw one (omega arith)
 
 -- Without a read, no octets are requested.
 pub asks-none : (asked reads reads' n : ℕ) → reads' ≡ reads → asked ≡ counted asked ((reads' - reads) * n)
 asks-none asked reads reads' n same =
     let none : reads' - reads ≡ 0 = omega arith in
     let nothing : (reads' - reads) * n ≡ 0 = rw none (omega arith) in
-    rw nothing (sym (counted-none asked))
+    omega arith
 
 -- the gap after a read, and without a read
 pub slides-once : (reads reads' held long gap start slid : ℕ) → reads' ≡ reads + 1 → held ≡ long → gap ≡ start → slid ≡ (if nat_le long start then start else 0)
     → start - slid ≡ (if nat_lt reads reads' && nat_le held gap then 0 else gap)
 slides-once reads reads' held long gap start slid made same is by =
-    let more : nat_lt reads reads' ≡ true = search (rules, tests) in
+    let more : nat_lt reads reads' ≡ true = search rules in
     rw (more, same, is, by) (at_once (nat_le long start))
   where
     at_once : (b : Bool) → start - (if b then start else 0) ≡ (if true && b then 0 else start)
@@ -56,7 +55,7 @@ slides-once reads reads' held long gap start slid made same is by =
 
 pub slides-none : (reads reads' held gap gap' : ℕ) → reads' ≡ reads → gap' ≡ gap → gap' ≡ (if nat_lt reads reads' && nat_le held gap then 0 else gap)
 slides-none reads reads' held gap gap' made same =
-    let no_more : nat_lt reads reads' ≡ false = search (rules, tests) in
+    let no_more : nat_lt reads reads' ≡ false = search rules in
     rw no_more same
 
 -- no read, an equal count of reads, and the reads of successive steps
@@ -64,7 +63,7 @@ pub adds-none : (reads made : ℕ) → made ≤ max_reads → AddsReads reads re
 adds-none reads made most = record { made = (let e : made - made ≡ 0 = omega arith in rw e (sym (counted-none reads))); order = omega arith; most = most }
 
 pub adds-same : (reads reads' before after after' : ℕ) → AddsReads reads reads' before after → after' ≡ after → AddsReads reads reads' before after'
-adds-same reads reads' before after after' adds same = let A : ℕ → Type 0 = λ n. AddsReads reads reads' before n in subst A (sym same) adds
+adds-same reads reads' before after after' adds same = grind arith
 
 pub adds-then : (a b c before made after : ℕ) → AddsReads a b before made → AddsReads b c made after → AddsReads a c before after
 adds-then a b c before made after one more = record {
@@ -80,12 +79,12 @@ adds-then a b c before made after one more = record {
 pub part-prefix : (s : List ℕ) (a b : ℕ) → a ≤ b → slice_range s a b ≡ drop a (take b s)
 part-prefix s a b order =
     let e : a + (b - a) ≡ b = omega arith in
-    sym (drop-take a (b - a) s) ∙ ap (λ n. drop a (take n s)) e
+    cc (drop-take a (b - a) s)
 
 pub part-drop : (s : List ℕ) (b c n : ℕ) → n ≤ c - b → drop n (slice_range s b c) ≡ slice_range s (b + n) c
 part-drop s b c n order =
     let e : c - b ≡ n + (c - (b + n)) = omega arith in
-    ap (λ k. drop n (take k (drop b s))) e ∙ drop-take n (c - (b + n)) (drop b s) ∙ ap (take (c - (b + n))) (drop-twice n b s)
+    rw (e, drop-take, drop-twice)
 
 pub part-length : (s : List ℕ) (a b : ℕ) → b ≤ length s → length (slice_range s a b) ≡ b - a
 part-length s a b within = omega (arith, length-take (b - a) (drop a s), length-drop a s)
@@ -121,11 +120,11 @@ after-read a b items lent buf post more filled to size n same sizes long fits or
 
 -- a part that is extended by the octets after it
 pub part-append : (s s' bs : List ℕ) (a b n : ℕ) → a ≤ b → b ≤ length s → take (b + n) s' ≡ take b s ++ bs → slice_range s' a (b + n) ≡ slice_range s a b ++ bs
-part-append s s' bs a b n order within same = grind (arith, common_steps, length-take, part-prefix, drop-append-le)
+part-append s s' bs a b n order within same = grind (arith, common_steps, part-prefix)
 
 pub empty-of : (l : List ℕ) → length l ≡ 0 → l ≡ []
 empty-of [] none = refl
-empty-of (x ∷ l) none = absurd (omega (arith, none))
+empty-of (x ∷ l) none = absurd (omega arith)
 
 -- ---- Steps of a finder, one after another.
 
@@ -133,17 +132,7 @@ empty-of (x ∷ l) none = absurd (omega (arith, none))
 pub Advances-then : (e e' : Bool) (at at' at'' : ℕ) (r r' r'' bs : List ℕ) (es es' : List StreamEvent)
     → (e ≡ true → (e' ≡ true) × (bs ≡ []))
     → Advances e at r es at' r' → Advances e' at' (r' ++ bs) es' at'' r'' → Advances e' at (r ++ bs) (es ++ es') at'' r''
-Advances-then e e' at at' at'' r r' r'' bs es es' kept one u16_at = record {
-  whole = λ t none.
-      let both : e ≡ true → bs ++ t ≡ [] = λ end. ap (λ l. l ++ t) (kept end).1 ∙ none (kept end).0 in
-      ap (scan_from 0 at) (append_assoc r bs t) ∙ one.whole (bs ++ t) both
-      ∙ ap (λ l. es ++ scan_from 0 at' l) (sym (append_assoc r' bs t))
-      ∙ ap (λ l. es ++ l) (u16_at.whole t none)
-      ∙ sym (append_assoc es es' (scan_from 0 at'' (r'' ++ t)));
-  decided = λ going.
-      let before : e ≡ false = elim (cases_Bool e) [ inl end ↦ absurd (true≢false (sym (kept end).0 ∙ going)) | inr open' ↦ open' ] in
-      list_all-append is_decided es es' ∙ rw (one.decided before, u16_at.decided going) refl;
-}
+Advances-then e e' at at' at'' r r' r'' bs es es' kept one u16_at = search (rules, append_assoc, list_all-append)
 
 pub Advances-none : (e : Bool) (at : ℕ) (r : List ℕ) → Advances e at r [] at r
 Advances-none e at r = record { whole = λ t _. refl; decided = λ _. refl }
@@ -164,14 +153,7 @@ pub Follows-none : (at : ℕ) (r : List ℕ) → Follows at r at r
 Follows-none at r = record { passed = 0; within = omega arith; offset = omega arith; left = refl }
 
 pub step-none : (left : Option (List ℕ)) (s : FinderModel) → ReadsAndPasses left left s s [] []
-step-none left s =
-    record {
-      read = Consumes-nil left;
-      advances = rw (append-nil s.rest) (Advances-none s.ended s.at s.rest);
-      follows = rw (append-nil s.rest) (Follows-none s.at s.rest);
-      kept = λ end. (end, refl, refl);
-      end = λ before. before;
-    }
+step-none left s = grind (arith, append-nil)
 
 module _ (left mid : Option (List ℕ)) (old s s' : FinderModel) (bs : List ℕ) (es : List StreamEvent) where
   -- Events are passed, and nothing is read.
@@ -190,23 +172,7 @@ module _ (left mid : Option (List ℕ)) (old s s' : FinderModel) (bs : List ℕ)
   -- Octets are read, and no event is passed.
   pub read-step : (left' : Option (List ℕ)) (result : Result (Unit {0}) RunFault) (bs' : List ℕ) → ReadsAndPasses left mid old s bs es → s.ended ≡ false → ReadsMore mid left' s s' result bs'
       → ReadsAndPasses left left' old s' (bs ++ bs') es
-  read-step left' result bs' step going next =
-      let whole : old.rest ++ (bs ++ bs') ≡ (old.rest ++ bs) ++ bs' = sym (append_assoc old.rest bs bs') in
-      let same : Follows s.at (s.rest ++ bs') s'.at s'.rest = record { passed = 0; within = omega arith; offset = omega (arith, next.at); left = next.fills.held } in
-      record {
-        read = Consumes-trans left mid left' bs bs' step.read next.fills.read;
-        advances = record {
-          whole = λ t none.
-              ap (scan_from 0 old.at) (ap (λ l. l ++ t) whole ∙ append_assoc (old.rest ++ bs) bs' t)
-              ∙ step.advances.whole (bs' ++ t) (λ end. absurd (true≢false (sym end ∙ going)))
-              ∙ ap (λ l. es ++ scan_from 0 s.at l) (sym (append_assoc s.rest bs' t) ∙ ap (λ l. l ++ t) (sym next.fills.held))
-              ∙ ap (λ n. es ++ scan_from 0 n (s'.rest ++ t)) (sym next.at);
-          decided = λ _. step.advances.decided going;
-        };
-        follows = rw whole (Follows-then old.at s.at s'.at (old.rest ++ bs) s.rest s'.rest bs' step.follows same);
-        kept = λ end. absurd (true≢false (sym (step.kept end).0 ∙ going));
-        end = λ _. next.fills.end;
-      }
+  read-step left' result bs' step going next = grind (arith, common_steps, next.at)
 
 -- the octets that were appended last
 event-octets : (before m : List ℕ) (len : ℕ) → len ≤ length m → drop (length (before ++ take len m) - len) (before ++ take len m) ≡ take len m
@@ -271,7 +237,7 @@ none-unless None not = refl
 none-unless (Some a) not = absurd (not a refl)
 
 pub some-none : {A : Type 0} → (x : Option A) (a : A) → x ≡ Some a → x ≡ None → ⊥
-some-none x a some none = let e : Some a ≡ None = sym some ∙ none in cc
+some-none x a some none = cc
 
 pub waits-open : (old s : FinderModel) (place size : ℕ) → ((s ≡ old) ⊎ NoEventCertain old.at old.rest) → IsIncomplete s.rest place size → NoEventCertain old.at old.rest
 waits-open old s place size (inr none) open' = none
@@ -312,7 +278,7 @@ module _ (left mid : Option (List ℕ)) (old s s1 : FinderModel) (place size : �
 
 -- No event in the remaining octets is certain, so the events are those of the open scan.
 pub events-are-open : (s rest : List ℕ) (events : List StreamEvent) (at : ℕ) → Advances false 0 s events at rest → NoEventCertain at rest → open_scan s ≡ events
-events-are-open s rest events at advances none = grind (arith, common_steps, whole-scan, take_while-all, append-nil)
+events-are-open s rest events at advances none = grind (arith, whole-scan, take_while-all, append-nil)
 
 -- The offset of the event is inside these octets. If the event is certain, eight octets are there.
 abbrev Placed : ℕ → List ℕ → StreamEvent → Type 0
@@ -323,7 +289,7 @@ AllPlaced at s = AllByRecursion (Placed at s)
 
 placed-wider : (at at' : ℕ) (s s' : List ℕ) (es : List StreamEvent) → at ≤ at' → at' + length s' ≤ at + length s → AllPlaced at' s' es → AllPlaced at s es
 placed-wider at at' s s' [] low high all = tt
-placed-wider at at' s s' (e ∷ es) low high all = ((omega (arith, all.0.0, low), λ yes. omega (arith, all.0.1 yes, high)), placed-wider at at' s s' es low high all.1)
+placed-wider at at' s s' (e ∷ es) low high all = ((omega (arith, all.0.0), λ yes. omega arith), placed-wider at at' s s' es low high all.1)
 
 placed-prefix : (at : ℕ) (s : List ℕ) (xs ys : List StreamEvent) → AllPlaced at s (xs ++ ys) → AllPlaced at s xs
 placed-prefix at s [] ys all = tt
@@ -334,17 +300,15 @@ placed-first at s [] all = tt
 placed-first at s (x ∷ xs) all = (all.0, tt)
 
 placed-here : (at : ℕ) (m : List ℕ) (v : Option Candidate) → 8 ≤ length m → AllPlaced at m (stream_event at m v)
-placed-here at m None long = tt
-placed-here at m (Some (Stray cause)) long = ((omega arith, λ yes. omega (arith, long)), tt)
-placed-here at m (Some Frame) long = ((omega arith, λ yes. omega (arith, long)), tt)
+placed-here at m v long = grind arith
 
 placed-cut : (at : ℕ) (m : List ℕ) (v : Option Candidate) → v ≡ Some (Stray Cut) → AllPlaced at m (stream_event at m v)
 placed-cut at m v is =
     rw is ((omega arith, λ yes. absurd (false≢true yes)), tt)
 
 scan-placed : (n at : ℕ) (s : List ℕ) → length s ≤ n → AllPlaced at s (scan_from 0 at s)
-scan-placed n at [] within = let P : List StreamEvent → Type 0 = λ l. AllPlaced at [] l in subst P (sym (scan_from-nil 0 at)) tt
-scan-placed zero at (x ∷ m) within = absurd (omega (arith, within))
+scan-placed n at [] within = search (rules, scan_from-nil)
+scan-placed zero at (x ∷ m) within = absurd (omega arith)
 scan-placed (suc n) at (x ∷ m) within =
     let s = x ∷ m in
     let P : List StreamEvent → Type 0 = λ l. AllPlaced at s l in
@@ -373,13 +337,12 @@ longest-prefix s t [] all sure = refl
 longest-prefix s t (e ∷ es) all sure =
     let both = and_parts (is_decided e) (list_all is_decided es) sure in
     let o = offset_of e - 0 in
-    let fits : o + 8 ≤ length s = omega (arith, all.0.1 both.0) in
-    let one : length_here (drop o (s ++ t)) ≡ length_here (drop o s) = ap length_here (drop-append-le o s t (omega (arith, fits))) ∙ here-prefix (drop o s) t (omega (arith, fits, length-drop o s)) in
-    ap (λ n. max n (longest_of 0 (s ++ t) es)) one ∙ ap (max (length_here (drop o s))) (longest-prefix s t es all.1 both.1)
+    let one : length_here (drop o (s ++ t)) ≡ length_here (drop o s) = ap length_here (drop-append-le o s t (omega arith)) ∙ here-prefix (drop o s) t (omega (arith, length-drop o s)) in
+    cc (one, longest-prefix s t es all.1 both.1)
 
 longest-append : (at : ℕ) (s : List ℕ) (xs ys : List StreamEvent) → longest_of at s (xs ++ ys) ≡ max (longest_of at s xs) (longest_of at s ys)
 longest-append at s [] ys = omega arith
-longest-append at s (x ∷ xs) ys = ap (max (length_here (drop (offset_of x - at) s))) (longest-append at s xs ys) ∙ omega arith
+longest-append at s (x ∷ xs) ys = omega (arith, longest-append at s xs ys)
 
 -- the greatest length for the same events, computed from the first octet on
 longest-back : (s : List ℕ) (at : ℕ) (t : List ℕ) (es : List StreamEvent) → AllPlaced at t es → t ≡ drop at s → longest_of at t es ≡ longest_of 0 s es
@@ -387,15 +350,15 @@ longest-back s at t [] all is = refl
 longest-back s at t (e ∷ es) all is =
     let o = offset_of e in
     let k : at + (o - at) ≡ o - 0 = omega (arith, all.0.0) in
-    let one : length_here (drop (o - at) t) ≡ length_here (drop (o - 0) s) = ap (λ l. length_here (drop (o - at) l)) is ∙ ap length_here (drop-twice (o - at) at s ∙ ap (λ n. drop n s) k) in
-    ap (λ n. max n (longest_of at t es)) one ∙ ap (max (length_here (drop (o - 0) s))) (longest-back s at t es all.1 is)
+    let one : length_here (drop (o - at) t) ≡ length_here (drop (o - 0) s) = cc (is, drop-twice (o - at) at s ∙ ap (λ n. drop n s) k) in
+    cc (one, longest-back s at t es all.1 is)
 
 -- the greatest length after another call
 more-longest : (s s' : FinderModel) (bs bs' : List ℕ) (events seen : List StreamEvent) (left mid : Option (List ℕ)) → ReadsAndPasses left mid new_finder s bs events
     → s.longest ≡ longest_of 0 bs events
     → (s.ended ≡ true → bs' ≡ []) → AllPlaced s.at (s.rest ++ bs') seen → RaisesLongest s s' bs' seen → s'.longest ≡ longest_of 0 (bs ++ bs') (events ++ seen)
 more-longest s s' bs bs' events seen left mid one known kept placed grown =
-    grind (arith, common_steps, drop-append-le, cases_Bool, inl, append-nil, inr, whole-scan, scan-placed, longest-prefix, placed-prefix, longest-back, longest-append)
+    grind (arith, common_steps, whole-scan, scan-placed, longest-prefix, placed-prefix, longest-back, longest-append)
 
 pub longest-events : (left mid left' : Option (List ℕ)) (s s' : FinderModel) (bs bs' : List ℕ) (events es : List StreamEvent)
     → ReadsAndPasses left mid new_finder s bs events → s.longest ≡ longest_of 0 bs events → ReadsAndPasses mid left' s s' bs' es → RaisesLongest s s' bs' es
@@ -419,7 +382,7 @@ longest-stopped left mid left' s s' bs bs' events one known u16_at grown =
 
 wider : (most most' at : ℕ) (left : List ℕ) (given : List (List ℕ)) → most ≤ most' → EachReadIsNeeded most at left given → EachReadIsNeeded most' at left given
 wider most most' at left [] more all = tt
-wider most most' at left (octets ∷ given) more all = (all.0, omega (arith, all.1, more), wider most most' at (left ++ octets) given more all.2)
+wider most most' at left (octets ∷ given) more all = (all.0, omega (arith, all.1), wider most most' at (left ++ octets) given more all.2)
 
 one-more : (most at : ℕ) (left : List ℕ) (given : List (List ℕ)) (last : List ℕ) → EachReadIsNeeded most at left given → NoEventCertain at (left ++ concat given) → length last ≤ most
     → EachReadIsNeeded most at left (given ++ last ∷ [])
@@ -433,19 +396,16 @@ none-waited s = record { given = []; octets = refl; made = omega arith; waited =
 
 -- No more reads were made.
 pub waits-still : (old s s' : FinderModel) (bs : List ℕ) → CallReadsAreNeeded old s bs → s'.reads ≡ s.reads → s.longest ≤ s'.longest → CallReadsAreNeeded old s' bs
-waits-still old s s' bs each reads longer = record {
-  given = each.given;
-  octets = each.octets;
-  made = reads ∙ each.made;
-  waited = wider (max 4096 s.longest) (max 4096 s'.longest) old.at old.rest each.given (omega (arith, longer)) each.waited;
-}
+waits-still old s s' bs each reads longer = grind (arith, common_steps, wider)
 
 -- If the remaining octets decide no event, neither do the initial octets with all that was read.
 none-in-all : (left mid : Option (List ℕ)) (old s : FinderModel) (bs : List ℕ) (place size : ℕ) → ReadsAndPasses left mid old s bs [] → s.ended ≡ false → IsIncomplete s.rest place size
     → NoEventCertain old.at (old.rest ++ bs)
-none-in-all left mid old s bs place size step going open' =
-    ap (take_while is_decided) (scan-on s.ended old.at s.at (old.rest ++ bs) s.rest [] step.advances ∙ scan-on false s.at (s.at + place) s.rest (drop place s.rest) [] (open'.advances s.at))
-    ∙ open'.none (s.at + place)
+none-in-all left mid old s bs place size step going open' = cc (
+  scan-on s.ended old.at s.at (old.rest ++ bs) s.rest [] step.advances
+      ∙ scan-on false s.at (s.at + place) s.rest (drop place s.rest) [] (open'.advances s.at),
+  open'.none (s.at + place),
+)
 
 module _ (left mid : Option (List ℕ)) (old s s1 s2 : FinderModel) (place size : ℕ) (bs : List ℕ) (each : CallReadsAreNeeded old s bs) (step : ReadsAndPasses left mid old s bs [])
     (going : s.ended ≡ false) (open' : IsIncomplete s.rest place size) (is : s1 ≡ gone_to s place size) (bound : held s2 ≤ max 4096 s2.longest)
@@ -460,10 +420,10 @@ module _ (left mid : Option (List ℕ)) (old s s1 s2 : FinderModel) (place size 
       record {
         given = each.given ++ bs' ∷ [];
         octets = ap (λ l. l ++ bs') each.octets ∙ ap (λ l. concat each.given ++ l) (sym (append-nil bs')) ∙ sym (concat-append each.given (bs' ∷ []));
-        made = omega (arith, reads, ap (λ x. x.reads) is, each.made, length-append each.given (bs' ∷ []));
+        made = omega (arith, ap (λ x. x.reads) is, each.made, length-append each.given (bs' ∷ []));
         waited = one-more most old.at old.rest each.given bs' (wider (max 4096 s.longest) most old.at old.rest each.given (omega (arith, longer)) each.waited)
             (rw each.octets at (none-in-all left mid old s bs place size step going open'))
-            (omega (arith, bound, ap length read.fills.held, length-append s1.rest bs'));
+            (omega (arith, ap length read.fills.held, length-append s1.rest bs'));
       }
 
   -- The read returned octets, or it failed, or it was not made.
@@ -493,7 +453,7 @@ module _ (old s' : FinderModel) (offset place len size : ℕ) (here : Option Can
       rw is (rw takes (rw at (rw far at (found.advances old.at))))
 
   found-follows : Follows old.at old.rest s'.at s'.rest
-  found-follows = rw is (record { passed = place + len; within = omega (arith, found.within, takes); offset = refl; left = refl })
+  found-follows = rw is (record { passed = place + len; within = omega (arith, found.within); offset = refl; left = refl })
 
   -- A message that was passed is buffered, before the remaining octets.
   pub found-octets : here ≡ Some Frame → drop (length s'.before - len) s'.before ≡ take (stated_length (drop place old.rest)) (drop place old.rest)
@@ -502,7 +462,7 @@ module _ (old s' : FinderModel) (offset place len size : ℕ) (here : Option Can
       let size_is : len ≡ stated_length m = takes ∙ ap (candidate_len m) whole in
       let before : s'.before ≡ old.before ++ take place old.rest ++ take len m =
       ap (λ x. x.before) is ∙ ap (λ l. old.before ++ l) (take-add place len old.rest) ∙ sym (append_assoc old.before (take place old.rest) (take len m)) in
-      rw before (event-octets (old.before ++ take place old.rest) m len (omega (arith, found.within, takes, length-drop place old.rest)) ∙ ap (λ n. take n m) size_is)
+      rw before (event-octets (old.before ++ take place old.rest) m len (omega (arith, found.within, length-drop place old.rest)) ∙ ap (λ n. take n m) size_is)
 
   -- the reads of the call that passes the event
   pub found-reads : here ≢ None → (left left' : Option (List ℕ)) (first : FinderModel) (bs : List ℕ) → ReadsAndPasses left left' first old bs [] → CallReadsAreNeeded first old bs
@@ -534,20 +494,11 @@ pub returns-again : (left : Option (List ℕ)) (reads : ℕ) (s : FinderModel) (
     → held s ≤ max 4096 s.longest
     → ReturnsNextEvent left left reads reads s s (Err fault)
 returns-again left reads s fault is open' most near bound =
-    let A : Option RunFault → Type 0 = λ o. IfSome o (λ _. s ≡ s) in
-    record {
-      steps = ([], step-none left s, (λ sound. absurd (some-none s.fault fault is sound)), none-waited s);
-      ends = (open', (λ sound. absurd (some-none s.fault fault is sound)));
-      counts = adds-none reads s.reads most;
-      waits = λ differ. absurd (differ refl);
-      near = near;
-      bound = bound;
-      again = subst A (sym is) refl;
-    }
+    grind (arith, common_steps, step-none, some-none, adds-none)
 
 -- At the end of the stream, no event remains.
 pub raises-none : (old s : FinderModel) (bs : List ℕ) → Raised old.longest s.longest s.rest → (StartsWithBufr s.rest → ⊥) → RaisesLongest old s bs []
-raises-none old s bs (inl same) none = omega (arith, same)
+raises-none old s bs (inl same) none = omega arith
 raises-none old s bs (inr (word, long, grown)) none = absurd (none word)
 
 -- ---- A call of a finder, from its progress so far.
@@ -575,9 +526,7 @@ reading-fresh left reads s sound most = record {
 module _ (left mid : Option (List ℕ)) (reads reads' : ℕ) (first s : FinderModel) (sound : first.fault ≡ None) (on : ReadingOn left mid reads reads' first s) where
   -- The end of the stream was found.
   pub reading-done : (looks : (s.ended ≡ true) × HasNoFurtherEvent s.rest) → s.at < 2 ^ 63 → held s ≤ max 4096 s.longest → ReturnsNextEvent left mid reads reads' first s (Ok event.Done)
-  reading-done looks near bound =
-      returns-next left mid reads reads' first s (Ok event.Done) sound (on.steps.0, on.steps.1, (λ _. raises-none first s on.steps.0 on.raised looks.1.word), on.each)
-      (on.sound, (looks.0, looks.1.scan)) on.counts (waits-only first s s on.waits refl) near bound
+  reading-done looks near bound = search (rules, returns-next, raises-none, waits-only)
 
   -- the same, for an equal finder
   pub reading-ends : (s' : FinderModel) (looks : (s.ended ≡ true) × HasNoFurtherEvent s.rest) → s' ≡ s → s'.at < 2 ^ 63 → held s' ≤ max 4096 s'.longest
@@ -715,11 +664,7 @@ failures-as {X} {Y} a b c r r' f is is' e same = rw is' (subst (λ n. a ≡ read
 
 pub held-done : (old new : FinderModel) → old.fault ≡ None → (old.ended ≡ true) × HasNoFurtherEvent old.rest → new ≡ old → new.at < 2 ^ 63 → held new ≤ max 4096 new.longest → old.reads ≤ max_reads
     → GivesHeldEvent old new (Some (Ok event.Done))
-held-done old new sound looks same near bound most = (
-  sound,
-  λ left reads.
-      reading-ends left left reads reads old old sound (reading-fresh left reads old sound most) new looks same near bound,
-)
+held-done old new sound looks same near bound most = search (rules, reading-ends, reading-fresh)
 
 pub held-found : (old new : FinderModel) (place n : ℕ) (here : Candidate) (e : Event) → old.fault ≡ None → IsNextEvent old.ended old.rest place (Some here) × IsStatedLength (drop place old.rest) n
     → new ≡ gone_to old (place + len_at here n) n

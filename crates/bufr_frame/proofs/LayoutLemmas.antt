@@ -1,9 +1,9 @@
 -- A written message is read back, section by section.
 use Rattle.std.proofs.lemmas.Grind.{common_steps}
-use Rattle.std.proofs.Common.{◌≡◌, ◌==◌, ◌-◌, ℕ, true, false, List, Ok, length, refl, eq-eqb, ◌∙◌, ◌+◌, ◌*◌, ◌/◌, ◌%◌, ◌≤◌, Bool, [], ◌∷◌, ◌++◌, ap, sym, subst, arith, Option, Some, None, get_or, codes, append_assoc, length-append, Err, append-nil, zero, suc, ◌<◌, slice_get, if◌then◌else◌, nat_lt, nat_le, is_some, slice_range, ◌&&◌, ◌||◌, Result, OnOk, option_map}
+use Rattle.std.proofs.Common.{◌≡◌, ◌==◌, ◌-◌, ℕ, true, false, List, Ok, length, refl, ◌∙◌, ◌+◌, ◌*◌, ◌/◌, ◌%◌, ◌≤◌, Bool, [], ◌∷◌, ◌++◌, ap, sym, subst, arith, Option, Some, None, get_or, codes, append_assoc, length-append, Err, append-nil, zero, suc, ◌<◌, slice_get, if◌then◌else◌, nat_lt, nat_le, is_some, slice_range, ◌&&◌, ◌||◌, Result, OnOk, option_map, rules}
 use Rattle.bufr_frame.specs.Prelude.{is_edition, min_section_1, flags_of, octets_3, octets_4, head_octets, sections_of, section_end, parts, edition_of, has_section2, is_long_edition_3, head_of, Sections, is_padded, u24_at, u16_at, words, three_octets, two_octets, octets_of_words, MessageParts, message_octets, message_size, section0_octets, section1_octets, section2_octets, section3_octets, section4_octets, data_flags, sections_from, head_octets, even_size, with_even_length, with_pad_octet, is_writable, size_from, parts_of, Head}
 use Rattle.std.proofs.lemmas.Bool.Decides.{nat_tests}
-use Rattle.bufr_bits.specs.Prelude.{bits_of, bits_of_octet}
+use Rattle.bufr_bits.specs.Prelude.{bits_of}
 
 -- ---- The sections of a message, one after another.
 
@@ -12,7 +12,7 @@ pub sections-are : (m : List ℕ) (p1 p2 p3 p4 : ℕ) → is_edition (edition_of
     → (if has_section2 m then section_end m 2 4 p1 else Ok p1) ≡ Ok p2
     → section_end m 3 7 p2 ≡ Ok p3 → section_end m 4 4 p3 ≡ Ok p4 → p4 ≡ length m - 4 → is_long_edition_3 m p2 p3 p4 ≡ false → sections_of m ≡ Ok (parts m p1 p2 p3 p4)
 unfolding sections_of
-sections-are m p1 p2 p3 p4 edition a b c d last short = grind (arith, common_steps, eq-eqb)
+sections-are m p1 p2 p3 p4 edition a b c d last short = grind arith
 
 -- The octets of a number represent it.
 pub two-number : (n : ℕ) → 256 * (n / 256) + n % 256 ≡ n
@@ -50,41 +50,25 @@ length-padded true prefix octets = omega (arith, length-append octets (0 ∷ [])
 length-padded false prefix octets = refl
 
 pub length-evened : (edition prefix : ℕ) (octets : List ℕ) → prefix + length (with_even_length edition prefix octets) ≡ even_size edition (prefix + length octets)
-length-evened edition prefix octets = length-padded (is_padded edition (prefix + length octets)) prefix octets
+length-evened edition prefix octets = omega (arith, length-padded)
 
 -- In edition 3, the remainder of the length divided by 2 is added.
 pub even-3 : (n : ℕ) → even_size 3 n ≡ n + n % 2
-even-3 n = grind (arith, common_steps)
+even-3 n = grind arith
 
 -- A length that was made even is not padded again.
 pub even-stays : (edition n : ℕ) → is_padded edition (even_size edition n) ≡ false
-even-stays edition n = by (edition == 3) (n % 2 == 1) refl
-  where
-    by : (third odd : Bool) → (n % 2 == 1) ≡ odd → (third && ((if third && odd then n + 1 else n) % 2 == 1)) ≡ false
-    by false odd is = refl
-    by true false is = is
-    by true true is =
-        let h : n % 2 ≡ 1 = grind (arith, nat_tests, is) in
-        let even : (n + 1) % 2 ≡ 0 = omega (arith, h) in
-        ap (λ k. k == 1) even
+even-stays edition n = search (rules, nat_tests)
 
 -- Section 1 has at least 17 octets.
 pub least-section-1 : (edition : ℕ) → 17 ≤ min_section_1 edition
 unfolding min_section_1
-least-section-1 edition = by (edition == 3)
-  where
-    by : (third : Bool) → 17 ≤ (if third then 17 else 22)
-    by true = omega arith
-    by false = omega arith
+least-section-1 edition = grind arith
 
 -- the length of section 1, without local use
 length-head : (h : Head) (optional : Bool) → 3 + length (head_octets h optional) ≡ min_section_1 h.edition
 unfolding min_section_1
-length-head h optional = by (h.edition == 3)
-  where
-    by : (third : Bool) → 3 + length (if third then octets_3 h (if optional then 128 else 0) else octets_4 h (if optional then 128 else 0)) ≡ (if third then 17 else 22)
-    by true = refl
-    by false = refl
+length-head h optional = grind arith
 
 -- an index after a prefix
 pub index-after : (prefix rest : List ℕ) (p k : ℕ) → p ≡ length prefix → get_or (prefix ++ rest) (p + k) 0 ≡ get_or rest k 0
@@ -101,10 +85,7 @@ section-at m prefix rest k least p n is at least_n three_n within = grind (arith
 
 second-at : (m prefix rest : List ℕ) (optional : Option (List ℕ)) (p : ℕ) → m ≡ prefix ++ (section2_octets optional ++ rest) → p ≡ length prefix → has_section2 m ≡ is_some optional
     → p + length (section2_octets optional) + 4 ≤ length m → (if has_section2 m then section_end m 2 4 p else Ok p) ≡ Ok (p + length (section2_octets optional))
-second-at m prefix rest None p is at has within = let e : p + 0 ≡ p = omega arith in rw (has, e) refl
-second-at m prefix rest (Some octets) p is at has within =
-    let size : 4 + length octets ≡ length (section4_octets octets) = omega arith in
-    rw has (section-at m prefix (0 ∷ octets ++ rest) 2 4 p (4 + length octets) is at (omega arith) (omega arith) (omega (arith, size, within)) ∙ ap (λ n. Ok (p + n)) size)
+second-at m prefix rest optional p is at has within = search (rules, section-at)
 
 flag-test : (b : Bool) → nat_le 128 (if b then 128 else 0) ≡ b
 flag-test true = refl
@@ -128,14 +109,7 @@ none-fits n is = grind arith
 -- A head that can be written is of edition 4, or of edition 3 without the values that edition 3
 -- lacks.
 pub by-edition : {P : Type 0} (h : Head) → is_writable h ≡ true → (h.edition ≡ 4 → P) → (h.edition ≡ 3 → h.local_subcategory ≡ 0 → h.second ≡ 0 → P) → P
-by-edition h is four u24_at =
-    or-by (h.edition == 4) _ is (λ e. four (equal h.edition 4 e)) (λ rest.
-    let a = and-both (h.edition == 3) _ rest in
-    let b = and-both (nat_le h.centre 255) _ a.1 in
-    let c = and-both (nat_le h.subcentre 255) _ b.1 in
-    let d = and-both (nat_le h.year 255) _ c.1 in
-    let e = and-both (nat_le h.local_subcategory 0) _ d.1 in
-    u24_at (equal h.edition 3 a.0) (none-fits h.local_subcategory e.0) (none-fits h.second e.1))
+by-edition h is four u24_at = grind (arith, or-by)
 
 pub writable-edition : (h : Head) → is_writable h ≡ true → is_edition h.edition ≡ true
 writable-edition h is = by-edition h is (λ e. ap is_edition e) (λ e l s. ap is_edition e)
@@ -169,7 +143,7 @@ second-part : (m prefix rest : List ℕ) (optional : Option (List ℕ)) (p q : �
 second-part m prefix rest None p q is at to has = rw has refl
 second-part m prefix rest (Some octets) p q is at to has =
     let head = three_octets (4 + length octets) ++ 0 ∷ [] in
-    let same : m ≡ (prefix ++ head) ++ (octets ++ rest) = is ∙ sym (append_assoc prefix head (octets ++ rest)) in
+    let same : m ≡ (prefix ++ head) ++ (octets ++ rest) = simp (is, append_assoc) in
     let begin : p + 4 ≡ length (prefix ++ head) = omega (arith, length-append prefix head) in
     rw has (ap Some (ap (λ l. slice_range l (p + 4) q) same ∙ range-after (prefix ++ head) octets rest (p + 4) q begin (omega arith)))
 
@@ -188,11 +162,10 @@ module _ (h : Head) (optional : Bool) (size n : ℕ) (local1 rest : List ℕ) wh
       by-edition h is (λ e. subst P (sym e) refl) (λ e l s. subst P (sym e) refl)
 
   head-same : (c s y : ℕ) → c ≡ h.centre → s ≡ h.subcentre → y ≡ h.year → (record h { centre = c; subcentre = s; year = y }) ≡ h
-  head-same c s y a b d =
-      ap (λ x. record h { centre = x; subcentre = s; year = y }) a ∙ ap (λ x. record h { subcentre = x; year = y }) b ∙ ap (λ x. record h { year = x }) d
+  head-same c s y a b d = rw (a, b, d)
 
   head-lacking : (l s : ℕ) → l ≡ h.local_subcategory → s ≡ h.second → (record h { local_subcategory = l; second = s }) ≡ h
-  head-lacking l s a b = ap (λ x. record h { local_subcategory = x; second = s }) a ∙ ap (λ x. record h { second = x }) b
+  head-lacking l s a b = rw (a, b)
 
   pub head-back : (is_writable h ≡ true) → head_of (of_edition h.edition) ≡ h
   head-back is =
@@ -275,8 +248,7 @@ read-back h p writable =
     let p3 = p2 + n3 in
     let p4 = p3 + n4 in
     let known : is_edition (edition_of m) ≡ true = writable-edition h writable in
-    let has : has_section2 m ≡ is_some p.section2 = ap (nat_le 128) (flags-back h (is_some p.section2) (message_size edition p) n1 p.local1 (s2 ++ (s3 ++ (s4 ++ end))) writable)
-    ∙ flag-test (is_some p.section2) in
+    let has : has_section2 m ≡ is_some p.section2 = rw (flags-back, flag-test) in
     let e1 : section_end m 1 (min_section_1 (edition_of m)) 8 ≡ Ok p1 =
     section-at m s0 ((ho ++ p.local1) ++ (s2 ++ (s3 ++ (s4 ++ end)))) 1 least 8 n1 (ap (λ l. s0 ++ l) (first-split n1 ho p.local1 (s2 ++ (s3 ++ (s4 ++ end))))) refl (omega arith) (omega (arith, lh))
     (omega (arith, lm)) in
@@ -338,7 +310,7 @@ pub third : {X E : Type 0} (r : Result X E) (edition : ℕ) (words : List ℕ) (
     → one ≡ old ++ three_octets n → u16_at ≡ (one ++ (0 ∷ two_octets subsets ++ flags ∷ [])) ++ octets_of_words words
     → OnOk r (new ≡ with_pad_octet b u16_at) → OnOk r (new ≡ old ++ section3_octets (with_even_length edition 7 (octets_of_words words)) subsets flags)
 third (Err e) edition words subsets flags n b old one u16_at new size is p q last = tt
-third (Ok x) edition words subsets flags n b old one u16_at new size is p q last = grind (arith, common_steps, length-octets_of_words, length-evened, padded-after, append_assoc)
+third (Ok x) edition words subsets flags n b old one u16_at new size is p q last = grind (arith, length-octets_of_words, length-evened, append_assoc)
 
 -- ---- Sections that are made even.
 
@@ -352,12 +324,12 @@ pub even-least : (edition n : ℕ) → n ≤ even_size edition n
 even-least edition n = least-by (is_padded edition n) n
 
 pub even-mono : (edition n k : ℕ) → n ≤ k → even_size edition n ≤ even_size edition k
-even-mono edition n k h = grind (arith, common_steps)
+even-mono edition n k h = grind arith
 
 -- A shorter payload does not make the message longer.
 pub size-least : (edition : ℕ) (local1 : ℕ) (section2 : Option (List ℕ)) (descriptors n k most : ℕ) → n ≤ k → size_from edition local1 section2 descriptors k ≤ most
     → size_from edition local1 section2 descriptors n ≤ most
-size-least edition local1 section2 descriptors n k most h g = omega (arith, even-mono edition (4 + n) (4 + k) (omega (arith, h)), g)
+size-least edition local1 section2 descriptors n k most h g = omega (arith, even-mono edition (4 + n) (4 + k) (omega arith))
 
 -- ---- Their octets.
 
@@ -370,7 +342,7 @@ written-even h local1 section2 descriptors subsets observed compressed payload =
 bits-append : (xs ys : List ℕ) → bits_of (xs ++ ys) ≡ bits_of xs ++ bits_of ys
 unfolding bits_of
 bits-append [] ys = refl
-bits-append (x ∷ xs) ys = ap (λ (b : List Bool). bits_of_octet x ++ b) (bits-append xs ys) ∙ sym (append_assoc (bits_of_octet x) (bits_of xs) (bits_of ys))
+bits-append (x ∷ xs) ys = cc (bits-append xs ys)
 
 -- The bits of a payload come before those of its pad octet.
 bits-by : (b : Bool) (octets : List ℕ) → (tail : List Bool) × (bits_of (with_pad_octet b octets) ≡ bits_of octets ++ tail)
@@ -383,7 +355,7 @@ evened-bits edition prefix octets = bits-by (is_padded edition (prefix + length 
 -- ---- The words of octets, one by one.
 
 two-after : (a b i : ℕ) (m : List ℕ) → u16_at (a ∷ b ∷ m) (2 * suc i) ≡ u16_at m (2 * i)
-two-after a b i m = grind (arith, common_steps)
+two-after a b i m = grind arith
 
 -- There is no word after the last whole one.
 pub words-none : (m : List ℕ) (i : ℕ) → length m < 2 * i + 2 → slice_get (words m) i ≡ None

@@ -1,5 +1,5 @@
 -- How a scan continues, and what the octets that follow cannot change.
-use Rattle.std.proofs.Common.{◌≡◌, ℕ, zero, suc, ◌+◌, ◌-◌, ◌<◌, ◌≤◌, Bool, true, false, List, [], ◌∷◌, ◌++◌, length, take, drop, codes, refl, sym, ◌∙◌, ap, subst, arith, add-zero, length-take, length-drop, Option, Some, None, ◌⊎◌, inl, inr, append_assoc, length-append, get_or, append-nil, below_more, MatchOption, nat_lt, not, ◌≢◌, if◌then◌else◌, take_while, min, max, slice_index}
+use Rattle.std.proofs.Common.{◌≡◌, ℕ, zero, suc, ◌+◌, ◌-◌, ◌<◌, ◌≤◌, Bool, true, false, List, [], ◌∷◌, ◌++◌, length, take, drop, codes, refl, sym, ◌∙◌, ap, subst, arith, add-zero, length-take, length-drop, Option, Some, None, ◌⊎◌, inl, inr, append_assoc, length-append, get_or, append-nil, below_more, MatchOption, nat_lt, not, ◌≢◌, if◌then◌else◌, take_while, min, max, slice_index, rules}
 use Rattle.std.proofs.Math.Seq.{drop-nil, drop-length}
 use Rattle.std.proofs.lemmas.Bool.{false_from_ne_true, true≢false, cases_Bool, cases_lt, and_parts}
 use Rattle.std.proofs.lemmas.Slice.Eq.{bytes_eq-Decides}
@@ -34,12 +34,12 @@ pub scan_from-here : (at : ℕ) (m : List ℕ) → 0 < length m → 0 < candidat
     → scan_from 0 at m ≡ stream_event at m (classify m) ++ scan_from 0 (at + candidate_len m (classify m)) (drop (candidate_len m (classify m)) m)
 unfolding scan_from
 scan_from-here at [] some _ = absurd (omega arith)
-scan_from-here at (x ∷ m) some goes = grind (arith, common_steps, scan_from-skip, one-on)
+scan_from-here at (x ∷ m) some goes = grind (arith, scan_from-skip, one-on)
 
 -- If no event begins here, the scan continues at the next octet.
 pub scan_from-nothing : (at x : ℕ) (m : List ℕ) → classify (x ∷ m) ≡ None → scan_from 0 at (x ∷ m) ≡ scan_from 0 (at + 1) m
 unfolding scan_from
-scan_from-nothing at x m nothing = grind (arith, common_steps)
+scan_from-nothing at x m nothing = grind arith
 
 -- No event begins at the first k indices.
 pub scan_from-past : (k at : ℕ) (m : List ℕ) → k ≤ length m → ((j : ℕ) → j < k → classify (drop j m) ≡ None) → scan_from 0 at m ≡ scan_from 0 (at + k) (drop k m)
@@ -66,14 +66,14 @@ drop-twice a b s = grind (arith, common_steps)
 pub scan_from-found : (s : List ℕ) (r : Option ℕ) → FindsNeedle s (codes "BUFR") 0 r → (at : ℕ) → MatchOption r (scan_from 0 at s ≡ []) (λ k. scan_from 0 at s ≡ scan_from 0 (at + k) (drop k s))
 scan_from-found s None found at =
     scan_from-past (length s) at s (omega arith) (λ j below. verdict-elsewhere s j (found j (omega arith) (omega arith)))
-    ∙ rw (drop-length) (scan_from-nil 0 (at + length s))
+    ∙ rw drop-length (scan_from-nil 0 (at + length s))
 scan_from-found s (Some k) found at =
     scan_from-past k at s (omega (arith, found.1.fits)) (λ j below. verdict-elsewhere s j (found.0.before j (omega arith) below))
 
 -- the event at an index, and the scan after it
 pub scan_from-prefix : (s : List ℕ) (at place k : ℕ) → place < length s → k ≡ candidate_len (drop place s) (classify (drop place s)) → 0 < k
     → scan_from 0 at (drop place s) ≡ stream_event at (drop place s) (classify (drop place s)) ++ scan_from 0 (at + k) (drop (place + k) s)
-scan_from-prefix s at place k within is goes = grind (arith, common_steps, scan_from-here, length-drop, drop-twice)
+scan_from-prefix s at place k within is goes = grind (arith, scan_from-here, length-drop, drop-twice)
 
 -- ---- Octets that follow do not change what was certain.
 
@@ -86,11 +86,11 @@ stated-prefix m t long = grind (arith, common_steps, get_or_append_left)
 -- A certain result is the same, whatever octets follow.
 verdict-prefix : (m t : List ℕ) → 8 ≤ length m → stated_length m ≤ length m → classify (m ++ t) ≡ classify m
 verdict-prefix m t long whole =
-    let a : has_word_at (codes "BUFR") 0 (m ++ t) ≡ has_word_at (codes "BUFR") 0 m = holds-prefix (codes "BUFR") 0 m t (omega arith) in
+    let a : has_word_at (codes "BUFR") 0 (m ++ t) ≡ has_word_at (codes "BUFR") 0 m = omega (arith, holds-prefix) in
     let l : stated_length (m ++ t) ≡ stated_length m = stated-prefix m t long in
-    let b : nat_lt (length (m ++ t)) 8 ≡ nat_lt (length m) 8 = grind (arith, nat_tests, length-append m t) in
-    let c : nat_lt (length (m ++ t)) (stated_length m) ≡ nat_lt (length m) (stated_length m) = grind (arith, nat_tests, length-append m t) in
-    let d : has_word_at (codes "7777") (stated_length m - 4) (m ++ t) ≡ has_word_at (codes "7777") (stated_length m - 4) m = holds-prefix (codes "7777") (stated_length m - 4) m t (omega arith) in
+    let b : nat_lt (length (m ++ t)) 8 ≡ nat_lt (length m) 8 = grind (arith, length-append) in
+    let c : nat_lt (length (m ++ t)) (stated_length m) ≡ nat_lt (length m) (stated_length m) = grind (arith, length-append) in
+    let d : has_word_at (codes "7777") (stated_length m - 4) (m ++ t) ≡ has_word_at (codes "7777") (stated_length m - 4) m = omega (arith, holds-prefix) in
     cc
 
 nothing-prefix : (m t : List ℕ) (j : ℕ) → j + 4 ≤ length m → (OccursAt m (codes "BUFR") j → ⊥) → classify (drop j (m ++ t)) ≡ None
@@ -103,9 +103,10 @@ nothing-prefix m t j long absent =
 -- No event begins at the first k indices, whatever octets follow.
 past-prefix : (k : ℕ) (m t : List ℕ) → ((j : ℕ) → j < k → j + 4 ≤ length m) → k ≤ length m → ((j : ℕ) → j < k → OccursAt m (codes "BUFR") j → ⊥)
     → (at : ℕ) → scan_from 0 at (m ++ t) ≡ scan_from 0 (at + k) (drop k m ++ t)
-past-prefix k m t long within absent at =
-    scan_from-past k at (m ++ t) (omega (arith, length-append m t)) (λ j below. nothing-prefix m t j (long j below) (absent j below))
-    ∙ ap (scan_from 0 (at + k)) (drop-append-le k m t within)
+past-prefix k m t long within absent at = cc (
+  scan_from-past k at (m ++ t) (omega (arith, length-append m t)) (λ j below. nothing-prefix m t j (long j below) (absent j below)),
+  drop-append-le k m t within,
+)
 
 chain : (a b c d : Bool) → Option Candidate
 chain a b c d = if a then Some (Stray Cut) else if b then Some (Stray Cut) else if c then Some (Stray ShortLength) else if d then Some (Stray NoEnd) else Some Frame
@@ -113,11 +114,7 @@ chain a b c d = if a then Some (Stray Cut) else if b then Some (Stray Cut) else 
 chain-bounds : (a b c d : Bool) (m : List ℕ) → 4 ≤ length m → (b ≡ false → stated_length m ≤ length m) → (c ≡ false → 12 ≤ stated_length m)
     → (4 ≤ candidate_len m (chain a b c d)) × (candidate_len m (chain a b c d) ≤ length m)
 unfolding chain
-chain-bounds true b c d m four whole least = (omega arith, four)
-chain-bounds false true c d m four whole least = (omega arith, four)
-chain-bounds false false true d m four whole least = (omega arith, four)
-chain-bounds false false false true m four whole least = (omega arith, four)
-chain-bounds false false false false m four whole least = (omega (arith, least refl), whole refl)
+chain-bounds a b c d m four whole least = grind arith
 
 chain-decided : (c d : Bool) (at : ℕ) (m : List ℕ) → list_all is_decided (stream_event at m (chain false false c d)) ≡ true
 unfolding chain
@@ -134,15 +131,16 @@ unfolding chain
 chain-cut-second true c d = refl
 chain-cut-second false c d = refl
 
-is-chain : (m : List ℕ) → has_word_at (codes "BUFR") 0 m ≡ true → classify m ≡ chain (nat_lt (length m) 8) (nat_lt (length m) (stated_length m)) (nat_lt (stated_length m) 12) (not (has_word_at (codes "7777") (stated_length m - 4) m))
+is-chain : (m : List ℕ) → has_word_at (codes "BUFR") 0 m ≡ true → classify m
+    ≡ chain (nat_lt (length m) 8) (nat_lt (length m) (stated_length m)) (nat_lt (stated_length m) 12) (not (has_word_at (codes "7777") (stated_length m - 4) m))
 unfolding chain
 is-chain m here = rw here refl
 
 pub four-long : (m : List ℕ) → has_word_at (codes "BUFR") 0 m ≡ true → 4 ≤ length m
-four-long m here = grind (arith, common_steps, codes, bytes_eq-Decides, length-take)
+four-long m here = grind arith
 
 pub taken-bounds : (m : List ℕ) → has_word_at (codes "BUFR") 0 m ≡ true → (4 ≤ candidate_len m (classify m)) × (candidate_len m (classify m) ≤ length m)
-taken-bounds m here = grind (arith, common_steps, is-chain, chain-bounds, four-long, nat_tests)
+taken-bounds m here = grind arith
 
 chain-frame : (a b c d : Bool) → chain a b c d ≡ Some Frame → c ≡ false
 unfolding chain
@@ -153,15 +151,13 @@ chain-frame false false false d is = refl
 
 -- A message has at least 12 octets.
 frame-long : (m : List ℕ) → has_word_at (codes "BUFR") 0 m ≡ true → classify m ≡ Some Frame → 12 ≤ stated_length m
-frame-long m here is = grind (arith, common_steps, chain-frame, is-chain, nat_tests)
+frame-long m here is = grind arith
 
 pub certain : (m : List ℕ) (at : ℕ) → has_word_at (codes "BUFR") 0 m ≡ true → 8 ≤ length m → stated_length m ≤ length m → list_all is_decided (stream_event at m (classify m)) ≡ true
-certain m at here long whole = grind (arith, common_steps, nat_tests, is-chain, chain-decided)
+certain m at here long whole = grind arith
 
 happening-prefix : (at : ℕ) (m t : List ℕ) (v : Option Candidate) → 8 ≤ length m → stated_length m ≤ length m → stream_event at (m ++ t) v ≡ stream_event at m v
-happening-prefix at m t None long whole = refl
-happening-prefix at m t (Some (Stray cause)) long whole = refl
-happening-prefix at m t (Some Frame) long whole = rw (stated-prefix m t long, take-append-le (stated_length m) m t whole) refl
+happening-prefix at m t v long whole = search (rules, stated-prefix, take-append-le)
 
 taken-prefix : (m t : List ℕ) (v : Option Candidate) → 8 ≤ length m → candidate_len (m ++ t) v ≡ candidate_len m v
 taken-prefix m t None long = refl
@@ -176,10 +172,7 @@ found-prefix m t at here long whole =
     let v : classify (m ++ t) ≡ classify m = verdict-prefix m t long whole in
     let k : candidate_len (m ++ t) (classify (m ++ t)) ≡ candidate_len m (classify m) = ap (candidate_len (m ++ t)) v ∙ taken-prefix m t (classify m) long in
     let h : stream_event at (m ++ t) (classify (m ++ t)) ≡ stream_event at m (classify m) = ap (stream_event at (m ++ t)) v ∙ happening-prefix at m t (classify m) long whole in
-    scan_from-here at (m ++ t) (omega (arith, length-append m t)) (rw k (omega (arith, bounds.0)))
-    ∙ ap (λ e. e ++ scan_from 0 (at + candidate_len (m ++ t) (classify (m ++ t))) (drop (candidate_len (m ++ t) (classify (m ++ t))) (m ++ t))) h
-    ∙ ap (λ n. stream_event at m (classify m) ++ scan_from 0 (at + n) (drop n (m ++ t))) k
-    ∙ ap (λ l. stream_event at m (classify m) ++ scan_from 0 (at + candidate_len m (classify m)) l) (drop-append-le (candidate_len m (classify m)) m t bounds.1)
+    cc (scan_from-here at (m ++ t) (omega (arith, length-append m t)) (rw k (omega (arith, bounds.0))), h, k, drop-append-le (candidate_len m (classify m)) m t bounds.1)
 
 pub holds-there : (s : List ℕ) (j : ℕ) → OccursAt s (codes "BUFR") j → has_word_at (codes "BUFR") 0 (drop j s) ≡ true
 holds-there s j occurs = (bytes_eq-Decides (take 4 (drop j s)) (codes "BUFR")).1 (OccursAt-part s (codes "BUFR") j occurs)
@@ -217,11 +210,11 @@ nowhere-after : (s : List ℕ) (near far : ℕ) → Nowhere (OccursAt s (codes "
 nowhere-after s near far before suffix k low below occurs = elim (cases_lt k near) [
   | inl less ↦ before k (omega arith) less occurs
   | inr more ↦
-      let is : k ≡ near + (k - near) = omega arith in
-      suffix (k - near) (omega arith) (omega arith) (occurs-after s near (k - near) (subst (OccursAt s (codes "BUFR")) is occurs))
+      suffix (k - near) (omega arith) (omega arith) (occurs-after s near (k - near) (subst (OccursAt s (codes "BUFR")) (omega arith) occurs))
 ]
 
-pub found-after : (s m : List ℕ) (near k : ℕ) → m ≡ drop near s → Nowhere (OccursAt s (codes "BUFR")) 0 near → FindsNeedle m (codes "BUFR") 0 (Some k) → FindsNeedle s (codes "BUFR") 0 (Some (near + k))
+pub found-after : (s m : List ℕ) (near k : ℕ) → m ≡ drop near s → Nowhere (OccursAt s (codes "BUFR")) 0 near → FindsNeedle m (codes "BUFR") 0 (Some k)
+    → FindsNeedle s (codes "BUFR") 0 (Some (near + k))
 found-after s m near k is before found =
     let there = rw is at found in
     let here = occurs-before s near k there.1 in
@@ -241,7 +234,7 @@ to-first s place found t at =
 pub word-occurs : (s : List ℕ) → StartsWithBufr s → OccursAt s (codes "BUFR") 0
 word-occurs s here =
     let same : take 4 (drop 0 s) ≡ codes "BUFR" = (bytes_eq-Decides (take 4 (drop 0 s)) (codes "BUFR")).0 here in
-    OccursAt-from_part s (codes "BUFR") 0 (omega (arith, length-take {A = ℕ}, length-drop {A = ℕ}, ap length same)) same
+    OccursAt-from_part s (codes "BUFR") 0 (omega (arith, length-take {A = ℕ}, ap length same)) same
 
 -- If the octets begin with `BUFR`, its first index is 0.
 first-prefix : (s : List ℕ) (place : ℕ) → FindsNeedle s (codes "BUFR") 0 (Some place) → StartsWithBufr s → place ≡ 0
@@ -282,8 +275,7 @@ found-so-end s place found =
     let bounds = taken-bounds (drop place s) (holds-there s place found.1) in
     next-so true s place found (λ at. record {
       whole = λ t none.
-          let e : t ≡ [] = none refl in
-          rw e (rw (append-nil, append-nil) (scan_from-found s (Some place) found at ∙ scan_from-prefix s (at + place) place (candidate_len (drop place s) (classify (drop place s)))
+          rw (none refl) (rw (append-nil, append-nil) (scan_from-found s (Some place) found at ∙ scan_from-prefix s (at + place) place (candidate_len (drop place s) (classify (drop place s)))
           (omega (arith, found.1.fits)) refl (omega (arith, bounds.0))));
       decided = λ going. absurd (true≢false going);
     })
@@ -294,15 +286,15 @@ none-cut at m some cut =
     ap (take_while is_decided) (scan_from-here at m some (rw cut goes)) ∙ rw cut refl
 
 pub cut-so : (m : List ℕ) → has_word_at (codes "BUFR") 0 m ≡ true → ((length m < 8) ⊎ (length m < stated_length m)) → classify m ≡ Some (Stray Cut)
-cut-so m here (inl short) = grind (arith, common_steps, nat_tests, is-chain, chain-cut)
-cut-so m here (inr short) = grind (arith, common_steps, nat_tests, is-chain, chain-cut-second)
+cut-so m here (inl short) = grind arith
+cut-so m here (inr short) = grind arith
 
 pub length-eight : (m : List ℕ) → 8 ≤ length m → length_here m ≡ stated_length m
-length-eight m long = let a : nat_lt (length m) 8 ≡ false = grind (arith, nat_tests) in rw a refl
+length-eight m long = let a : nat_lt (length m) 8 ≡ false = grind arith in rw a refl
 
 -- `BUFR`, with too few octets after it
 pub cut-here : (m : List ℕ) (size : ℕ) → StartsWithBufr m → size ≡ length_here m → length m < max 8 size → classify m ≡ Some (Stray Cut)
-cut-here m size here is few = grind (arith, common_steps, cases_lt, inl, cut-so, inr, length-eight)
+cut-here m size here is few = grind arith
 
 -- More octets are needed after the first `BUFR`.
 pub open-so : (s : List ℕ) (place size : ℕ) → FindsNeedle s (codes "BUFR") 0 (Some place) → size ≡ length_here (drop place s) → length (drop place s) < max 8 size → IsIncomplete s place size
@@ -327,11 +319,11 @@ none-so s found =
     let short : length (drop k s) < 4 = omega (arith, length-drop k s) in
     record {
       within = omega arith;
-      first = λ here. absurd (found 0 (omega arith) (omega (arith, four-long s here)) (word-occurs s here));
+      first = λ here. absurd (found 0 (omega arith) (omega arith) (word-occurs s here));
       few = omega (arith, short);
       here = inl short;
       advances = λ at. record { whole = λ t _. moved t at; decided = λ _. refl };
-      none = λ at. ap (take_while is_decided) (scan_from-found (drop k s) None (λ j _ _ occurs. absurd (omega (arith, occurs.fits, length-drop k s))) at);
+      none = λ at. ap (take_while is_decided) (scan_from-found (drop k s) None (λ j _ _ occurs. absurd (omega (arith, occurs.fits))) at);
     }
 
 -- The last three octets declare no length.
@@ -341,7 +333,7 @@ none-stated s = grind (arith, common_steps, length-drop, nat_tests)
 pub end-so : (s : List ℕ) → FindsNeedle s (codes "BUFR") 0 None → HasNoFurtherEvent s
 end-so s found = record {
   scan = scan_from-found s None found;
-  word = λ here. found 0 (omega arith) (omega (arith, four-long s here)) (word-occurs s here);
+  word = λ here. found 0 (omega arith) (omega arith) (word-occurs s here);
 }
 
 -- the same, as the code computes it
@@ -366,7 +358,7 @@ pub record Certain (at : ℕ) (s : List ℕ) : Type 0 where
 
 -- Fewer than four octets contain no `BUFR`.
 short-none : (at : ℕ) (s : List ℕ) → length s < 4 → NoEventCertain at s
-short-none at s short = ap (take_while is_decided) (scan_from-found s None (λ j _ _ occurs. absurd (omega (arith, occurs.fits))) at)
+short-none at s short = cc (scan_from-found s None (λ j _ _ occurs. absurd (omega (arith, occurs.fits))) at)
 
 stays : (at : ℕ) (s : List ℕ) → NoEventCertain at s → Certain at s
 stays at s none = record { events = []; at' = at; rest = s; advances = record { whole = λ t _. refl; decided = λ _. refl }; none = none }
@@ -412,7 +404,7 @@ certain-within (suc n) at (x ∷ m) within =
 
 -- A scan gives the events that were passed, then those of the remaining octets.
 pub scan-on : (ended : Bool) (at at' : ℕ) (s rest : List ℕ) (events : List StreamEvent) → Advances ended at s events at' rest → scan_from 0 at s ≡ events ++ scan_from 0 at' rest
-scan-on ended at at' s rest events advances = ap (scan_from 0 at) (sym (append-nil s)) ∙ advances.whole [] (λ _. refl) ∙ ap (λ l. events ++ scan_from 0 at' l) (append-nil rest)
+scan-on ended at at' s rest events advances = cc (append-nil s, advances.whole [] (λ _. refl), append-nil rest)
 
 pub take_while-all : (xs ys : List StreamEvent) → list_all is_decided xs ≡ true → take_while is_decided (xs ++ ys) ≡ xs ++ take_while is_decided ys
 take_while-all [] ys all = refl
@@ -443,19 +435,19 @@ Raised old now rest = (now ≡ old) ⊎ (StartsWithBufr rest × (8 ≤ length re
 -- If the length at the first `BUFR` is taken into account, an earlier raise makes no difference.
 pub raise : (a b place size : ℕ) (rest : List ℕ) → Raised a b rest → (StartsWithBufr rest → place ≡ 0) → size ≡ length_here (drop place rest) → max b size ≡ max a size
 raise a b place size rest (inl same) first is = ap (λ n. max n size) same
-raise a b place size rest (inr (word, long, grown)) first is = grind (arith, common_steps, length-eight)
+raise a b place size rest (inr (word, long, grown)) first is = grind arith
 
 -- This still holds after octets are appended.
 pub raised-read : (a b : ℕ) (rest bs : List ℕ) → Raised a b rest → Raised a b (rest ++ bs)
 raised-read a b rest bs (inl same) = inl same
 raised-read a b rest bs (inr (word, long, grown)) = inr (
   holds-prefix (codes "BUFR") 0 rest bs (omega arith) ∙ word,
-  omega (arith, long, length-append rest bs),
+  omega (arith, length-append rest bs),
   grown ∙ ap (max a) (sym (stated-prefix rest bs long)),
 )
 
 pub short-here : (m : List ℕ) → length m < 8 → length_here m ≡ 0
-short-here m short = let a : nat_lt (length m) 8 ≡ true = grind (arith, nat_tests) in rw a refl
+short-here m short = let a : nat_lt (length m) 8 ≡ true = grind arith in rw a refl
 
 -- It still holds after the finder advances to where more octets are needed.
 pub raised-open : (a b place size : ℕ) (rest : List ℕ) → Raised a b rest → IsIncomplete rest place size → size ≡ length_here (drop place rest) → Raised a (max b size) (drop place rest)
@@ -472,13 +464,11 @@ raised-open a b place size rest before open' is =
 
 -- the greatest length of a single event
 longest-event : (at : ℕ) (s : List ℕ) (m : List ℕ) (offset : ℕ) (here : Option Candidate) → here ≢ None → longest_of at s (stream_event offset m here) ≡ length_here (drop (offset - at) s)
-longest-event at s m offset None some = absurd (some refl)
-longest-event at s m offset (Some (Stray cause)) some = max-none (length_here (drop (offset - at) s))
-longest-event at s m offset (Some Frame) some = max-none (length_here (drop (offset - at) s))
+longest-event at s m offset here some = search (rules, max-none)
 
 -- an index in the remaining octets, as an index in all octets
 place-in : (at at' place offset : ℕ) (s rest : List ℕ) → Follows at s at' rest → offset ≡ at' + place → drop (offset - at) s ≡ drop place rest
-place-in at at' place offset s rest follows is = grind (arith, common_steps, drop-twice)
+place-in at at' place offset s rest follows is = grind (arith, drop-twice)
 
 -- An event is passed.
 pub found-sees : (old s s' : FinderModel) (bs : List ℕ) (offset place size : ℕ) (here : Option Candidate) → here ≢ None → Follows old.at (old.rest ++ bs) s.at s.rest
@@ -486,9 +476,11 @@ pub found-sees : (old s s' : FinderModel) (bs : List ℕ) (offset place size : �
     → IsNextEvent s.ended s.rest place here → size ≡ length_here (drop place s.rest) → offset ≡ s.at + place → s'.longest ≡ max s.longest size
     → RaisesLongest old s' bs (stream_event offset (drop place s.rest) here)
 found-sees old s s' bs offset place size here some follows raised found is at grown =
-    grown ∙ raise old.longest s.longest place size s.rest raised found.first is
-    ∙ ap (max old.longest) (is ∙ ap length_here (sym (place-in old.at s.at place offset (old.rest ++ bs) s.rest follows at))
-    ∙ sym (longest-event old.at (old.rest ++ bs) (drop place s.rest) offset here some))
+    cc (
+      grown,
+      raise old.longest s.longest place size s.rest raised found.first is,
+      is ∙ ap length_here (sym (place-in old.at s.at place offset (old.rest ++ bs) s.rest follows at)) ∙ sym (longest-event old.at (old.rest ++ bs) (drop place s.rest) offset here some),
+    )
 
 -- The first remaining event is not certain.
 first-open : (at old_at size : ℕ) (m s : List ℕ) → drop (at - old_at) s ≡ m → ((length m < 4) ⊎ StartsWithBufr m) → size ≡ length_here m → length m < max 8 size
@@ -496,21 +488,16 @@ first-open : (at old_at size : ℕ) (m s : List ℕ) → drop (at - old_at) s �
 first-open at old_at size m s there (inl short) is few =
     let none : scan_from 0 at m ≡ [] = scan_from-found m None (λ j _ _ occurs. absurd (omega (arith, occurs.fits))) at in
     ap (λ l. longest_of old_at s (first_event l)) none ∙ sym (is ∙ short-here m (omega arith))
-first-open at old_at size m s there (inr word) is few =
-    let cut = cut-here m size word is few in
-    let some : 0 < length m = omega (arith, four-long m word) in
-    let goes : 0 < candidate_len m (Some (Stray Cut)) = omega arith in
-    ap (λ l. longest_of old_at s (first_event l)) (scan_from-here at m some (rw cut goes))
-    ∙ rw cut (max-none (length_here (drop (at - old_at) s)) ∙ ap length_here there ∙ sym is)
+first-open at old_at size m s there (inr word) is few = grind (arith, cut-here, four-long, scan_from-here, max-none, four-long m word)
 
 -- The finder stops where the first remaining event is not certain.
 pub open-sees : (old s s' : FinderModel) (bs : List ℕ) (place size : ℕ) → Follows old.at (old.rest ++ bs) s.at s.rest → Raised old.longest s.longest s.rest
     → IsIncomplete s.rest place size → size ≡ length_here (drop place s.rest) → s'.at ≡ s.at + place → s'.rest ≡ drop place s.rest → s'.longest ≡ max s.longest size
     → RaisesLongest old s' bs (first_event (scan_from 0 s'.at s'.rest))
 open-sees old s s' bs place size follows raised open' is at left grown =
-    let m = drop place s.rest in
     grown ∙ raise old.longest s.longest place size s.rest raised open'.first is
-    ∙ ap (max old.longest) (sym (rw left (first-open s'.at old.at size m (old.rest ++ bs) (place-in old.at s.at place s'.at (old.rest ++ bs) s.rest follows at) open'.here is open'.few)))
+    ∙ ap (max old.longest) (sym (rw left (first-open s'.at old.at size (drop place s.rest) (old.rest ++ bs) (place-in old.at s.at place s'.at (old.rest ++ bs) s.rest follows at) open'.here is
+    open'.few)))
 
 -- ---- The octets of the frames of a stream.
 
@@ -537,9 +524,7 @@ all-then P [] ys one two = two
 all-then P (x ∷ xs) ys one two = (one.0, all-then P xs ys one.1 two)
 
 small-here : (at : ℕ) (m : List ℕ) (v : Option Candidate) → AllByRecursion IsOctet m → AllByRecursion IsSmall (stream_event at m v)
-small-here at m None all = tt
-small-here at m (Some (Stray cause)) all = (tt, tt)
-small-here at m (Some Frame) all = ((all-take (stated_length m) m all, omega (arith, length-take (stated_length m) m, octet-at m 4 all, octet-at m 5 all, octet-at m 6 all)), tt)
+small-here at m v all = grind (arith, common_steps)
 
 -- Each message in a stream of octets satisfies `IsSmall`.
 pub small-frames : (skip at : ℕ) (m : List ℕ) → AllByRecursion IsOctet m → AllByRecursion IsSmall (scan_from skip at m)
@@ -584,6 +569,5 @@ frames-within skip at [] = omega arith
 frames-within (suc skip) at (c ∷ m) = omega (arith, frames-within skip (at + 1) m)
 frames-within zero at (c ∷ m) =
     let v = classify (c ∷ m) in
-    let k = candidate_len (c ∷ m) v in
     let bounds = taken-within c m in
-    omega (arith, framed-then (stream_event at (c ∷ m) v) (scan_from (k - 1) (at + 1) m), framed-here at (c ∷ m) v, frames-within (k - 1) (at + 1) m, bounds.0, bounds.1)
+    omega (arith, bounds.0, bounds.1, framed-then, framed-here, frames-within ((candidate_len (c ∷ m) v) - 1) (at + 1) m)

@@ -16,7 +16,8 @@ begins m = search rules
 pub returns-then-starts_with : goal.returns-then-starts_with
 returns-then-starts_with c =
     first-there c.args.rest.now c.places.place c.places.invariant
-    (sym (ap (has_word_at (codes "BUFR") 0) (take_rest c.args.rest.now c.places.place)) ∙ sym (begins (rest-from c.args.rest.now c.places.place)) ∙ sym c.starts_with.ensures.value ∙ c.if-starts_with.true)
+    (sym (ap (has_word_at (codes "BUFR") 0) (take_rest c.args.rest.now c.places.place)) ∙ sym (begins (rest-from c.args.rest.now c.places.place)) ∙ sym c.starts_with.ensures.value
+    ∙ c.if-starts_with.true)
 
 pub places-preserved : goal.places-preserved
 places-preserved c =

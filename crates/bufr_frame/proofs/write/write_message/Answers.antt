@@ -23,10 +23,13 @@ returns-clause-layout c =
     flags-are c.args.observed c.args.compressed c.from.result c.from-2.result c.from.ensures c.from-2.ensures in
     let optional = c.is_some.ensures ∙ is_some-map (λ s. s.now) c.args.section2 in
     six-parts (section0_octets (message_size h.edition p) h.edition) (section1_octets h p.local1 (is_some p.section2)) (section2_octets p.section2)
-    (section3_octets (with_even_length h.edition 7 (octets_of_words p.descriptors)) p.subsets (data_flags p.observed p.compressed)) (section4_octets (with_even_length h.edition 4 p.payload)) (codes "7777")
+    (section3_octets (with_even_length h.edition 7 (octets_of_words p.descriptors)) p.subsets (data_flags p.observed p.compressed)) (section4_octets (with_even_length h.edition 4 p.payload))
+    (codes "7777")
     c.extend_from_slice-2.new.self.items c.extend_from_slice-3.new.self.items c.push_section2.new.octets.items c.push_section3.new.octets.items c.push_plain.new.octets.items
     c.extend_from_slice-4.new.self.items
-    (c.in_ok-extend_from_slice-2.ensures.items ∙ ap (λ l. l ++ h.edition ∷ []) (c.in_ok-push_three.ensures ∙ ap (λ l. l ++ three_octets c.in-Some.size) (c.in_ok-extend_from_slice.ensures.items ∙ ap (λ l. l ++ codes "BUFR") c.in_ok-octets.ensures.items)) ∙ ap (λ n. section0_octets n h.edition) size)
+    (c.in_ok-extend_from_slice-2.ensures.items ∙ ap (λ l. l ++ h.edition ∷ [])
+    (c.in_ok-push_three.ensures ∙ ap (λ l. l ++ three_octets c.in-Some.size) (c.in_ok-extend_from_slice.ensures.items ∙ ap (λ l. l ++ codes "BUFR") c.in_ok-octets.ensures.items))
+    ∙ ap (λ n. section0_octets n h.edition) size)
     (first-section c.extend_from_slice-2.new.self.items (three_octets (min_section_1 h.edition + length p.local1)) (head_octets h (is_some p.section2)) p.local1 _ _ _
     (c.in_ok-push_three-2.ensures ∙ ap (λ n. c.extend_from_slice-2.new.self.items ++ three_octets (n + length p.local1)) c.min_section_1.ensures.value)
     (c.in_ok-push_head.ensures ∙ ap (λ b. c.push_three-2.new.octets.items ++ head_octets h b) optional) c.in_ok-extend_from_slice-3.ensures.items)
