@@ -1,8 +1,9 @@
 -- Upper bounds on the numbers of items and steps of a reading, and of showing it.
+use Rattle.std.proofs.lemmas.Grind.{common_steps}
 use Rattle.bufr_walk.proofs.PassLemmas.{pass_at_end, next_pass}
 use Rattle.bufr_walk.specs.Readers.{first_items, items_by_pass, place_at}
 use Rattle.std.proofs.lemmas.List.{length-map}
-use Rattle.std.proofs.Common.{◌≡◌, ℕ, zero, suc, ◌+◌, ◌-◌, ◌*◌, ◌<◌, ◌≤◌, List, ◌∷◌, length, Bool, true, false, ◌||◌, Result, Ok, Err, refl, ap, subst, arith, ◌++◌, inl, inr, sym, None, []}
+use Rattle.std.proofs.Common.{◌≡◌, ℕ, zero, suc, ◌+◌, ◌-◌, ◌*◌, ◌<◌, ◌≤◌, List, ◌∷◌, length, Bool, true, false, ◌||◌, Result, Ok, Err, refl, ap, subst, arith, ◌++◌, inl, inr, sym, None, [], rules}
 use Rattle.std.proofs.Math.Nat.{mul-le-mul_left}
 use Rattle.bufr_tables.specs.Prelude.{Tree, bare, element, operator, fixed, delayed, size, places, consumes, is_inserted_text, Row, EveryGroupConsumes, IsSound}
 use Rattle.bufr_walk.specs.Prelude.{next_item, Taken, TurnRefusal, FieldSpec, Content, OperatorModel, begin, after_operator, after_field, element_spec, factor_spec, inserted_spec, Turns, finish, operator_turn, Rest, unroll, passes, pass_end, at_end, astray, counts_of, TakenField, Takes, oks, answers_of, Walked, ticked, WalkStop, ShowFault, Call, Timed, item_calls, subset_calls, calls_for, items_called, turns_for, Shows, IsStoredReading, PaysBits, items_in, Read, course_of, Item, plain, answers_in, turns_in, apart, together, max_values, subsets_from, each_subset, without_turns, walk_shown, group, NextTurn, CountedCourse, uncounted, counted_item, after, answer_of, counted_course_of}
@@ -10,7 +11,7 @@ use Rattle.bufr_walk.specs.declared.reading.StoredItems.{StoredItems}
 use Rattle.bufr_walk.specs.Pass.{values_read, calls_of, turns_shown, passes_apart, passes_together, read_pass, reading_in, stop_of}
 use Rattle.bufr_walk.proofs.WalkLemmas.{stop_cases}
 use Rattle.bufr_walk.proofs.WalkProgress.{in_one_turn, counted_ahead, counted_asked, counted_operated, counted_either}
-use Rattle.bufr_walk.proofs.PackedShowing.{no_turns, no_turns_in}
+use Rattle.bufr_walk.proofs.PackedShowing.{no_turns_in}
 
 module _ (table : List Row) (n : ℕ) where
   -- The turns up to what comes next are at most `a`, plus n for each item.
@@ -21,7 +22,7 @@ module _ (table : List Row) (n : ℕ) where
       → (counted_asked r go items).turns ≤ 1 + (a - n) + n * length items
   asked_turns (Err why) go items a h = omega arith
   asked_turns (Ok spec) go [] a h = omega arith
-  asked_turns (Ok spec) go (t ∷ items) a h = omega (arith, h t items)
+  asked_turns (Ok spec) go (t ∷ items) a h = omega arith
 
   operated_turns : (r : Result OperatorModel TurnRefusal) (go : OperatorModel → NextTurn) (items : List Taken) (a : ℕ) → ((s : OperatorModel) → (go s).turns ≤ a + n * length items)
       → (counted_operated r go).turns ≤ 1 + a + n * length items
@@ -57,7 +58,7 @@ module _ (table : List Row) (n : ℕ) where
   Pays body = (a : ℕ) (rest : Rest) → Bounded a rest → Bounded (size body + (a - n)) (unroll body rest)
 
   passes_some : (body : Tree) → 1 + size body ≤ n → Pays body → (k a : ℕ) (rest : Rest) → Bounded a rest → Bounded (size body + ((1 + a) - n)) (passes (suc k) (unroll body) rest)
-  passes_some body h pays zero a rest b = pays (1 + a) (λ later_counts. pass_end (rest later_counts)) (λ counts s items. omega (arith, b counts s items))
+  passes_some body h pays zero a rest b = grind arith
   passes_some body h pays (suc k) a rest b = λ counts s items.
       omega (
         arith,
@@ -66,7 +67,7 @@ module _ (table : List Row) (n : ℕ) where
       )
 
   passes_any : (body : Tree) → 1 + size body ≤ n → Pays body → (k a : ℕ) (rest : Rest) → Bounded a rest → Bounded (size body + a) (passes k (unroll body) rest)
-  passes_any body h pays zero a rest b = λ counts s items. omega (arith, b counts s items)
+  passes_any body h pays zero a rest b = omega arith
   passes_any body h pays (suc k) a rest b = λ counts s items. omega (arith, passes_some body h pays k a rest b counts s items)
 
   delayed_turns : (fxy : ℕ) (body more : Tree) (rest : Rest) (a : ℕ) → ((c : ℕ) → Bounded (size body + (size more + a)) (passes c (unroll body) (unroll more rest)))
@@ -179,8 +180,7 @@ module _ (table : List Row) (n : ℕ) where
   longer (operator fxy more) rest rest' h = operator_longer fxy (unroll more rest) (unroll more rest') (longer more rest rest' h)
   longer (fixed count body more) rest rest' h = λ counts s items e.
       omega (arith, passes_longer body (longer body) count (unroll more rest) (unroll more rest') (longer more rest rest' h) counts s items e)
-  longer (delayed fxy body more) rest rest' h =
-      delayed_longer fxy body more rest rest' (λ k. passes_longer body (longer body) k (unroll more rest) (unroll more rest') (longer more rest rest' h))
+  longer (delayed fxy body more) rest rest' h = grind (arith, common_steps, longer body, longer more rest rest' h, delayed_longer, passes_longer)
 
 -- k turns without a field, and then the end of the template
 abbrev groups : ℕ → Turns
@@ -211,7 +211,7 @@ answer_length [] = refl
 answer_length (i ∷ items) = ap suc (answer_length items)
 
 by_bits : (n a b k : ℕ) → a + k ≤ b → n * k ≤ n * (b - a)
-by_bits n a b k u = mul-le-mul_left n (let h : k ≤ b - a = omega arith in h)
+by_bits n a b k u = search (rules, mul-le-mul_left)
 
 ticks_at_most : (c t c' b : ℕ) → c' ≡ ticked c t → t ≤ b → c' ≤ c + b
 ticks_at_most c t c' b h u = omega arith
@@ -230,7 +230,7 @@ module _ {S E : Type 0} (takes : S → FieldSpec → Result Taken E → S → Ty
       let turns : (counted_item table t (answers_of w.0)).turns ≤ places t * length w.0 =
       subst (λ k. (counted_item table t (answers_of w.0)).turns ≤ places t * k) (answer_length w.0) (turns_in_all table t (answers_of w.0) sound w.2) in
       let bits : places t * length w.0 ≤ places t * (used s' - used s) = by_bits (places t) (used s) (used s') (length w.0) paid in
-      ticks_at_most c (counted_item table t (answers_of w.0)).turns c' _ w.3 (omega (arith, turns, bits))
+      omega (arith, turns, bits)
 
   pub steps_err : (table : List Row) (t : Tree) (s : S) (c : ℕ) (why : WalkStop E) (s' : S) (c' : ℕ) → IsSound t → Walked takes (counted_item table t) s c (Err why) s' c'
       → c' ≤ c + places t * (used s' - used s + 1)
@@ -241,7 +241,7 @@ module _ {S E : Type 0} (takes : S → FieldSpec → Result Taken E → S → Ty
       let turns : (counted_item table t (answers_of w.0)).turns ≤ places t * (length w.0 + 1) =
       subst (λ k. (counted_item table t (answers_of w.0)).turns ≤ places t * (k + 1)) (answer_length w.0) (turns_before table t (answers_of w.0) sound) in
       let bits : places t * (length w.0 + 1) ≤ places t * (used s' - used s + 1) = mul-le-mul_left (places t) (let h : length w.0 + 1 ≤ used s' - used s + 1 = omega (arith, same, paid) in h) in
-      ticks_at_most c (counted_item table t (answers_of w.0)).turns c' _ w.4 (omega (arith, turns, bits))
+      omega (arith, turns, bits)
 
 -- ---- Bounds on the numbers of items and steps when a reading is shown.
 
@@ -262,7 +262,7 @@ called_subsets table course before number (items ∷ subsets) =
     omega (
       arith,
       called_more (item_calls table before course items) suffix,
-      called_items table before course items,
+      called_items,
       called_subsets table course (before + (course (answers_in answer_of items)).turns) (number + 1) subsets,
     )
 
@@ -308,10 +308,10 @@ items_within : (n most : ℕ) (table : List Row) (before paid done : ℕ) (cours
     → n * (paid + (done + length items)) ≤ most → AllWithin most (item_calls table before course items)
 items_within n most table before paid done course [] h b m = tt
 items_within n most table before paid done course (i ∷ items) h b m = (
-  omega (arith, h [], b, m, split n paid (done + 0 + 1), mono n (paid + (done + 0 + 1)) (paid + (done + suc (length items))) (omega arith)),
+  omega arith,
   items_within n most table before paid (done + 1) (after plain course i) items
-      (λ answers. subst (λ k. (course (answer_of i.spec i.content ∷ answers)).turns ≤ n * k) (counted done (length answers)) (h (answer_of i.spec i.content ∷ answers))) b
-      (subst (λ k. n * (paid + k) ≤ most) (moved done (length items)) m),
+      (λ answers. rw (← counted done (length answers)) (h (answer_of i.spec i.content ∷ answers))) b
+      (rw (← moved done (length items)) m),
 )
   where
     counted : (d l : ℕ) → d + suc l + 1 ≡ d + 1 + l + 1
@@ -364,14 +364,14 @@ subsets_within most table template before paid number (items ∷ subsets) sound 
 untimed_within : (most : ℕ) (table : List Row) (before number : ℕ) (subsets : List (List (Item Content))) → before ≡ 0 → AllWithin most (subset_calls table without_turns before number subsets)
 untimed_within most table before number [] none = tt
 untimed_within most table before number (items ∷ subsets) none = (
-  omega (arith, none),
+  omega arith,
   within_more most (item_calls table before without_turns items) (subset_calls table without_turns (before + (without_turns (answers_in answer_of items)).turns) (number + 1) subsets) (one items)
-      (untimed_within most table (before + (without_turns (answers_in answer_of items)).turns) (number + 1) subsets (omega (arith, none, no_turns items))),
+      (untimed_within most table (before + (without_turns (answers_in answer_of items)).turns) (number + 1) subsets (omega arith)),
 )
   where
     one : (items : List (Item Content)) → AllWithin most (item_calls table before without_turns items)
     one [] = tt
-    one (i ∷ items) = (omega (arith, none), one items)
+    one (i ∷ items) = (omega arith, one items)
 
 -- Showing a reading takes at most `places r.template` steps for each bit.
 pub steps_within : {S E : Type 0} (sees : S → Call → Result (Unit {0}) E → S → Type 0) (r : Read) (k : StoredItems) (s s' : S) (result : Result (Unit {0}) (ShowFault E)) (steps : ℕ)
@@ -385,10 +385,10 @@ steps_within sees r k s s' result steps sound h shows = by r.source.compressed h
     by false none p w =
         let subsets = items_by_pass (passes_apart (course_of r) r.source.subsets r.source.bits) in
         let all = subsets_within (places r.template * r.bits) r.table r.template 0 0 1 subsets sound (all_end (counted_course_of r) r.source.subsets r.source.bits none) (omega arith)
-        (mono (places r.template) (0 + items_in subsets) r.bits (omega (arith, p))) in
+        (mono (places r.template) (0 + items_in subsets) r.bits (omega arith)) in
         shows_within sees (places r.template * r.bits) s (calls_for r (apart subsets)) (turns_for r (apart subsets)) result s' steps w (omega (arith, all.1)) all.0
     by true none p w =
         let items = first_items (items_by_pass (passes_together (course_of r) r.source.subsets r.source.bits)) in
         shows_within sees (places r.template * r.bits) s (calls_for r (together items)) (turns_for r (together items)) result s' steps w
-        (omega (arith, no_turns_in (subsets_from r.source.subsets 0 items)))
+        (omega (arith, no_turns_in))
         (untimed_within (places r.template * r.bits) r.table 0 1 (subsets_from r.source.subsets 0 items) refl)

@@ -1,8 +1,7 @@
 -- What is cached: specs by their keys, and descriptor lists in slots.
 use Rattle.std.proofs.lemmas.Grind.{common_steps}
-use Rattle.std.proofs.Common.{◌==◌, ℤ, unsigned_abs, Bool, true, Option, Some, None, IfSome, if◌then◌else◌, ◌≡◌, ◌≢◌, ℕ, zero, suc, inl, inr, Contains, slice_set, get_or, drop, refl, ◌⊎◌, ◌∙◌, ◌-◌, ◌+◌, ◌*◌, ◌<◌, arith, sym, ◌^◌, false, List, Ok, ap, subst, ◌≤◌, [], ◌∷◌, ◌++◌, length, length-append, nat_lt}
+use Rattle.std.proofs.Common.{◌==◌, ℤ, Bool, true, Option, Some, None, IfSome, if◌then◌else◌, ◌≡◌, ◌≢◌, ℕ, zero, suc, inl, inr, Contains, slice_set, get_or, refl, ◌⊎◌, ◌∙◌, ◌-◌, ◌+◌, ◌*◌, ◌<◌, arith, sym, ◌^◌, false, List, Ok, ap, ◌≤◌, [], ◌∷◌, ◌++◌, length, length-append, nat_lt, rules}
 use Rattle.bufr_walk.specs.Prelude.{Lists, with_room, IsKept, MayStay, list_of, lists_of, OperatorModel, IsKey, is_defining, element_spec, factor_spec, unsigned_field, IsFieldKey, descriptor_of, key_word, spec_of, FieldSpec, is_reference, IsSpecBy, IsOther, TableField, IsSpecFor, IsSpecKey, spec_key, HasOctetOperands, Dependence, OnNothing, OnWidth, OnReference, by_reference, dependence, dependence_number, HasNumber, Redefined, redefined, current_reference, Kind, spec_by_kind, new_reference_spec, local_width_spec, listed_by}
-use Rattle.std.proofs.lemmas.Bool.Decides.{nat_tests}
 use Rattle.std.proofs.lemmas.Bool.{eqb-true}
 use Rattle.bufr_tables.specs.Prelude.{Row, Sequence, entry_of}
 use Rattle.bufr_tables.specs.declared.table_b.Kind.TheVariants as kind
@@ -44,27 +43,16 @@ last_word : (v w m n : ℕ) → v < 131072 → w < 131072 → v + 131072 * m ≡
 last_word v w m n p q e = (omega arith, omega arith)
 
 word_small : (f : TableField) → descriptor_of f < 65536 → key_word f < 131072
-word_small (field.Element fxy) h = omega (arith, h)
-word_small (field.Factor fxy) h = omega (arith, h)
+word_small (field.Element fxy) h = omega arith
+word_small (field.Factor fxy) h = omega arith
 
 -- Fields with the same word are the same.
 same_field : (f g : TableField) → descriptor_of f < 65536 → descriptor_of g < 65536 → key_word f ≡ key_word g → f ≡ g
-same_field (field.Element v) (field.Element w) p q e = ap field.Element e
-same_field (field.Element v) (field.Factor w) p q e = absurd (omega (arith, e, p))
-same_field (field.Factor v) (field.Element w) p q e = absurd (omega (arith, e, q))
-same_field (field.Factor v) (field.Factor w) p q e = let same : v ≡ w = omega (arith, e) in ap field.Factor same
+same_field f g p q e = grind arith
 
 -- Dependences with the same kind and the same number are the same.
 same_dependence : (d e : Dependence) (number : ℤ) → dependence_number d ≡ dependence_number e → HasNumber d number → HasNumber e number → d ≡ e
-same_dependence OnNothing OnNothing number e p q = refl
-same_dependence OnNothing (OnWidth w) number e p q = absurd (omega (arith, e))
-same_dependence OnNothing (OnReference s) number e p q = absurd (omega (arith, e))
-same_dependence (OnWidth v) OnNothing number e p q = absurd (omega (arith, e))
-same_dependence (OnWidth v) (OnWidth w) number e p q = ap OnWidth (ap unsigned_abs (sym p ∙ q))
-same_dependence (OnWidth v) (OnReference s) number e p q = absurd (omega (arith, e))
-same_dependence (OnReference r) OnNothing number e p q = absurd (omega (arith, e))
-same_dependence (OnReference r) (OnWidth w) number e p q = absurd (omega (arith, e))
-same_dependence (OnReference r) (OnReference s) number e p q = ap OnReference (sym p ∙ q)
+same_dependence d e number h_dependence_number_is p q = grind arith
 
 -- Two operator states agree on everything that the spec of this field depends on.
 record AreSameFor (a b : OperatorModel) (f : TableField) : Type 0 where
@@ -87,31 +75,21 @@ same_key a b f g key h k =
     let word = last_word (key_word f) (key_word g) m n (word_small f h.word) (word_small g k.word) six.5 in
     let field : f ≡ g = same_field f g h.word k.word word.0 in
     let number : HasNumber (dependence b (descriptor_of f)) key.number = rw field k.number in
-    let tie : m ≡ dependence_number (dependence b (descriptor_of f)) = word.1 ∙ ap (λ x. dependence_number (dependence b (descriptor_of x))) (sym field) in (
-      field,
-      record {
-        width_change = six.0;
-        scale_change = six.1;
-        precision_increase = six.2;
-        character_octets = six.3;
-        local_width = six.4;
-        dependence = same_dependence (dependence a (descriptor_of f)) (dependence b (descriptor_of f)) key.number tie h.number number;
-      },
-    )
+    grind (arith, common_steps)
 
 -- ---- What the spec of a field depends on.
 
 none_defining : (n : ℕ) → n ≡ 0 → nat_lt 0 n ≡ false
-none_defining n h = grind (arith, nat_tests)
+none_defining n h = grind arith
 
 some_defining : (n : ℕ) → 0 < n → nat_lt 0 n ≡ true
-some_defining n h = grind (arith, nat_tests)
+some_defining n h = grind arith
 
 not_defining : (n : ℕ) → nat_lt 0 n ≡ false → n ≡ 0
-not_defining n h = grind (arith, nat_tests)
+not_defining n h = grind arith
 
 same_is : (n : ℕ) → (n == n) ≡ true
-same_is n = grind (arith, nat_tests)
+same_is n = grind arith
 
 -- the redefined references that the spec of a field depends on
 abbrev alone : ℕ → Dependence → List Redefined
@@ -127,23 +105,10 @@ width_in (OnReference reference) = 0
 
 current_alone : (known : List Redefined) (fxy : ℕ) (listed : ℤ) → current_reference known fxy listed ≡ current_reference (alone fxy (by_reference (redefined known fxy))) fxy listed
 current_alone [] fxy listed = refl
-current_alone (r ∷ known) fxy listed = by (r.fxy == fxy) (current_alone known fxy listed)
-  where
-    by : (b : Bool) → current_reference known fxy listed ≡ current_reference (alone fxy (by_reference (redefined known fxy))) fxy listed
-        → (if b then r.reference else current_reference known fxy listed) ≡ current_reference (alone fxy (by_reference (if b then Some r.reference else redefined known fxy))) fxy listed
-    by true more = sym (ap (λ b. if b then r.reference else listed) (same_is fxy))
-    by false more = more
+current_alone (r ∷ known) fxy listed = grind (arith, current_alone known fxy listed)
 
 width_alone : (s : OperatorModel) (fxy : ℕ) → s.new_reference_width ≡ width_in (dependence s fxy)
-width_alone s fxy = by (is_defining s) refl
-  where
-    none : (o : Option ℤ) → width_in (by_reference o) ≡ 0
-    none None = refl
-    none (Some r) = refl
-
-    by : (b : Bool) → is_defining s ≡ b → s.new_reference_width ≡ width_in (if b then OnWidth s.new_reference_width else by_reference (redefined s.new_references fxy))
-    by true e = refl
-    by false e = not_defining s.new_reference_width e ∙ sym (none (redefined s.new_references fxy))
+width_alone s fxy = grind arith
 
 -- The spec of a value depends on no redefined reference but that of its element.
 kind_alone : (k : Kind) (s : OperatorModel) (row : Row) (known : List Redefined) → current_reference s.new_references row.fxy row.reference ≡ current_reference known row.fxy row.reference
@@ -162,14 +127,7 @@ local_alone None s fxy known = refl
 local_alone (Some row) s fxy known = refl
 
 listed_alone : (o : Option Row) (s : OperatorModel) (fxy : ℕ) → IfSome o (λ row. row.fxy ≡ fxy) → listed_by o s fxy ≡ listed_by o (record s { new_references = alone fxy (dependence s fxy) }) fxy
-listed_alone None s fxy is = refl
-listed_alone (Some row) s fxy is = by (is_defining s)
-  where
-    by : (b : Bool) → (if b then new_reference_spec row.kind s fxy else spec_by_kind row.kind s row)
-        ≡ (if b then new_reference_spec row.kind (record s { new_references = alone fxy (if b then OnWidth s.new_reference_width else by_reference (redefined s.new_references fxy)) }) fxy
-        else spec_by_kind row.kind (record s { new_references = alone fxy (if b then OnWidth s.new_reference_width else by_reference (redefined s.new_references fxy)) }) row)
-    by true = defined_alone row.kind s fxy []
-    by false = kind_alone row.kind s row (alone fxy (by_reference (redefined s.new_references fxy))) (rw is (current_alone s.new_references fxy row.reference))
+listed_alone o s fxy is = grind (arith, current_alone)
 
 -- The row that is found for a descriptor has this descriptor.
 row_found : (table : List Row) (fxy : ℕ) → IfSome (entry_of table fxy) (λ row. row.fxy ≡ fxy)
@@ -181,14 +139,7 @@ row_found (row ∷ table) fxy = by (row.fxy == fxy) (eqb-true row.fxy fxy) (row_
     by false is more = more
 
 spec_alone : (table : List Row) (s : OperatorModel) (f : TableField) → spec_of table s f ≡ spec_of table (record s { new_references = alone (descriptor_of f) (dependence s (descriptor_of f)) }) f
-spec_alone table s (field.Factor fxy) = refl
-spec_alone table s (field.Element fxy) = by (nat_lt 0 s.local_width)
-  where
-    by : (b : Bool) → (if b then local_width_spec (entry_of table fxy) s fxy else listed_by (entry_of table fxy) s fxy)
-        ≡ (if b then local_width_spec (entry_of table fxy) (record s { new_references = alone fxy (dependence s fxy) }) fxy
-        else listed_by (entry_of table fxy) (record s { new_references = alone fxy (dependence s fxy) }) fxy)
-    by true = local_alone (entry_of table fxy) s fxy (alone fxy (dependence s fxy))
-    by false = listed_alone (entry_of table fxy) s fxy (row_found table fxy)
+spec_alone table s f = search (rules, local_alone, listed_alone, row_found)
 
 abbrev operators : (width scale precision octets local new : ℕ) (known : List Redefined) → OperatorModel
 operators width scale precision octets local new known = record {
@@ -225,7 +176,7 @@ spec_cached table s f key spec h few found = record {
   few = few;
   is = λ t g k.
       let same = same_key s t f g key h k in
-      subst (λ x. spec_of table t x ≡ Ok spec) same.0 (sym (same_spec table s t f same.1) ∙ found);
+      rw (← same.0) (sym (same_spec table s t f same.1) ∙ found);
 }
 
 -- the same for the whole key of a field
@@ -237,33 +188,23 @@ pub with_dependence : (s : OperatorModel) (f : TableField) (d : Dependence) (key
     → key.operators ≡ spec_key s 0 + 1099511627776 * key_word f + 144115188075855872 * dependence_number d → HasNumber d key.number → IsSpecKey s f key
 with_dependence s f d key octets word is key_is number = record {
   word = word;
-  is = omega (arith, key_is, ap dependence_number is);
-  number = subst (λ x. HasNumber x key.number) (sym is) number;
+  is = omega (arith, ap dependence_number is);
+  number = rw is number;
   octets = octets;
 }
 
 pub width_dependence : (s : OperatorModel) (fxy : ℕ) → 0 < s.new_reference_width → dependence s fxy ≡ OnWidth s.new_reference_width
-width_dependence s fxy some = ap (λ b. if b then OnWidth s.new_reference_width else by_reference (redefined s.new_references fxy)) (some_defining s.new_reference_width some)
+width_dependence s fxy some = rw some_defining
 
 pub other_dependence : (s : OperatorModel) (fxy : ℕ) (o : Option ℤ) → s.new_reference_width ≤ 0 → o ≡ redefined s.new_references fxy → dependence s fxy ≡ by_reference o
-other_dependence s fxy o none is =
-    ap (λ b. if b then OnWidth s.new_reference_width else by_reference (redefined s.new_references fxy)) (none_defining s.new_reference_width (omega (arith, none))) ∙ ap by_reference (sym is)
+other_dependence s fxy o none is = grind arith
 
 plain_dependence : (s : OperatorModel) (fxy : ℕ) → s.new_reference_width ≡ 0 → s.new_references ≡ [] → dependence s fxy ≡ OnNothing
-plain_dependence s fxy none empty =
-    ap (λ b. if b then OnWidth s.new_reference_width else by_reference (redefined s.new_references fxy)) (none_defining s.new_reference_width none)
-    ∙ ap (λ known. by_reference (redefined known fxy)) empty
+plain_dependence s fxy none empty = rw (none_defining, empty)
 
 -- If no references are redefined, the operands and the word of the field are the whole key.
 pub plain_key : (s : OperatorModel) (f : TableField) (key : SpecKey) → descriptor_of f < 65536 → IsKey s (key_word f) key.operators → IsSpecKey s f key
-plain_key s f key word h =
-    let nothing : dependence s (descriptor_of f) ≡ OnNothing = plain_dependence s (descriptor_of f) h.new_reference_width h.new_references in
-    record {
-      word = word;
-      is = h.is ∙ ap (spec_key s) (omega (arith, ap dependence_number nothing));
-      number = subst (λ d. HasNumber d key.number) (sym nothing) tt;
-      octets = h.octets;
-    }
+plain_key s f key word h = grind (arith, common_steps, plain_dependence)
 
 pub plain_spec : (table : List Row) (key : SpecKey) (operators : ℕ) (spec : FieldSpec) → key.operators ≡ operators → IsSpecFor table key spec → IsSpecBy table operators spec
 plain_spec table key operators spec e h = record {
@@ -281,7 +222,7 @@ element_plain table s fxy spec none e =
 
 -- The spec of a factor is never that of a redefined reference.
 factor_plain : (table : List Row) (s : OperatorModel) (fxy : ℕ) (spec : FieldSpec) → factor_spec table s fxy ≡ Ok spec → is_reference spec.role ≡ false
-factor_plain table s fxy spec e = grind (arith, common_steps, fitted_role)
+factor_plain table s fxy spec e = grind arith
 
 -- A spec that is cached under such a key is not that of a redefined reference.
 pub spec_got_plain : (table : List Row) (s : OperatorModel) (f : TableField) (key : ℕ) (spec : FieldSpec) → IsFieldKey s f key → IsSpecBy table key spec → is_reference spec.role ≡ false
@@ -301,19 +242,17 @@ others_more b d slots more s h is p =
     All-append (IsOther b d) more (s ∷ []) (rw is (All-drop (IsOther b d) (length slots - 126) slots h)) (All-cons (IsOther b d) s [] p (All-nil (IsOther b d)))
 
 pub few_more : (slots more : List Slot) (s : Slot) → length slots ≤ 127 → more ≡ with_room slots → length (more ++ s ∷ []) ≤ 127
-few_more slots more s few is = omega (arith, few, length-append more (s ∷ []), ap length is, length-drop (length slots - 126) slots)
+few_more slots more s few is = omega (arith, length-append more (s ∷ []), ap length is, length-drop (length slots - 126) slots)
 
 pub lists_more : (slots more : List Slot) (s : Slot) → more ≡ with_room slots → lists_of (more ++ s ∷ []) ≡ with_room (lists_of slots) ++ list_of s ∷ []
-lists_more slots more s is =
-    map-append list_of more (s ∷ []) ∙ ap (λ xs. xs ++ list_of s ∷ [])
-    (ap lists_of is ∙ sym (drop-map list_of (length slots - 126) slots) ∙ ap (λ n. drop (n - 126) (lists_of slots)) (sym (length-map slots list_of)))
+lists_more slots more s is = search (rules, map-append, drop-map, length-map)
 
 -- If a slot has this list, the list is among those of the slots.
 pub slot_contains : (slots : List Slot) (i : ℕ) (list : List ℕ) → i < length slots → ((s : Slot) → s ≡ get_or slots i s → list_of s ≡ list) → Contains (lists_of slots) list
-slot_contains [] i list h is = absurd (omega (arith, h))
+slot_contains [] i list h is = absurd (omega arith)
 slot_contains (s ∷ slots) zero list h is = (0, omega arith, is s refl)
 slot_contains (s ∷ slots) (suc i) list h is =
-    let more = slot_contains slots i list (omega (arith, h)) is in
+    let more = slot_contains slots i list (omega arith) is in
     (suc more.0, omega (arith, more.1), more.2)
 
 -- The list of the last slot is among those of all slots.
@@ -325,47 +264,47 @@ last_kept (t ∷ slots) s =
 
 -- If a slot is replaced by one with this list, the list is among those of the slots.
 pub set_contains : (slots : List Slot) (i : ℕ) (s : Slot) (list : List ℕ) → i < length slots → list_of s ≡ list → Contains (lists_of (slice_set slots i s)) list
-set_contains [] i s list h e = absurd (omega (arith, h))
+set_contains [] i s list h e = absurd (omega arith)
 set_contains (t ∷ slots) zero s list h e = (0, omega arith, e)
 set_contains (t ∷ slots) (suc i) s list h e =
-    let more = set_contains slots i s list (omega (arith, h)) e in
+    let more = set_contains slots i s list (omega arith) e in
     (suc more.0, omega (arith, more.1), more.2)
 
 -- If no slot has a list, the list is not among those of the slots.
 none_contains : (slots : List Slot) (list : List ℕ) → All (λ s. list_of s ≢ list) slots → Contains (lists_of slots) list → ⊥
-none_contains [] list h (k, few, is) = omega (arith, few)
+none_contains [] list h (k, few, is) = omega arith
 none_contains (s ∷ slots) list h (zero, few, is) = All-head (λ (s : Slot). list_of s ≢ list) s slots h is
-none_contains (s ∷ slots) list h (suc k, few, is) = none_contains slots list (All-tail (λ (s : Slot). list_of s ≢ list) s slots h) (k, omega (arith, few), is)
+none_contains (s ∷ slots) list h (suc k, few, is) = none_contains slots list (All-tail (λ (s : Slot). list_of s ≢ list) s slots h) (k, omega arith, is)
 
 pub none_kept : (l : Lists) (slots : List Slot) (list : List ℕ) → l.others ≡ lists_of slots → l.list ≢ list → All (λ s. list_of s ≢ list) slots → IsKept l list → ⊥
 none_kept l slots list are last others (inl is) = last is
-none_kept l slots list are last others (inr is) = none_contains slots list others (subst (λ xs. Contains xs list) are is)
+none_kept l slots list are last others (inr is) = none_contains slots list others (rw are at is)
 
 -- If the slot with the wanted list is replaced or removed, each list is either the wanted one or
 -- still among those of the slots.
 pub set_stays : (slots : List Slot) (i : ℕ) (t : Slot) (wanted list : List ℕ) → i < length slots → ((s : Slot) → s ≡ get_or slots i s → list_of s ≡ wanted) → Contains (lists_of slots) list
     → (wanted ≡ list) ⊎ Contains (lists_of (slice_set slots i t)) list
-set_stays [] i t wanted list h is c = absurd (omega (arith, h))
+set_stays [] i t wanted list h is c = absurd (omega arith)
 set_stays (s ∷ slots) zero t wanted list h is (zero, few, e) = inl (sym (is s refl) ∙ e)
-set_stays (s ∷ slots) zero t wanted list h is (suc k, few, e) = inr (suc k, omega (arith, few), e)
+set_stays (s ∷ slots) zero t wanted list h is (suc k, few, e) = inr (suc k, omega arith, e)
 set_stays (s ∷ slots) (suc i) t wanted list h is (zero, few, e) = inr (0, omega arith, e)
-set_stays (s ∷ slots) (suc i) t wanted list h is (suc k, few, e) = later (set_stays slots i t wanted list (omega (arith, h)) is (k, omega (arith, few), e))
+set_stays (s ∷ slots) (suc i) t wanted list h is (suc k, few, e) = later (set_stays slots i t wanted list (omega arith) is (k, omega arith, e))
   where
     later : (wanted ≡ list) ⊎ Contains (lists_of (slice_set slots i t)) list → (wanted ≡ list) ⊎ Contains (lists_of (s ∷ slice_set slots i t)) list
     later (inl e) = inl e
-    later (inr (k, few, e)) = inr (suc k, omega (arith, few), e)
+    later (inr (k, few, e)) = inr (suc k, omega arith, e)
 
 pub remove_stays : (slots : List Slot) (i : ℕ) (wanted list : List ℕ) → i < length slots → ((s : Slot) → s ≡ get_or slots i s → list_of s ≡ wanted) → Contains (lists_of slots) list
     → (wanted ≡ list) ⊎ Contains (lists_of (remove slots i)) list
-remove_stays [] i wanted list h is c = absurd (omega (arith, h))
+remove_stays [] i wanted list h is c = absurd (omega arith)
 remove_stays (s ∷ slots) zero wanted list h is (zero, few, e) = inl (sym (is s refl) ∙ e)
-remove_stays (s ∷ slots) zero wanted list h is (suc k, few, e) = inr (k, omega (arith, few), e)
+remove_stays (s ∷ slots) zero wanted list h is (suc k, few, e) = inr (k, omega arith, e)
 remove_stays (s ∷ slots) (suc i) wanted list h is (zero, few, e) = inr (0, omega arith, e)
-remove_stays (s ∷ slots) (suc i) wanted list h is (suc k, few, e) = later (remove_stays slots i wanted list (omega (arith, h)) is (k, omega (arith, few), e))
+remove_stays (s ∷ slots) (suc i) wanted list h is (suc k, few, e) = later (remove_stays slots i wanted list (omega arith) is (k, omega arith, e))
   where
     later : (wanted ≡ list) ⊎ Contains (lists_of (remove slots i)) list → (wanted ≡ list) ⊎ Contains (lists_of (s ∷ remove slots i)) list
     later (inl e) = inl e
-    later (inr (k, few, e)) = inr (suc k, omega (arith, few), e)
+    later (inr (k, few, e)) = inr (suc k, omega arith, e)
 
 -- Each list is that of the selected slot, or is among those of the others.
 pub kept_beside : (x : Slot) (wanted list : List ℕ) (more : List Slot) → list_of x ≡ wanted → (wanted ≡ list) ⊎ Contains (lists_of more) list → (list_of x ≡ list) ⊎ Contains (lists_of more) list

@@ -1,12 +1,11 @@
 -- Each field that comes next in a legal template takes at least one bit of the data, and the counts
 -- match the factors.
-use Rattle.std.proofs.lemmas.Grind.{common_steps}
-use Rattle.std.proofs.Common.{◌≡◌, ℕ, zero, suc, ◌*◌, ◌≤◌, Bool, true, false, List, [], ◌∷◌, Option, Some, None, Result, Ok, Err, refl, sym, ◌∙◌, ap, subst, arith, ◌+◌, ◌-◌, length, drop, take, ◌==◌, nat_le, nat_lt, if◌then◌else◌, ◌||◌}
+use Rattle.std.proofs.Common.{◌≡◌, ℕ, zero, suc, ◌*◌, ◌≤◌, Bool, true, false, List, [], ◌∷◌, Some, Result, Ok, Err, refl, sym, ◌∙◌, ap, subst, arith, ◌+◌, ◌-◌, length, drop, take, ◌==◌, nat_le, nat_lt, if◌then◌else◌, ◌||◌, rules}
 use Rattle.std.proofs.lemmas.Bool.{leb-true, ltb-false}
 use Rattle.std.proofs.lemmas.Bool.Decides.{nat_tests}
 use Rattle.bufr_bits.proofs.DecimalLemmas.{and_first}
-use Rattle.bufr_tables.specs.Prelude.{y_of, IsLegal, is_legal_operator, Tree, bare, element, operator, fixed, delayed, is_inserted_text, Row, entry_of, allows_width}
-use Rattle.bufr_walk.specs.Prelude.{Role, TurnRefusal, Taken, FieldSpec, IsFor, IsForRole, Content, content_in, answer_by_role, FieldFault, data_end, FieldRead, found, plain_field, packed_field, answer_first, Course, Next, take_next, astray, refused, at_end, asked, operated, ahead, counts_of, next_item, finish, open_end, group, pass_end, operator_turn, Rest, passes, unroll, if_valid_width, numeric_spec, coded_spec, text_spec, text_width, spec_by_kind, defined_field, new_reference_spec, unsigned_field, begin, element_spec, factor_field, factor_by, factor_spec, inserted_spec, OperatorModel, is_defining, after_operator, after_field, DataCoding, plain, packed, Kind, step_of, coding_of, contents_across}
+use Rattle.bufr_tables.specs.Prelude.{IsLegal, is_legal_operator, Tree, bare, element, operator, fixed, delayed, is_inserted_text, Row, entry_of, allows_width}
+use Rattle.bufr_walk.specs.Prelude.{Role, TurnRefusal, Taken, FieldSpec, IsFor, IsForRole, Content, answer_by_role, FieldFault, FieldRead, found, plain_field, packed_field, answer_first, Course, Next, take_next, astray, refused, asked, operated, ahead, counts_of, next_item, open_end, group, pass_end, operator_turn, Rest, passes, unroll, if_valid_width, numeric_spec, coded_spec, text_spec, text_width, spec_by_kind, new_reference_spec, unsigned_field, element_spec, factor_spec, inserted_spec, OperatorModel, after_operator, after_field, DataCoding, plain, packed, Kind, step_of, coding_of, contents_across}
 use Rattle.bufr_walk.proofs.SpecLemmas.{inserted_width}
 use Rattle.bufr_walk.proofs.WalkLemmas.{no_count, element_cases}
 use Rattle.bufr_walk.proofs.PackedLemmas.{item_parts, some_across, neither}
@@ -14,7 +13,6 @@ use Rattle.std.proofs.lemmas.List.{length-drop, drop-drop}
 use Rattle.bufr_bits.specs.Prelude.{number_of}
 use Rattle.bufr_tables.specs.declared.table_b.Kind.TheVariants as kind
 use Rattle.bufr_walk.specs.declared.spec.Role.TheVariants as role
-use Rattle.bufr_walk.specs.declared.spec.TurnRefusal.TheVariants as refusal
 use Rattle.bufr_walk.specs.declared.spec.Taken.TheVariants as taken
 
 -- ---- What comes next in a template: a field takes at least one bit, and the counts match the
@@ -29,11 +27,7 @@ IsSane (suc n) course =
     × ((spec : FieldSpec) → course [] ≡ take_next spec → (1 ≤ spec.width) × ((t : Taken) → IsFor spec t → IsSane n (λ answers. course (t ∷ answers))))
 
 sane_same : (n : ℕ) (c d : Course) → ((answers : List Taken) → c answers ≡ d answers) → IsSane n c → IsSane n d
-sane_same zero c d same h = tt
-sane_same (suc n) c d same h = (
-  λ e. h.0 (same [] ∙ e),
-  λ spec e. let k = h.1 spec (same [] ∙ e) in (k.0, λ t f. sane_same n (λ answers. c (t ∷ answers)) (λ answers. d (t ∷ answers)) (λ answers. same (t ∷ answers)) (k.1 t f)),
-)
+sane_same n c d same h = grind arith
 
 sane_end : (n : ℕ) (c : Course) (x : Next) → c [] ≡ x → (x ≡ astray → ⊥) → ((spec : FieldSpec) → x ≡ take_next spec → ⊥) → IsSane n c
 sane_end zero c x e h g = tt
@@ -58,15 +52,7 @@ same_take a b e = cc
 
 field_sane : (n : ℕ) (r : Result FieldSpec TurnRefusal) (c : Course) → c [] ≡ first_next r → ((spec : FieldSpec) → r ≡ Ok spec → 1 ≤ spec.width)
     → ((spec : FieldSpec) → r ≡ Ok spec → (t : Taken) → IsFor spec t → (m : ℕ) → IsSane m (λ answers. c (t ∷ answers))) → IsSane n c
-field_sane n (Err why) c e w h = sane_end n c (refused why) e (λ q. absurd cc) (λ spec q. absurd cc)
-field_sane zero (Ok spec) c e w h = tt
-field_sane (suc n) (Ok spec) c e w h = (
-  λ q. not_astray spec (sym e ∙ q),
-  λ a q. let is : spec ≡ a = same_take spec a (sym e ∙ q) in (subst (λ z. 1 ≤ z.width) is (w spec refl), λ t f. h spec refl t (subst (λ z. IsFor z t) (sym is) f) n),
-)
-  where
-    not_astray : (spec : FieldSpec) → take_next spec ≡ astray → ⊥
-    not_astray spec q = cc
+field_sane n r c e w h = grind arith
 
 -- whether a field with this role returns a count
 abbrev is_counting : Role → Bool
@@ -83,10 +69,10 @@ same_ok : (a b : FieldSpec) → ◌≡◌ {A = Result FieldSpec TurnRefusal} (Ok
 same_ok a b e = cc
 
 fitted : (a b : FieldSpec) → if_valid_width a ≡ Ok b → (a ≡ b) × (1 ≤ b.width)
-fitted a b e = grind (arith, common_steps, nat_le, same_ok, leb-true, and_first)
+fitted a b e = grind arith
 
 fitted_uncounted : (a b : FieldSpec) → is_counting a.role ≡ false → if_valid_width a ≡ Ok b → IsUncounted b
-fitted_uncounted a b h e = let f = fitted a b e in (f.1, subst (λ z. is_counting z.role ≡ false) f.0 h)
+fitted_uncounted a b h e = let f = fitted a b e in (f.1, rw (← f.0) h)
 
 letters : (y w : ℕ) → 8 ≤ w → 1 ≤ (if y == 0 then w else 8 * y)
 letters y w h = by (y == 0) refl
@@ -109,16 +95,10 @@ kind_steps s kind.Character row spec q good e =
     subst IsUncounted is (letters s.character_octets row.width (character_width row.width (ap (λ k. allows_width k row.width) q ∙ good)), refl)
 
 defined_steps : (s : OperatorModel) (kd : Kind) (fxy : ℕ) (spec : FieldSpec) → new_reference_spec kd s fxy ≡ Ok spec → IsUncounted spec
-defined_steps s kind.Character fxy spec e = absurd cc
-defined_steps s kind.Coded fxy spec e = fitted_uncounted (defined_field s fxy) spec refl e
-defined_steps s kind.Numeric fxy spec e = fitted_uncounted (defined_field s fxy) spec refl e
+defined_steps s kd fxy spec e = grind arith
 
 inserted_steps : (s : OperatorModel) (fxy : ℕ) (spec : FieldSpec) → is_legal_operator fxy ≡ true → is_inserted_text fxy ≡ true → inserted_spec s fxy ≡ Ok spec → IsUncounted spec
-inserted_steps s fxy spec legal x e = by (is_defining s) e
-  where
-    by : (b : Bool) → (if b then Err (refusal.Defining fxy) else Ok (text_spec role.Inserted fxy (8 * y_of fxy) false)) ≡ Ok spec → IsUncounted spec
-    by true q = absurd cc
-    by false q = subst IsUncounted (same_ok _ spec q) (omega (arith, (inserted_width fxy legal x).0), refl)
+inserted_steps s fxy spec legal x e = search (rules, same_ok, inserted_width)
 
 module _ (table : List Row) (rows : (fxy : ℕ) (row : Row) → entry_of table fxy ≡ Some row → allows_width row.kind row.width ≡ true) where
   element_steps : (s : OperatorModel) (fxy : ℕ) (spec : FieldSpec) → element_spec table s fxy ≡ Ok spec → IsUncounted spec
@@ -127,12 +107,7 @@ module _ (table : List Row) (rows : (fxy : ℕ) (row : Row) → entry_of table f
       (λ row d q. defined_steps s row.kind fxy spec q) e
 
   factor_steps : (s : OperatorModel) (fxy : ℕ) (spec : FieldSpec) → factor_spec table s fxy ≡ Ok spec → (1 ≤ spec.width) × (role.Factor ≡ spec.role)
-  factor_steps s fxy spec e = by (is_defining s) (entry_of table fxy) e
-    where
-      by : (b : Bool) (o : Option Row) → (if b then Err (refusal.Defining fxy) else factor_by o fxy) ≡ Ok spec → (1 ≤ spec.width) × (role.Factor ≡ spec.role)
-      by true o q = absurd cc
-      by false None q = absurd cc
-      by false (Some row) q = let f = fitted (factor_field row fxy) spec q in (f.1, ap (λ z. z.role) f.0)
+  factor_steps s fxy spec e = search (rules, fitted)
 
   -- A field that returns no count is sane if what follows it is.
   uncounted_goes : (r : Result FieldSpec TurnRefusal) (s : OperatorModel) (fxy : ℕ) (rest : Rest) → ((spec : FieldSpec) → r ≡ Ok spec → IsUncounted spec)
@@ -144,14 +119,13 @@ module _ (table : List Row) (rows : (fxy : ℕ) (row : Row) → entry_of table f
       (λ answers. asked r (λ u more. ahead table (rest (counts_of (t ∷ answers))) (after_field s fxy u) more) (t ∷ answers))
       (λ answers. sym (asked_next r (λ u more. ahead table (rest (counts_of (t ∷ answers))) (after_field s fxy u) more) spec t answers e
       ∙ ap (λ cs. ahead table (rest cs) (after_field s fxy t) answers)
-      (no_count spec.role t (counts_of answers) (λ q. absurd (let c : is_counting role.Factor ≡ false = subst (λ z. is_counting z ≡ false) q (good spec e).1 in cc)) f)))
+      (no_count spec.role t (counts_of answers) (λ q. absurd (let c : is_counting role.Factor ≡ false = rw q at (good spec e).1 in cc)) f)))
       (h m (after_field s fxy t)))
 
   operated_goes : (r : Result OperatorModel TurnRefusal) (rest : Rest) → ((n : ℕ) (s : OperatorModel) → IsSane n (λ answers. ahead table (rest (counts_of answers)) s answers)) → (n : ℕ)
       → IsSane n (λ answers. operated r (λ s'. ahead table (rest (counts_of answers)) s' answers))
-  operated_goes (Err why) rest h n = sane_end n (λ answers. operated (Err why) (λ s'. ahead table (rest (counts_of answers)) s' answers)) (refused why) refl (λ q. absurd cc) (λ spec q. absurd cc)
-  operated_goes (Ok s') rest h n = sane_same n (λ answers. ahead table (rest (counts_of answers)) s' answers) (λ answers. operated (Ok s') (λ s'. ahead table (rest (counts_of answers)) s' answers))
-      (λ answers. refl) (h n s')
+  operated_goes (Err why) rest h n = grind (arith, sane_end)
+  operated_goes (Ok s') rest h n = search (rules, sane_same)
 
   operator_goes : (fxy : ℕ) (rest : Rest) → is_legal_operator fxy ≡ true → ((n : ℕ) (s : OperatorModel) → IsSane n (λ answers. ahead table (rest (counts_of answers)) s answers))
       → (n : ℕ) (s : OperatorModel) → IsSane n (λ answers. ahead table (operator_turn fxy (rest (counts_of answers))) s answers)
@@ -176,7 +150,7 @@ module _ (table : List Row) (rows : (fxy : ℕ) (row : Row) → entry_of table f
       → role.Factor ≡ spec.role → IsFor spec t → ((k : ℕ) (answers : List Taken)
       → c (taken.Count k ∷ answers) ≡ ahead table (passes k body (more rest) (counts_of answers)) (after_field s fxy (taken.Count k)) answers)
       → (m : ℕ) → IsSane m (λ answers. c (t ∷ answers))
-  counted_goes fxy body more rest s spec t c h r f e m = by t (subst (λ x. IsForRole x t) (sym r) f)
+  counted_goes fxy body more rest s spec t c h r f e m = by t (rw r f)
     where
       by : (t : Taken) → IsForRole role.Factor t → IsSane m (λ answers. c (t ∷ answers))
       by taken.Plain g = absurd g
@@ -204,7 +178,7 @@ module _ (table : List Row) (rows : (fxy : ℕ) (row : Row) → entry_of table f
 
   pub template_sane : (tree : Tree) → IsLegal tree → (n : ℕ) → IsSane n (next_item table tree)
   unfolding next_item
-  template_sane tree legal n = unroll_goes tree (λ c. finish) legal (λ m z. sane_end m (λ answers. ahead table finish z answers) at_end refl (λ q. absurd cc) (λ spec q. absurd cc)) n begin
+  template_sane tree legal n = search (rules, unroll_goes, sane_end)
 
 -- ---- Each field that is read takes at least one bit of the data.
 
@@ -226,21 +200,10 @@ answer_for role.Factor c = tt
 answer_for role.Reference c = tt
 
 suffix_is : {C : Type 0} (a b : C) (l m : List Bool) → ◌≡◌ {A = Result (FieldRead C) FieldFault} (Ok (found a l)) (Ok (found b m)) → m ≡ l
-suffix_is {C} a b l m e = sym (ap (λ (z : FieldRead C). z.suffix) (same_found (found a l) (found b m) e))
+suffix_is {C} a b l m e = search (rules, same_found)
 
 pub plain_forth : (spec : FieldSpec) (bits : List Bool) (c : Content) (mid : List Bool) → 1 ≤ spec.width → plain_field spec bits ≡ Ok (found c mid) → Forth plain spec bits c mid
-plain_forth spec bits c mid some e = by (nat_lt (length bits) spec.width) refl e
-  where
-    by : (b : Bool) → nat_lt (length bits) spec.width ≡ b → (if b then Err data_end else Ok (found (content_in spec (take spec.width bits)) (drop spec.width bits))) ≡ Ok (found c mid)
-        → Forth plain spec bits c mid
-    by true p q = absurd cc
-    by false p q = record {
-      gives = answer_for spec.role c;
-      size = spec.width;
-      some = some;
-      within = ltb-false (length bits) spec.width p;
-      left_is = suffix_is (content_in spec (take spec.width bits)) c (drop spec.width bits) mid q;
-    }
+plain_forth spec bits c mid some e = search (rules, suffix_is)
 
 first_for : (spec : FieldSpec) (cs : List Content) → (cs ≡ [] → ⊥) → IsFor spec (answer_first spec cs)
 first_for spec [] h = absurd (h refl)

@@ -5,17 +5,14 @@ use Rattle.bufr_tables.proofs.TableBLemmas.{row-limits}
 use Rattle.std.proofs.lemmas.Bool.{eqb-true, leb-true, ltb-true}
 use Rattle.bufr_tables.specs.Prelude.{f_of, fxy_of, is_factor, IsRow, Row, allows_width, entry_of, kind_of, AreRows, element_of, plain_of, row_of, scale_of, width_of, is_legal_operator, has_legal_operand, Tree, bare, element, operator, fixed, delayed, is_inserted_text, x_of, y_of, IsLegal, i64_of, fits_i64, integer_of, Record, field_of, only_if}
 use Rattle.bufr_walk.specs.declared.spec.Taken.{Taken}
-use Rattle.bufr_walk.specs.Prelude.{OperatorModel, Redefined, current_reference, is_defining, if_valid_width, scale_change_of, numeric_spec, coded_spec, text_spec, text_width, spec_by_kind, defined_field, new_reference_spec, unsigned_field, begin, local_width_spec, listed_by, element_spec, factor_field, factor_by, factor_spec, with_references, with_operator, after_operator, after_field, with_reference, inserted_spec, Turns, finish, open_end, group, pass_end, factor_turn, element_turn, operator_turn, Rest, passes, unroll, turns_of, take_next, asked, operated, ahead, next_item, counts_of, FieldSpec, IsSpec, HasWidth, Course, IsField, IsWithin, AreWithin, Next}
-use Rattle.std.proofs.Common.{ℕ, suc, ◌+◌, ◌*◌, ◌%◌, ◌&&◌, eqb, Bool, false, Option, Some, None, Result, Ok, Err, refl, ◌∙◌, ap, subst, arith, ℤ, pos, negsuc, ◌+ℤ◌, zero, ◌||◌, not, sym, map, ◌≡◌, ◌≤◌, ◌<◌, ◌/◌, ◌^◌, true, List, [], ◌∷◌, unsigned_abs, ◌==◌, nat_le, nat_lt, if◌then◌else◌}
+use Rattle.bufr_walk.specs.Prelude.{OperatorModel, Redefined, current_reference, is_defining, if_valid_width, scale_change_of, numeric_spec, coded_spec, spec_by_kind, new_reference_spec, unsigned_field, begin, local_width_spec, listed_by, element_spec, factor_field, factor_by, factor_spec, with_references, with_operator, after_operator, after_field, with_reference, inserted_spec, Turns, finish, open_end, group, pass_end, factor_turn, element_turn, operator_turn, Rest, passes, unroll, turns_of, take_next, asked, operated, ahead, next_item, counts_of, FieldSpec, IsSpec, HasWidth, Course, IsField, IsWithin, AreWithin, Next}
+use Rattle.std.proofs.Common.{ℕ, suc, ◌+◌, ◌*◌, ◌%◌, ◌&&◌, Bool, false, Option, Some, None, Result, Ok, Err, refl, subst, arith, ℤ, pos, negsuc, ◌+ℤ◌, zero, not, map, ◌≡◌, ◌≤◌, ◌<◌, ◌/◌, ◌^◌, true, List, [], ◌∷◌, unsigned_abs, ◌==◌, nat_le, nat_lt, if◌then◌else◌, rules}
 use Rattle.std.specs.List.{find, AllByRecursion}
-use Rattle.std.proofs.lemmas.Bool.Decides.{nat_tests}
 use Rattle.bufr_bits.proofs.DecimalLemmas.{and_first, and_second}
 use Rattle.bufr_tables.specs.declared.table_b.Kind.{Kind}
 use Rattle.bufr_walk.specs.declared.spec.TurnRefusal.{TurnRefusal}
 use Rattle.std.proofs.lemmas.Option.{option_and_then_some}
-use Rattle.bufr_walk.specs.declared.spec.Taken.TheVariants as taken
 use Rattle.bufr_tables.specs.declared.table_b.Kind.TheVariants as kind
-use Rattle.bufr_walk.specs.declared.spec.Role.TheVariants as role
 use Rattle.bufr_walk.specs.declared.spec.TurnRefusal.TheVariants as refusal
 
 -- A row is within the limits of Table B, and of the numbers that are computed from it.
@@ -62,13 +59,10 @@ same_ok a b e = cc
 
 -- bounds on the magnitudes of sums and products
 abs_sum : (a b : ℤ) → unsigned_abs (a +ℤ b) ≤ unsigned_abs a + unsigned_abs b
-abs_sum (pos a) (pos b) = omega arith
-abs_sum (negsuc a) (negsuc b) = omega arith
-abs_sum (pos a) (negsuc b) = grind (arith, common_steps, eqb, unsigned_abs)
-abs_sum (negsuc a) (pos b) = grind (arith, common_steps, unsigned_abs)
+abs_sum a b = grind arith
 
 change_small : (y : ℕ) → y ≤ 255 → unsigned_abs (scale_change_of y) ≤ 128
-change_small y h = grind (arith, common_steps, unsigned_abs, pos)
+change_small y h = grind arith
 
 reference_small : (rs : List Redefined) (fxy : ℕ) (listed : ℤ) → AreRedefined rs → unsigned_abs listed ≤ 2 ^ 63 → unsigned_abs (current_reference rs fxy listed) ≤ 2 ^ 63
 reference_small [] fxy listed h g = g
@@ -107,68 +101,28 @@ character_width w h = (
 )
 
 letters_width : (y w : ℕ) → y ≤ 255 → HasWidth kind.Character w → HasWidth kind.Character (if y == 0 then w else 8 * y)
-letters_width y w h g = by (y == 0) refl
-  where
-    by : (b : Bool) → (y == 0) ≡ b → HasWidth kind.Character (if b then w else 8 * y)
-    by true e = g
-    by false e = let some : 1 ≤ y = positive y e in (omega arith, omega arith, omega arith)
-      where
-        positive : (y : ℕ) → (y == 0) ≡ false → 1 ≤ y
-        positive y e = grind (arith, nat_tests)
+letters_width y w h g = grind (arith, common_steps)
 
 module _ (s : OperatorModel) (set : IsSettings s) where
   quantity_good : (row : Row) → IsRead row → (1 ≤ (numeric_spec s row).width) × ((numeric_spec s row).width ≤ 63) → IsSpec (numeric_spec s row)
-  quantity_good row good w = record {
-    width = w;
-    role = tt;
-    missing = tt;
-    scale = omega (
-      arith,
-      abs_sum (row.scale +ℤ scale_change_of s.scale_change) (pos s.precision_increase),
-      abs_sum row.scale (scale_change_of s.scale_change),
-      change_small s.scale_change set.scale_change,
-      good.scale,
-      set.precision_increase,
-    );
-    reference = product_small (current_reference s.new_references row.fxy row.reference) s.precision_increase
-        (reference_small s.new_references row.fxy row.reference set.new_references good.reference) set.precision_increase;
-  }
+  quantity_good row good w = omega (arith, good.scale, set.precision_increase, abs_sum, change_small, product_small, reference_small)
 
   figure_good : (row : Row) → IsRead row → (1 ≤ (coded_spec s row).width) × ((coded_spec s row).width ≤ 63) → IsSpec (coded_spec s row)
-  figure_good row good w = record {
-    width = w;
-    role = tt;
-    missing = tt;
-    scale = omega (arith, good.scale);
-    reference = omega (arith, reference_small s.new_references row.fxy row.reference set.new_references good.reference);
-  }
+  figure_good row good w = omega (arith, reference_small)
 
   kind_good : (kd : Kind) (row : Row) (spec : FieldSpec) → kd ≡ row.kind → IsRead row → spec_by_kind kd s row ≡ Ok spec → IsField spec
   kind_good kind.Numeric row spec q good e = fitted (numeric_spec s row) spec e (omega (arith, good.element)) (quantity_good row good)
   kind_good kind.Coded row spec q good e = fitted (coded_spec s row) spec e (omega (arith, good.element)) (figure_good row good)
-  kind_good kind.Character row spec q good e =
-      subst IsField (same_ok _ spec e) (as_field (text_spec role.Element row.fxy (text_width s row.width) true) (omega (arith, good.element))
-      (text_good role.Element row.fxy (text_width s row.width) true
-      (letters_width s.character_octets row.width set.character_octets (character_width row.width (ap (λ k. allows_width k row.width) q ∙ good.listed.width))) tt))
+  kind_good kind.Character row spec q good e = grind (arith, same_ok, as_field, text_good, letters_width, character_width, good.element)
 
   defined_good : (kd : Kind) (fxy : ℕ) (spec : FieldSpec) → IsWord fxy → new_reference_spec kd s fxy ≡ Ok spec → IsField spec
-  defined_good kind.Character fxy spec word e = absurd cc
-  defined_good kind.Coded fxy spec word e = fitted (defined_field s fxy) spec e word (λ w. record { width = w; role = (refl, refl); missing = tt; scale = omega arith; reference = omega arith })
-  defined_good kind.Numeric fxy spec word e = fitted (defined_field s fxy) spec e word (λ w. record { width = w; role = (refl, refl); missing = tt; scale = omega arith; reference = omega arith })
+  defined_good kd fxy spec word e = grind arith
 
   unsigned_good : (fxy w : ℕ) (spec : FieldSpec) → IsWord fxy → if_valid_width (unsigned_field fxy w) ≡ Ok spec → IsField spec
   unsigned_good fxy w spec word e = fitted (unsigned_field fxy w) spec e word (λ h. record { width = h; role = tt; missing = tt; scale = omega arith; reference = omega arith })
 
 begin_good : IsSettings begin
-begin_good = record {
-  width_change = omega arith;
-  scale_change = omega arith;
-  new_reference_width = omega arith;
-  precision_increase = omega arith;
-  character_octets = omega arith;
-  local_width = omega arith;
-  new_references = tt;
-}
+begin_good = omega arith
 
 module _ (table : List Row) (rows : AreRead table) (s : OperatorModel) (set : IsSettings s) where
   element_good : (fxy : ℕ) (spec : FieldSpec) → IsWord fxy → element_spec table s fxy ≡ Ok spec → IsField spec
@@ -202,14 +156,7 @@ module _ (table : List Row) (rows : AreRead table) (s : OperatorModel) (set : Is
 
 -- the bounds on the operands of legal operators
 operand_three : (x y : ℕ) → (x == 3) ≡ true → has_legal_operand x y ≡ true → (y == 255) ≡ false → y ≤ 63
-operand_three x y e h g = by (subst (λ z. has_legal_operand z y ≡ true) (eqb-true x 3 e) h)
-  where
-    or_false : (b : Bool) → (b || false) ≡ true → b ≡ true
-    or_false true h = refl
-    or_false false h = h
-
-    by : (nat_le y 63 || y == 255) ≡ true → y ≤ 63
-    by q = leb-true y 63 (or_false (nat_le y 63) (ap (λ b. nat_le y 63 || b) (sym g) ∙ q))
+operand_three x y e h g = search (rules, eqb-true, leb-true)
 
 operand_seven : (x y : ℕ) → (x == 7) ≡ true → has_legal_operand x y ≡ true → y ≤ 18
 operand_seven x y e h = leb-true y 18 (subst (λ z. has_legal_operand z y ≡ true) (eqb-true x 7 e) h)
@@ -218,13 +165,7 @@ operand_most : (fxy : ℕ) → y_of fxy ≤ 255
 operand_most fxy = omega arith
 
 inserted_good : (s : OperatorModel) (fxy : ℕ) (spec : FieldSpec) → is_inserted_text fxy ≡ true → is_legal_operator fxy ≡ true → IsWord fxy → inserted_spec s fxy ≡ Ok spec → IsField spec
-inserted_good s fxy spec x legal word e = by (is_defining s) e
-  where
-    by : (b : Bool) → (if b then Err (refusal.Defining fxy) else Ok (text_spec role.Inserted fxy (8 * y_of fxy) false)) ≡ Ok spec → IsField spec
-    by true q = absurd cc
-    by false q =
-        let is : text_spec role.Inserted fxy (8 * y_of fxy) false ≡ spec = cc in
-        subst IsField is (as_field (text_spec role.Inserted fxy (8 * y_of fxy) false) word (text_good role.Inserted fxy (8 * y_of fxy) false (inserted_width fxy legal x) refl))
+inserted_good s fxy spec x legal word e = search (rules, as_field, text_good, inserted_width)
 
 -- The operands in effect are still legal after another operator, and after a field.
 references_good : (s : OperatorModel) (y : ℕ) → IsSettings s → ((y == 255) ≡ false → y ≤ 63) → IsSettings (with_references y s)
@@ -316,49 +257,17 @@ operator_good s x y set most legal = by (x == 1) (x == 2) (x == 3) (x == 6) (x =
 -- Adding a redefined reference keeps all of them within the limits.
 references_kept : (fxy : ℕ) (reference : ℤ) (known : List Redefined) → unsigned_abs reference ≤ 2 ^ 63 → AreRedefined known → AreRedefined (with_reference fxy reference known)
 references_kept fxy reference [] answers h = (answers, h)
-references_kept fxy reference (r ∷ more) answers h = by (nat_lt fxy r.fxy) (fxy == r.fxy) (references_kept fxy reference more answers h.1)
-  where
-    by : (below same : Bool) → AreRedefined (with_reference fxy reference more)
-        → AreRedefined (if below then record { fxy = fxy; reference = reference } ∷ r ∷ more else if same then record r { reference = reference } ∷ more else r ∷ with_reference fxy reference more)
-    by true same others = (answers, h)
-    by false true others = (answers, h.1)
-    by false false others = (h.0, others)
+references_kept fxy reference (r ∷ more) answers h = grind (arith, common_steps, references_kept fxy reference more answers h.1)
 
 field_good : (s : OperatorModel) (fxy : ℕ) (t : Taken) → IsSettings s → IsWithin t → IsSettings (after_field s fxy t)
-field_good s fxy taken.Plain set h = record {
-  width_change = set.width_change;
-  scale_change = set.scale_change;
-  new_reference_width = set.new_reference_width;
-  precision_increase = set.precision_increase;
-  character_octets = set.character_octets;
-  local_width = omega arith;
-  new_references = set.new_references;
-}
-field_good s fxy (taken.Count n) set h = record {
-  width_change = set.width_change;
-  scale_change = set.scale_change;
-  new_reference_width = set.new_reference_width;
-  precision_increase = set.precision_increase;
-  character_octets = set.character_octets;
-  local_width = omega arith;
-  new_references = set.new_references;
-}
-field_good s fxy (taken.Reference r) set h = record {
-  width_change = set.width_change;
-  scale_change = set.scale_change;
-  new_reference_width = set.new_reference_width;
-  precision_increase = set.precision_increase;
-  character_octets = set.character_octets;
-  local_width = omega arith;
-  new_references = references_kept fxy r s.new_references h set.new_references;
-}
+field_good s fxy t set h = grind (arith, references_kept)
 
 -- The descriptors of a legal template have 16 bits.
 class_word : (fxy k : ℕ) → f_of fxy ≡ k → k < 4 → IsWord fxy
 class_word fxy k e h = omega (arith, e, h)
 
 factor_class : (fxy : ℕ) → is_factor fxy ≡ true → IsWord fxy
-factor_class fxy h1 = grind (arith, nat_tests, common_steps)
+factor_class fxy h1 = grind arith
 
 module _ (table : List Row) (rows : AreRead table) where
   asked_good : (r : Result FieldSpec TurnRefusal) (go : Taken → List Taken → Next) (answers : List Taken) (spec : FieldSpec) → AreWithin answers → ((x : FieldSpec) → r ≡ Ok x → IsField x)
@@ -432,11 +341,11 @@ passed true x y is go = go refl (cc is)
 passed false x y is go = absurd (cc is)
 
 within : (z : ℤ) → fits_i64 z ≡ true → unsigned_abs z ≤ 2 ^ 63
-within (pos n) h = omega (arith, ltb-true n (2 ^ 63) h)
-within (negsuc n) h = omega (arith, ltb-true n (2 ^ 63) h)
+within (pos n) h = omega (arith, ltb-true)
+within (negsuc n) h = omega (arith, ltb-true)
 
 fits_64_bits : (z r : ℤ) → only_if (fits_i64 z) z ≡ Some r → unsigned_abs r ≤ 2 ^ 63
-fits_64_bits z r is = grind (arith, common_steps, unsigned_abs, within)
+fits_64_bits z r is = search (rules, within)
 
 reference_within : (text : List ℕ) (r : ℤ) → i64_of text ≡ Some r → unsigned_abs r ≤ 2 ^ 63
 unfolding i64_of
@@ -444,15 +353,15 @@ reference_within text r is = option_and_then_some _ (integer_of text) r is (λ z
 
 scale_within : (text : List ℕ) (scale : ℤ) → scale_of text ≡ Some scale → unsigned_abs scale ≤ 127
 unfolding scale_of
-scale_within text scale is = grind (arith, common_steps, option_and_then_some, passed, unsigned_abs, leb-true)
+scale_within text scale is = grind arith
 
 element_below : (cell : List ℕ) (fxy : ℕ) → element_of cell ≡ Some fxy → fxy < 16384
 unfolding element_of
 element_below cell fxy is =
-    option_and_then_some _ (fxy_of cell) fxy is (λ z read is. passed _ z fxy is (λ test same. subst (λ n. n < 16384) same (first z test)))
+    option_and_then_some _ (fxy_of cell) fxy is (λ z read is. passed _ z fxy is (λ test same. rw same at (first z test)))
   where
     first : (z : ℕ) → (z / 16384 == 0) ≡ true → z < 16384
-    first z test = let e : z / 16384 ≡ 0 = grind (arith, nat_tests) in omega (arith, e)
+    first z test = let e : z / 16384 ≡ 0 = grind arith in omega (arith, e)
 
 written_row : (r : Record) (row : Row) → row_of r ≡ Some row → IsRow row → IsRead row
 unfolding row_of

@@ -1,17 +1,17 @@
 -- The contents of an item of compressed data, given its base and its increments.
 use Rattle.std.proofs.lemmas.Grind.{common_steps}
-use Rattle.std.proofs.Common.{◌≡◌, ℕ, zero, suc, ◌+◌, ◌^◌, ◌<◌, ◌≤◌, ◌&&◌, ◌||◌, ◌%◌, Bool, true, false, List, [], ◌∷◌, length, take, drop, refl, sym, ◌∙◌, ap, subst, arith, ◌*◌, map, Option, Some, None, option_map, Result, Ok, Err, ◌-◌, ◌==◌, nat_lt, not, ◌/◌, if◌then◌else◌, replicate, ◌++◌}
+use Rattle.std.proofs.Common.{◌≡◌, ℕ, zero, suc, ◌+◌, ◌^◌, ◌<◌, ◌≤◌, ◌&&◌, ◌||◌, ◌%◌, Bool, true, false, List, [], ◌∷◌, length, take, drop, refl, sym, ◌∙◌, ap, arith, ◌*◌, map, Option, Some, None, option_map, Result, Ok, Err, ◌-◌, ◌==◌, nat_lt, not, ◌/◌, if◌then◌else◌, replicate, ◌++◌, rules}
 use Rattle.std.specs.Prelude.{is_some, ok_or}
-use Rattle.std.proofs.lemmas.Bool.{eq-eqb, eqb-true, le-ltb, ltb-false, ne_eqb}
+use Rattle.std.proofs.lemmas.Bool.{eq-eqb, le-ltb, ltb-false, ne_eqb}
 use Rattle.std.specs.List.{list_all}
 use Rattle.std.proofs.lemmas.Nat.{shl_whole}
-use Rattle.std.proofs.lemmas.List.{drop-drop, length-take, length-drop}
+use Rattle.std.proofs.lemmas.List.{drop-drop, length-take}
 use Rattle.std.proofs.Math.Nat.{pow-le-pow_right, mul-le-mul_right}
-use Rattle.std.proofs.lemmas.Bool.Decides.{nat_tests, Decides-int_eq}
+use Rattle.std.proofs.lemmas.Bool.Decides.{Decides-int_eq}
 use Rattle.std.proofs.lemmas.Slice.Eq.{bytes_eq-Decides}
 use Rattle.bufr_bits.specs.Prelude.{number_of, are_all_ones, bits_of, bits_at, ◌>>=◌}
-use Rattle.bufr_bits.proofs.BitLemmas.{number_of-below, length-bits_at, are_all_ones-number}
-use Rattle.bufr_walk.specs.Prelude.{start_of, numbers, texts, Coding, coding_of, coding_by, content_by, step_of, sum_within, increased, all_there, contents_across, same, if_equal, are_valid, increments, ones, octets_in, packed_field, FieldSpec, IsSpec, HasRole, Content, number, text, missing, reference, content_in, answer_by_role, answer_first, FieldFault, increment, unequal_factor, FieldRead, found, data_end, is_reference, content_kept, contents_found, was_found, has_base, fits_at, Role, IndexedItem, content_at}
+use Rattle.bufr_bits.proofs.BitLemmas.{number_of-below, are_all_ones-number}
+use Rattle.bufr_walk.specs.Prelude.{start_of, numbers, texts, Coding, coding_of, coding_by, content_by, step_of, sum_within, increased, all_there, contents_across, same, if_equal, are_valid, increments, ones, octets_in, packed_field, FieldSpec, IsSpec, HasRole, Content, number, text, missing, reference, content_in, answer_by_role, answer_first, FieldFault, increment, unequal_factor, FieldRead, found, data_end, is_reference, content_kept, contents_found, was_found, fits_at, Role, IndexedItem, content_at}
 use Rattle.bufr_bits.proofs.DecimalLemmas.{and_first, and_second}
 use Rattle.bufr_tables.specs.Prelude.{is_character}
 use Rattle.bufr_walk.proofs.PlainLemmas.{bits_length, ones_by_number, number_coding, text_coding}
@@ -24,21 +24,21 @@ all_ones w v e h = omega (arith, shl_whole 1 1 w 64 (omega arith) (omega (arith,
 
 -- The increments are the first one and those after it.
 pub increments_next : (left left' k at at' : ℕ) (bits : List Bool) → left ≡ suc left' → at' ≡ at + k → increments left k (drop at bits) ≡ take k (drop at bits) ∷ increments left' k (drop at' bits)
-increments_next left left' k at at' bits e f = grind (arith, common_steps, drop-drop)
+increments_next left left' k at at' bits e f = grind (arith, drop-drop)
 
 -- If the first increment passes the test, the others decide whether all pass.
 pub passes_next : (p : List Bool → Bool) (left left' k at at' : ℕ) (bits : List Bool) (whole : Bool) → left ≡ suc left' → at' ≡ at + k → whole ≡ list_all p (increments left k (drop at bits))
     → p (take k (drop at bits)) ≡ true → whole ≡ list_all p (increments left' k (drop at' bits))
-passes_next p left left' k at at' bits whole e f h t = grind (arith, common_steps, increments_next)
+passes_next p left left' k at at' bits whole e f h t = grind (arith, increments_next)
 
 -- If the first increment fails the test, not all of them pass.
 pub fails_next : (p : List Bool → Bool) (left left' k at : ℕ) (bits : List Bool) (whole : Bool) → left ≡ suc left' → whole ≡ list_all p (increments left k (drop at bits))
     → p (take k (drop at bits)) ≡ false → whole ≡ false
-fails_next p left left' k at bits whole e h t = grind (arith, common_steps, increments_next)
+fails_next p left left' k at bits whole e h t = cc
 
 -- comparisons of an increment with the first one
 pub is_other : (n first m : ℕ) → n ≡ m → (n ≡ first → ⊥) → (m == first) ≡ false
-is_other n first m e h = let g : m ≡ first → ⊥ = λ x. h (e ∙ x) in ne_eqb m first g
+is_other n first m e h = omega (arith, ne_eqb)
 
 pub is_first : (n first m : ℕ) → n ≡ m → n ≡ first → (m == first) ≡ true
 is_first n first m e h = eq-eqb m first (sym e ∙ h)
@@ -51,23 +51,11 @@ ones_same k i h = sym (ap (λ n. number_of i == ones n) (sym h) ∙ are_all_ones
 -- An increment is valid if the number may be missing and the base or the increment is all ones, or
 -- if the sum does not exceed the width.
 valid_by : (m full last past : Bool) (c : Content) → is_some (if m && (full || last) then Some missing else if past then None else Some c) ≡ (full && m || (m && last || not past))
-valid_by true true last past c = refl
-valid_by true false true past c = refl
-valid_by true false false true c = refl
-valid_by true false false false c = refl
-valid_by false true last true c = refl
-valid_by false true last false c = refl
-valid_by false false last true c = refl
-valid_by false false last false c = refl
+valid_by m full last past c = grind arith
 
 pub stays_here : (w k : ℕ) (m : Bool) (base i : List Bool) (low more : ℕ) (stays b : Bool) → length i ≡ k → low ≡ number_of base → more ≡ number_of i → (are_all_ones base && m) ≡ false
     → stays ≡ (m && (more == ones k) || not (nat_lt (ones w) (low + more))) → stays ≡ b → is_some (increased (numbers w m) k base i) ≡ b
-stays_here w k m base i low more stays b long l r none is e =
-    ap (λ last. is_some (if m && (are_all_ones base || last) then Some missing else sum_within w m (number_of base + number_of i))) (ones_same k i long)
-    ∙ valid_by m (are_all_ones base) (number_of i == ones k) (nat_lt (ones w) (number_of base + number_of i))
-    (if m && (number_of base + number_of i == ones w) then missing else number (number_of base + number_of i))
-    ∙ ap (λ f. f || (m && (number_of i == ones k) || not (nat_lt (ones w) (number_of base + number_of i)))) none
-    ∙ ap (λ x. m && (x == ones k) || not (nat_lt (ones w) (number_of base + x))) (sym r) ∙ ap (λ x. m && (more == ones k) || not (nat_lt (ones w) (x + more))) (sym l) ∙ sym is ∙ e
+stays_here w k m base i low more stays b long l r none is e = search (rules, ones_same, valid_by)
 
 -- If the base means missing, all increments are valid.
 pub missing_valid : (w k n : ℕ) (m : Bool) (base suffix : List Bool) → (are_all_ones base && m) ≡ true → are_valid (numbers w m) k n base suffix ≡ true
@@ -96,7 +84,7 @@ all_fit w k (suc n) m base suffix h =
     below_pow k bits =
         let short : length (take k bits) ≤ k = omega (arith, length-take k bits) in
         let top : 2 ^ length (take k bits) ≤ 2 ^ k = pow-le-pow_right {n = 2} (omega arith) short in
-        omega (arith, number_of-below (take k bits), top)
+        omega (arith, number_of-below, top)
 
     fits : (any past : Bool) (c : Content) → past ≡ false → is_some (if any then Some missing else if past then None else Some c) ≡ true
     fits true past c e = refl
@@ -145,34 +133,30 @@ next_there None os cs e = absurd cc
 next_there (Some c) os cs e = rest_there c (all_there os) os cs refl e
 
 pub not_zero : (k : ℕ) → 1 ≤ k → (k == 0) ≡ false
-not_zero k h = grind (arith, nat_tests)
+not_zero k h = grind arith
 
 -- If k is not 0, each increment gives a content.
 pub varied : (c : Coding) (k n : ℕ) (base suffix : List Bool) → (k == 0) ≡ false → contents_across c k n base suffix ≡ all_there (map (increased c k base) (increments n (step_of c k) suffix))
-varied c k n base suffix some = ap (λ b. if b then Some (replicate n (content_by c base)) else all_there (map (increased c k base) (increments n (step_of c k) suffix))) some
+varied c k n base suffix some = cc
 
 pub copied : (c : Coding) (k n : ℕ) (base suffix : List Bool) → k ≡ 0 → contents_across c k n base suffix ≡ Some (replicate n (content_by c base))
-copied c k n base suffix none = ap (λ j. contents_across c j n base suffix) none
+copied c k n base suffix none = cc
 
 -- An item with increments has contents if all of its increments are valid.
 each_valid : (c : Coding) (k n : ℕ) (base suffix : List Bool) → (k == 0) ≡ false → is_some (contents_across c k n base suffix) ≡ are_valid c k n base suffix
-each_valid c k n base suffix nonzero = ap is_some (varied c k n base suffix nonzero) ∙ there_all (increased c k base) (increments n (step_of c k) suffix)
+each_valid c k n base suffix nonzero = rw (varied, there_all)
 
 pub text_valid : (a : FieldSpec) (k n : ℕ) (base suffix : List Bool) → (k == 0) ≡ false → 1 ≤ n → is_reference a.role ≡ false → is_character a.kind ≡ true
     → is_some (contents_across (coding_of a) k n base suffix) ≡ not (nat_lt (a.width / 8) k)
-text_valid a k n base suffix nonzero some r e =
-    ap (λ c. is_some (contents_across c k n base suffix)) (text_coding a e r) ∙ each_valid (texts (a.width / 8)) k n base suffix nonzero ∙ texts_valid (a.width / 8) k n base suffix some
+text_valid a k n base suffix nonzero some r e = rw (text_coding, each_valid, texts_valid)
 
 pub number_valid : (a : FieldSpec) (k n : ℕ) (base suffix : List Bool) → (k == 0) ≡ false → is_reference a.role ≡ false → is_character a.kind ≡ false
     → is_some (contents_across (coding_of a) k n base suffix) ≡ are_valid (numbers a.width a.may_be_missing) k n base suffix
-number_valid a k n base suffix nonzero r e =
-    ap (λ c. is_some (contents_across c k n base suffix)) (number_coding a e r) ∙ each_valid (numbers a.width a.may_be_missing) k n base suffix nonzero
+number_valid a k n base suffix nonzero r e = rw (number_coding, each_valid)
 
 -- A redefined reference with increments has no contents.
 pub reference_none : (a : FieldSpec) (k n : ℕ) (base suffix : List Bool) → (k == 0) ≡ false → 1 ≤ n → a.role ≡ role.Reference → contents_across (coding_of a) k n base suffix ≡ None
-reference_none a k zero base suffix nonzero some e = absurd (omega arith)
-reference_none a k (suc n) base suffix nonzero some e =
-    ap (λ r. contents_across (coding_by r a.kind a) k (suc n) base suffix) e ∙ varied (coding_by role.Reference a.kind a) k (suc n) base suffix nonzero
+reference_none a k n base suffix nonzero some e = search rules
 
 pub is_there : {A : Type 0} (o : Option A) → is_some o ≡ true → (a : A) × (o ≡ Some a)
 is_there None e = absurd cc
@@ -184,21 +168,12 @@ is_none (Some a) e = absurd cc
 
 -- If there are subsets, there are contents.
 pub some_across : (c : Coding) (k n : ℕ) (base suffix : List Bool) → contents_across c k (suc n) base suffix ≡ Some [] → ⊥
-some_across c k n base suffix e = by (k == 0) e
-  where
-    by : (b : Bool) → (if b then Some (replicate (suc n) (content_by c base)) else all_there (map (increased c k base) (increments (suc n) (step_of c k) suffix))) ≡ Some [] → ⊥
-    by true e = cc
-    by false e =
-        let t = next_there (increased c k base (take (step_of c k) suffix)) (map (increased c k base) (increments n (step_of c k) (drop (step_of c k) suffix))) [] e in
-        absurd (none t.0 t.1 t.4)
-      where
-        none : (c : Content) (ds : List Content) → c ∷ ds ≡ [] → ⊥
-        none c ds e = cc
+some_across c k n base suffix e = grind arith
 
 -- ---- Factors.
 
 is_self : (n : ℕ) → (n == n) ≡ true
-is_self n = grind (arith, nat_tests)
+is_self n = grind arith
 
 content_self : (c : Content) → same c c ≡ true
 content_self (number n) = is_self n
@@ -208,33 +183,25 @@ content_self (reference v) = (Decides-int_eq v v).1 refl
 
 copies_same : (c : Content) (n : ℕ) → list_all (same c) (replicate n c) ≡ true
 copies_same c zero = refl
-copies_same c (suc n) = ap (λ b. b && list_all (same c) (replicate n c)) (content_self c) ∙ copies_same c n
+copies_same c (suc n) = cc (content_self c, copies_same c n)
 
 abbrev pub equal_or : Bool → List Content → Result (List Content) FieldFault
 equal_or b cs = if b then Ok cs else Err unequal_factor
 
 pub copies_equal : (r : Role) (c : Content) (n : ℕ) → if_equal r (replicate n c) ≡ Ok (replicate n c)
 copies_equal role.Factor c zero = refl
-copies_equal role.Factor c (suc n) = ap (λ b. equal_or b (c ∷ replicate n c)) (copies_same c n)
+copies_equal role.Factor c (suc n) = cc (copies_same c n)
 copies_equal role.Element c n = refl
 copies_equal role.Inserted c n = refl
 copies_equal role.Reference c n = refl
 
 -- Contents that pass the test of a factor are unchanged.
 pub equal_is : (r : Role) (cs ds : List Content) → if_equal r cs ≡ Ok ds → cs ≡ ds
-equal_is role.Factor [] ds e = cc
-equal_is role.Factor (c ∷ cs) ds e = by (list_all (same c) cs) e
-  where
-    by : (b : Bool) → equal_or b (c ∷ cs) ≡ Ok ds → c ∷ cs ≡ ds
-    by true e = cc
-    by false e = absurd cc
-equal_is role.Element cs ds e = cc
-equal_is role.Inserted cs ds e = cc
-equal_is role.Reference cs ds e = cc
+equal_is r cs ds e = grind arith
 
 -- If a number cannot be missing, each content is the sum of the base and an increment.
 counts_are : (w base : ℕ) (is : List (List Bool)) (cs : List Content) → all_there (map (λ i. sum_within w false (base + number_of i)) is) ≡ Some cs → cs ≡ map (λ i. number (base + number_of i)) is
-counts_are w base [] cs e = sym (some_same [] cs e)
+counts_are w base [] cs e = cc
 counts_are w base (i ∷ is) cs e =
     let t = next_there (sum_within w false (base + number_of i)) (map (λ i. sum_within w false (base + number_of i)) is) cs e in
     sym t.4 ∙ ap (λ c. c ∷ t.1) (sym (sum_is (nat_lt (ones w) (base + number_of i)) t.0 t.2)) ∙ ap (λ ds. number (base + number_of i) ∷ ds) (counts_are w base is t.1 t.3)
@@ -244,7 +211,7 @@ counts_are w base (i ∷ is) cs e =
     sum_is false c e = some_same (number (base + number_of i)) c e
 
 sum_test : (b x y : ℕ) → (b + x == b + y) ≡ (y == x)
-sum_test b x y = grind (arith, nat_tests)
+sum_test b x y = grind arith
 
 same_counts : (base first : ℕ) (is : List (List Bool)) → list_all (same (number (base + first))) (map (λ i. number (base + number_of i)) is) ≡ list_all (λ i. number_of i == first) is
 same_counts base first [] = refl
@@ -254,8 +221,7 @@ same_counts base first (i ∷ is) =
 
 counts_equal : (base : ℕ) (i : List Bool) (is : List (List Bool))
     → if_equal role.Factor (map (λ i. number (base + number_of i)) (i ∷ is)) ≡ equal_or (list_all (λ x. number_of x == number_of i) (i ∷ is)) (map (λ i. number (base + number_of i)) (i ∷ is))
-counts_equal base i is = ap (λ b. equal_or b (map (λ i. number (base + number_of i)) (i ∷ is)))
-    (same_counts base (number_of i) is ∙ sym (ap (λ b. b && list_all (λ x. number_of x == number_of i) is) (is_self (number_of i))))
+counts_equal base i is = search (rules, same_counts, is_self)
 
 -- The counts of a factor are equal if its increments are, and its answer is the first count.
 pub factor_across : (a : FieldSpec) (k n : ℕ) (base suffix : List Bool) (cs : List Content) (low first : ℕ) → IsSpec a → a.role ≡ role.Factor → (k == 0) ≡ false → 1 ≤ n
@@ -263,16 +229,15 @@ pub factor_across : (a : FieldSpec) (k n : ℕ) (base suffix : List Bool) (cs : 
     → (if_equal a.role cs ≡ equal_or (list_all (λ i. number_of i == first) (increments n k suffix)) cs) × (taken.Count (low + first) ≡ answer_first a cs)
 factor_across a k zero base suffix cs low first good e nonzero some is l f = absurd (omega arith)
 factor_across a k (suc n) base suffix cs low first good e nonzero some is l f =
-    let has : HasRole role.Factor a.kind a.may_be_missing = subst (λ r. HasRole r a.kind a.may_be_missing) e good.role in
-    let coding : coding_of a ≡ numbers a.width false = number_coding a (ap is_character has.0) (ap is_reference e) ∙ ap (numbers a.width) has.1 in
-    let first_is = number_of (take k suffix) in
+    let has : HasRole role.Factor a.kind a.may_be_missing = rw e at good.role in
+    let coding : coding_of a ≡ numbers a.width false = cc in
     let counts = map (λ i. number (number_of base + number_of i)) (increments (suc n) k suffix) in
     let are : cs ≡ counts = counts_are a.width (number_of base) (increments (suc n) k suffix) cs
     (sym (ap (λ c. contents_across c k (suc n) base suffix) coding ∙ varied (numbers a.width false) k (suc n) base suffix nonzero) ∙ is) in (
       ap (λ r. if_equal r cs) e ∙ ap (if_equal role.Factor) are ∙ counts_equal (number_of base) (take k suffix) (increments n k (drop k suffix))
           ∙ ap (λ x. equal_or (list_all (λ i. number_of i == x) (increments (suc n) k suffix)) counts) (sym f)
           ∙ ap (equal_or (list_all (λ i. number_of i == first) (increments (suc n) k suffix))) (sym are),
-      ap (λ x. taken.Count (x + first)) l ∙ ap (λ x. taken.Count (number_of base + x)) f ∙ ap (λ r. answer_by_role r (number (number_of base + first_is))) (sym e)
+      ap (λ x. taken.Count (x + first)) l ∙ ap (λ x. taken.Count (number_of base + x)) f ∙ ap (λ r. answer_by_role r (number (number_of base + (number_of (take k suffix))))) (sym e)
           ∙ ap (answer_first a) (sym are),
     )
 
@@ -284,21 +249,7 @@ item_by r ends contents suffix = if ends then Err data_end else (ok_or contents 
 -- If an item is read, its bits are present, and its contents are valid.
 pub item_parts : (r : Role) (ends : Bool) (c : Option (List Content)) (suffix : List Bool) (ds : List Content) (mid : List Bool) → item_by r ends c suffix ≡ Ok (found ds mid)
     → (ends ≡ false) × (c ≡ Some ds) × (if_equal r ds ≡ Ok ds) × (suffix ≡ mid)
-item_parts r true c suffix ds mid e = absurd cc
-item_parts r false None suffix ds mid e = absurd cc
-item_parts r false (Some cs) suffix ds mid e = by (if_equal r cs) refl e
-  where
-    same_read : (a b : FieldRead (List Content)) → ◌≡◌ {A = Result (FieldRead (List Content)) FieldFault} (Ok a) (Ok b) → a ≡ b
-    same_read a b e = cc
-
-    by : (x : Result (List Content) FieldFault) → if_equal r cs ≡ x → (x >>= λ y. Ok (found y suffix)) ≡ Ok (found ds mid)
-        → (false ≡ false) × (◌≡◌ {A = Option (List Content)} (Some cs) (Some ds)) × (if_equal r ds ≡ Ok ds) × (suffix ≡ mid)
-    by (Err why) is e = absurd cc
-    by (Ok xs) is e =
-        let f = same_read (found xs suffix) (found ds mid) e in
-        let are : xs ≡ ds = ap (λ (r : FieldRead (List Content)). r.content) f in
-        let same_contents : cs ≡ ds = equal_is r cs xs is ∙ are in
-        (refl, ap Some same_contents, ap (if_equal r) (sym same_contents) ∙ is ∙ ap Ok are, ap (λ (r : FieldRead (List Content)). r.suffix) f)
+item_parts r ends c suffix ds mid e = search rules
 
 -- The item at this bit is inside the data and has these contents.
 pub record IsAt (bits : List Bool) (at n : ℕ) (a : FieldSpec) (k : ℕ) (cs : List Content) : Type 0 where
@@ -324,29 +275,18 @@ parts bits at n a k h is =
     let t = item_parts a.role (nat_lt (length here) (a.width + 6) || nat_lt (length suffix) (n * step_of c read)) (contents_across c read n (take a.width here) suffix)
     (drop (n * step_of c read) suffix)
     (contents_found (packed_field n a here)) there.0 there.1 in
-    let ends = neither (nat_lt (length here) (a.width + 6)) (nat_lt (length suffix) (n * step_of c read)) t.0 in
-    let same_k : read ≡ k = ap (λ bs. number_of (take 6 bs)) (drop-drop a.width at bits) ∙ sym is in
-    let same : suffix ≡ drop (at + (a.width + 6)) bits = drop-drop (a.width + 6) at bits in
-    let long : a.width + 6 ≤ length here = ltb-false (length here) (a.width + 6) ends.0 in
-    let room : n * step_of c k ≤ length suffix = subst (λ x. n * step_of c x ≤ length suffix) same_k (ltb-false (length suffix) (n * step_of c read) ends.1) in
-    record {
-      within = omega (arith, long, room, length-drop at bits, length-drop (a.width + 6) here);
-      are = ap (λ bs. contents_across c k n (take a.width here) bs) (sym same) ∙ ap (λ x. contents_across c x n (take a.width here) suffix) (sym same_k) ∙ t.1;
-    }
+    grind (arith, common_steps)
 
 kept_step : (bits : List Bool) (n : ℕ) (e : IndexedItem) → fits_at bits n e ≡ true → e.step ≡ number_of (take 6 (drop (start_of e + e.spec.width) bits))
-kept_step bits n e h = grind (arith, common_steps, eqb-true, and_first, and_second)
+kept_step bits n e h = grind (arith, and_first)
 
 -- If a stored item is a number, its entry has the base that is in the bits.
 pub kept_base : (bits : List Bool) (n : ℕ) (e : IndexedItem) → fits_at bits n e ≡ true → is_character e.spec.kind ≡ false → e.base ≡ number_of (take e.spec.width (drop (start_of e) bits))
-kept_base bits n e h k = grind (arith, common_steps, and_second, eqb-true)
+kept_base bits n e h k = grind (arith, and_second)
 
 -- A stored item is inside the data and has valid contents.
 pub kept_parts : (bits : List Bool) (n : ℕ) (e : IndexedItem) → fits_at bits n e ≡ true → IsAt bits (start_of e) n e.spec e.step (contents_found (packed_field n e.spec (drop (start_of e) bits)))
-kept_parts bits n e h =
-    parts bits (start_of e) n e.spec e.step (and_first (was_found (packed_field n e.spec (drop (start_of e) bits)))
-    ((e.step == number_of (take 6 (drop (start_of e + e.spec.width) bits))) && has_base bits e) h)
-    (kept_step bits n e h)
+kept_parts bits n e h = search (rules, parts, and_first, kept_step)
 
 -- the text of one subset: k octets, followed by spaces up to its width
 abbrev pub padded_text : (octets k : ℕ) → List Bool → Content
@@ -358,10 +298,7 @@ at_there : (f : List Bool → Option Content) (n s j : ℕ) (bits : List Bool) (
 at_there f zero s j bits cs h e = absurd (omega arith)
 at_there f (suc n) s zero bits cs h e =
     let t = next_there (f (take s bits)) (map f (increments n s (drop s bits))) cs e in
-    ap (λ m. f (take s (drop m bits))) (nothing s) ∙ t.2 ∙ ap (λ xs. Some (content_at 0 xs)) t.4
-  where
-    nothing : (s : ℕ) → 0 * s ≡ 0
-    nothing s = omega arith
+    grind arith
 at_there f (suc n) s (suc j) bits cs h e =
     let t = next_there (f (take s bits)) (map f (increments n s (drop s bits))) cs e in
     ap (λ x. f (take s x)) (ap (λ m. drop m bits) (next s j) ∙ sym (drop-drop (j * s) s bits)) ∙ at_there f n s j (drop s bits) t.1 (omega arith) t.3 ∙ ap (λ xs. Some (content_at (suc j) xs)) t.4
@@ -371,7 +308,7 @@ at_there f (suc n) s (suc j) bits cs h e =
 
 -- The increment of a subset ends no later than the last increment.
 pub reaches : (n j s : ℕ) → j < n → (j + 1) * s ≤ n * s
-reaches n j s h = mul-le-mul_right s (omega (arith, h))
+reaches n j s h = mul-le-mul_right s (omega arith)
 
 pub step_small : (bits : List Bool) (n : ℕ) (e : IndexedItem) → fits_at bits n e ≡ true → e.step ≤ 63
 step_small bits n e h = grind (arith, common_steps, kept_step, number_of-below, pow-le-pow_right, length-take)
@@ -398,14 +335,8 @@ module _ (bits : List Bool) (n : ℕ) (e : IndexedItem) (j : ℕ) (h : fits_at b
       ≡ Some (content_kept bits n e j))
       × (start_of e + (e.spec.width + 6) + (j + 1) * step_of c e.step ≤ length bits)
   coded c is =
-      let base = take e.spec.width (drop (start_of e) bits) in
-      let suffix = drop (start_of e + (e.spec.width + 6)) bits in
       let p = kept_parts bits n e h in
-      let within : start_of e + (e.spec.width + 6 + n * step_of c e.step) ≤ length bits = subst (λ c. start_of e + (e.spec.width + 6 + n * step_of c e.step) ≤ length bits) is p.within in (
-        at_there (increased c e.step base) n (step_of c e.step) j suffix (contents_found (packed_field n e.spec (drop (start_of e) bits))) below
-            (sym (varied c e.step n base suffix (not_zero e.step some)) ∙ ap (λ c. contents_across c e.step n base suffix) (sym is) ∙ p.are),
-        omega (arith, within, reaches n j (step_of c e.step) below),
-      )
+      grind (arith, common_steps, at_there, not_zero)
 
   -- The item is not a redefined reference, because it has increments.
   no_reference : is_reference e.spec.role ≡ false
@@ -457,16 +388,16 @@ module _ (bits : List Bool) (n : ℕ) (e : IndexedItem) (j : ℕ) (h : fits_at b
 -- ones.
 pub kept_ones : (octets : List ℕ) (n : ℕ) (e : IndexedItem) → fits_at (bits_of octets) n e ≡ true → is_character e.spec.kind ≡ false
     → (e.base == 2 ^ e.spec.width - 1) ≡ are_all_ones (bits_at octets (start_of e) e.spec.width)
-kept_ones octets n e h k = grind (arith, common_steps, kept_parts, ones_by_number, bits_length, kept_base)
+kept_ones octets n e h k = grind (arith, common_steps, ones_by_number, bits_length, kept_base)
 
 -- The stored base is the number in these bits.
 pub kept_number : (octets : List ℕ) (n : ℕ) (e : IndexedItem) → fits_at (bits_of octets) n e ≡ true → is_character e.spec.kind ≡ false
     → (e.base ≡ number_of (bits_at octets (start_of e) e.spec.width)) × (e.base < 2 ^ e.spec.width)
-kept_number octets n e h k = grind (arith, common_steps, kept_base, kept_parts, number_of-below, length-bits_at, bits_length)
+kept_number octets n e h k = grind (arith, common_steps, kept_base, number_of-below)
 
 -- The number that the code reads, at a bit that it computes in 64 bits, is the increment of the
 -- subset.
 pub increment_at : (octets : List ℕ) (start at w k size j width subset step raw : ℕ) → at ≡ start → width ≡ w → subset ≡ j → step ≡ k → k ≡ size
     → raw ≡ number_of (bits_at octets (at + (width + 6) + subset * step) k)
     → raw ≡ number_of (take size (drop (j * size) (drop (start + (w + 6)) (bits_of octets))))
-increment_at octets start at w k size j width subset step raw h a b c e is = grind (arith, common_steps, drop-drop)
+increment_at octets start at w k size j width subset step raw h a b c e is = grind (arith, drop-drop)

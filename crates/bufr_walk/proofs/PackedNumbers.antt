@@ -1,5 +1,6 @@
 -- How the code computes the number of one subset of compressed data.
-use Rattle.std.proofs.Common.{◌≡◌, ℕ, ◌+◌, ◌-◌, ◌*◌, ◌^◌, ◌<◌, ◌≤◌, false, Bool, List, length, drop, refl, sym, ◌∙◌, ap, arith, ◌&&◌, true, take, ◌==◌, ◌||◌, nat_lt, if◌then◌else◌, Option, Some, None}
+use Rattle.std.proofs.lemmas.Grind.{common_steps}
+use Rattle.std.proofs.Common.{◌≡◌, ℕ, ◌+◌, ◌-◌, ◌*◌, ◌^◌, ◌<◌, ◌≤◌, false, Bool, List, length, drop, refl, sym, ◌∙◌, ap, arith, ◌&&◌, true, take, ◌==◌, ◌||◌, nat_lt, if◌then◌else◌, Option, Some, None, rules}
 use Rattle.std.proofs.lemmas.Bool.{eqb-true, ne_eqb}
 use Rattle.bufr_bits.specs.Prelude.{bits_of, number_of, are_all_ones, bits_at}
 use Rattle.bufr_walk.specs.Prelude.{start_of, numbers, increased, sum_within, Content, number, missing, is_reference, ones, content_kept, fits_at, IndexedItem}
@@ -21,8 +22,8 @@ base_content_is octets n e j h none below k r b is =
 pub base_missing : (octets : List ℕ) (n : ℕ) (e : IndexedItem) (j : ℕ) → fits_at (bits_of octets) n e ≡ true → e.step ≡ 0 → j < n → is_character e.spec.kind ≡ false → is_reference e.spec.role ≡ false
     → e.spec.may_be_missing ≡ true → e.base ≡ 2 ^ e.spec.width - 1 → missing ≡ content_kept (bits_of octets) n e j
 base_missing octets n e j h none below k r m full =
-    let is : (e.base == 2 ^ e.spec.width - 1) ≡ true = grind (arith, nat_tests, full) in
-    sym (ap (λ x. if true && x then missing else number e.base) m) ∙ base_content_is octets n e j h none below k r true is
+    let is : (e.base == 2 ^ e.spec.width - 1) ≡ true = grind arith in
+    cc (m, base_content_is octets n e j h none below k r true is)
 
 pub base_number : (octets : List ℕ) (n : ℕ) (e : IndexedItem) (j : ℕ) → fits_at (bits_of octets) n e ≡ true → e.step ≡ 0 → j < n → is_character e.spec.kind ≡ false → is_reference e.spec.role ≡ false
     → (e.spec.may_be_missing ≡ true → e.base ≡ 2 ^ e.spec.width - 1 → ⊥) → number e.base ≡ content_kept (bits_of octets) n e j
@@ -48,11 +49,7 @@ last_is true past whole x c e = some_same missing c e
 last_is false past whole x c e = some_same missing c e
 
 whole_is : (full last past whole : Bool) (x c : Content) → (past || whole) ≡ true → sum_by true full last past whole x ≡ Some c → missing ≡ c
-whole_is true last past whole x c h e = some_same missing c e
-whole_is false true past whole x c h e = some_same missing c e
-whole_is false false true whole x c h e = absurd cc
-whole_is false false false true x c h e = some_same missing c e
-whole_is false false false false x c h e = absurd cc
+whole_is full last past whole x c h e = search (rules, some_same)
 
 never_is : (full last past whole : Bool) (x c : Content) → sum_by false full last past whole x ≡ Some c → (x ≡ c) × (past ≡ false)
 never_is full last true whole x c e = absurd cc
@@ -74,19 +71,10 @@ module _ (w k b i : ℕ) (m : Bool) (base incr : List Bool) (c : Content) (low :
       ∙ ap (λ x. if m && (are_all_ones base || x) then Some missing else sum_within w m (number_of base + number_of incr)) (sym (ones_same k incr long)) ∙ is
 
   sum_last : m ≡ true → i ≡ ones k → missing ≡ c
-  sum_last e last =
-      let one : (i == ones k) ≡ true = grind (arith, nat_tests, last) in
-      last_is (b == ones w) (nat_lt (ones w) (b + i)) (b + i == ones w) (number (b + i)) c
-      (sym (ap (λ x. sum_by m (b == ones w) x (nat_lt (ones w) (b + i)) (b + i == ones w) (number (b + i))) one
-      ∙ ap (λ x. sum_by x (b == ones w) true (nat_lt (ones w) (b + i)) (b + i == ones w) (number (b + i))) e) ∙ by_tests)
+  sum_last e last = grind (arith, common_steps, nat_tests, last_is, by_tests)
 
   sum_whole : m ≡ true → ones w ≤ b + i → missing ≡ c
-  sum_whole e far =
-      whole_is (b == ones w) (i == ones k) (nat_lt (ones w) (b + i)) (b + i == ones w) (number (b + i)) c (either (ones w) (b + i) far)
-      (sym (ap (λ x. sum_by x (b == ones w) (i == ones k) (nat_lt (ones w) (b + i)) (b + i == ones w) (number (b + i))) e) ∙ by_tests)
-    where
-      either : (x y : ℕ) → x ≤ y → (nat_lt x y || (y == x)) ≡ true
-      either x y h = grind (arith, nat_tests)
+  sum_whole e far = grind (arith, nat_tests)
 
   sum_never : m ≡ false → (number (b + i) ≡ c) × (b + i ≤ ones w)
   sum_never e =
@@ -95,7 +83,7 @@ module _ (w k b i : ℕ) (m : Bool) (base incr : List Bool) (c : Content) (low :
       (p.0, at_most (b + i) (ones w) p.1)
     where
       at_most : (x y : ℕ) → nat_lt y x ≡ false → x ≤ y
-      at_most x y h = grind (arith, nat_tests)
+      at_most x y h = grind arith
 
   sum_some : (i ≡ ones k → ⊥) → b + i < ones w → number (b + i) ≡ c
   sum_some last far =
@@ -123,8 +111,7 @@ module _ (octets : List ℕ) (n : ℕ) (e : IndexedItem) (j i : ℕ) (h : fits_a
   kept_long =
       let room = number_within (bits_of octets) n e j h some below c in
       let one : (j + 1) * e.step ≡ j * e.step + e.step = omega arith in
-      length-take-le e.step (drop (j * e.step) (drop (start_of e + (e.spec.width + 6)) (bits_of octets)))
-      (omega (arith, room, one, length-drop (j * e.step) (drop (start_of e + (e.spec.width + 6)) (bits_of octets)), length-drop (start_of e + (e.spec.width + 6)) (bits_of octets)))
+      grind (arith, common_steps, room)
 
   pub kept_last : e.spec.may_be_missing ≡ true → i ≡ ones e.step → missing ≡ content_kept (bits_of octets) n e j
   kept_last = sum_last e.spec.width e.step e.base i e.spec.may_be_missing (bits_at octets (start_of e) e.spec.width) kept_incr (content_kept (bits_of octets) n e j)

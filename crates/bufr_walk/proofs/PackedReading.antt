@@ -2,14 +2,14 @@
 use Rattle.bufr_walk.proofs.PassLemmas.{Stops, runs_short}
 use Rattle.bufr_walk.proofs.WalkPass.{Comes, IsStep, stopped_passes, whole_passes, item}
 use Rattle.std.proofs.lemmas.Grind.{common_steps}
-use Rattle.std.proofs.Common.{option_map, ◌≡◌, ℕ, ◌+◌, ◌*◌, ◌<◌, ◌≤◌, Bool, true, false, List, length, take, drop, Ok, Err, sym, ◌∙◌, ap, arith, suc, ◌++◌, ◌∷◌, [], refl, zero, Result, subst, inl, inr, ◌-◌, Option, Some, None, ◌%◌, nat_lt, ◌||◌, ◌==◌, if◌then◌else◌, length-append}
+use Rattle.std.proofs.Common.{option_map, ◌≡◌, ℕ, ◌+◌, ◌*◌, ◌<◌, ◌≤◌, Bool, true, false, List, length, take, drop, Ok, Err, sym, ◌∙◌, ap, arith, suc, ◌++◌, ◌∷◌, [], refl, zero, Result, subst, inl, inr, ◌-◌, Option, Some, None, ◌%◌, nat_lt, ◌||◌, ◌==◌, if◌then◌else◌, length-append, rules}
 use Rattle.std.proofs.lemmas.Bool.{le-ltb, lt-ltb}
 use Rattle.std.proofs.lemmas.List.{length-drop, drop-drop}
-use Rattle.bufr_bits.specs.Prelude.{number_of, ◌>>=◌, bits_of}
+use Rattle.bufr_bits.specs.Prelude.{number_of, ◌>>=◌}
 use Rattle.bufr_tables.specs.Prelude.{is_character, Row, Tree}
 use Rattle.bufr_walk.specs.declared.compressed.ItemBits.{ItemBits}
 use Rattle.bufr_walk.specs.declared.fault.DataFault.{DataFault}
-use Rattle.bufr_walk.specs.Prelude.{start_of, FieldSpec, data_end, FieldFault, increment, unequal_factor, Content, FieldRead, found, step_of, coding_of, contents_across, if_equal, answer_first, packed_field, IsSeen, IsUnseen, IsStoredReading, PackedCursor, item_at, items_at, contents_found, fits_at, packed_view, IsPackedTaken, wrong_of, PackedTakes, remaining_bits, new_packed_in, fault_at, IndexedItem, max_values, items_at_once, Item, packed, Data, fault_at, bits_before, KeepsValues, Stop, would_be_many, data_in, data_of, read_by, WalkStop, Next, take_next, ticked, Walked, CountedCourse, uncounted, counted_item, answers_in, Course, Taken, items_in, items_of_subset, subsets_from, spec_by_kind, view, turns_in}
+use Rattle.bufr_walk.specs.Prelude.{start_of, FieldSpec, data_end, FieldFault, increment, unequal_factor, Content, FieldRead, found, step_of, coding_of, contents_across, if_equal, answer_first, packed_field, IsSeen, IsUnseen, IsStoredReading, PackedCursor, item_at, items_at, contents_found, fits_at, packed_view, IsPackedTaken, wrong_of, PackedTakes, remaining_bits, new_packed_in, fault_at, IndexedItem, max_values, items_at_once, Item, packed, Data, fault_at, bits_before, KeepsValues, Stop, would_be_many, data_in, data_of, read_by, WalkStop, Next, take_next, ticked, Walked, CountedCourse, uncounted, counted_item, answers_in, Course, Taken, items_in, items_of_subset, subsets_from, view, turns_in}
 use Rattle.std.specs.List.{list_all}
 use Rattle.std.proofs.Math.Nat.{mul-le-mul_left}
 use Rattle.bufr_frame.specs.Prelude.{Sections}
@@ -32,7 +32,7 @@ none_read course bits = ((refl, omega arith, refl), (refl, refl), omega arith)
 module _ (bits : List Bool) (at n : ℕ) (a : FieldSpec) where
   -- The k that the code reads is that of the item.
   k_here : (k : ℕ) → k ≡ number_of (take 6 (drop (at + a.width) bits)) → number_of (take 6 (drop a.width (drop at bits))) ≡ k
-  k_here k is = ap (λ bs. number_of (take 6 bs)) (drop-drop a.width at bits) ∙ sym is
+  k_here k is = rw (drop-drop, is)
 
   -- the contents of the item, given k
   abbrev across : (k : ℕ) → Option (List Content)
@@ -57,17 +57,7 @@ module _ (bits : List Bool) (at n : ℕ) (a : FieldSpec) where
 
   pub ends_after : (k size f : ℕ) → f ≡ a.fxy → at + (a.width + 6) ≤ length bits → length bits < at + size → k ≡ number_of (take 6 (drop (at + a.width) bits))
       → size ≡ a.width + 6 + n * step_of (coding_of a) k → IsUnseen bits at n a (wrong.DataEnd f)
-  ends_after k size f g within short is size_is =
-      let suffix = drop (at + (a.width + 6)) bits in
-      let s = step_of (coding_of a) k in
-      record {
-        why = data_end;
-        field = field_is k is ∙ rw (
-          le-ltb (length (drop at bits)) (a.width + 6) (omega (arith, length-drop at bits)),
-          lt-ltb (length suffix) (n * s) (omega (arith, length-drop (at + (a.width + 6)) bits)),
-        ) refl;
-        fault = ap wrong.DataEnd g;
-      }
+  ends_after k size f g within short is size_is = grind (arith, common_steps, le-ltb, lt-ltb)
 
   -- If all bits of the item are present, only its contents can be invalid.
   whole : (k size : ℕ) → at + size ≤ length bits → k ≡ number_of (take 6 (drop (at + a.width) bits)) → size ≡ a.width + 6 + n * step_of (coding_of a) k
@@ -84,16 +74,7 @@ module _ (bits : List Bool) (at n : ℕ) (a : FieldSpec) where
       → seen.step ≡ number_of (take 6 (drop (at + a.width) bits)) → size ≡ a.width + 6 + n * step_of (coding_of a) seen.step
       → across seen.step ≡ Some cs → if_equal a.role cs ≡ Ok cs → seen.answer ≡ answer_first a cs
       → (is_character a.kind ≡ false → seen.base ≡ number_of (take a.width (drop at bits))) → IsSeen bits at n a seen
-  seen_here seen size cs some end_is within is size_is are equal gives based = record {
-    contents = cs;
-    field = whole seen.step size within is size_is ∙ ap (λ o. item_by a.role false o (drop (at + size) bits)) are ∙ ap (λ r. r >>= λ y. Ok (found y (drop (at + size) bits))) equal
-        ∙ ap (λ p. Ok (found cs (drop p bits))) (sym end_is);
-    gives = gives;
-    step = is;
-    base = based;
-    within = omega arith;
-    least = omega arith;
-  }
+  seen_here seen size cs some end_is within is size_is are equal gives based = grind (arith, common_steps, whole, item_by)
 
   pub invalid_here : (k size f : ℕ) → f ≡ a.fxy → at + size ≤ length bits → k ≡ number_of (take 6 (drop (at + a.width) bits)) → size ≡ a.width + 6 + n * step_of (coding_of a) k
       → across k ≡ None → IsUnseen bits at n a (wrong.Increment f)
@@ -110,7 +91,7 @@ module _ (bits : List Bool) (at n : ℕ) (a : FieldSpec) where
 
 -- The size of an item depends only on its parts.
 pub size_same : (x w y n z s : ℕ) → x ≡ w → y ≡ n → z ≡ s → x + 6 + y * z ≡ w + 6 + n * s
-size_same x w y n z s e f g = ap (λ t. t + 6 + y * z) e ∙ ap (λ t. w + 6 + t * z) f ∙ ap (λ t. w + 6 + n * t) g
+size_same x w y n z s e f g = rw (e, f, g)
 
 -- ---- The items that a reader of compressed data stores.
 
@@ -120,7 +101,7 @@ length-items_at bits n (e ∷ kept) = ap suc (length-items_at bits n kept)
 
 items_at-append : (bits : List Bool) (n : ℕ) (kept : List IndexedItem) (e : IndexedItem) → items_at bits n (kept ++ e ∷ []) ≡ items_at bits n kept ++ item_at bits n e ∷ []
 items_at-append bits n [] e = refl
-items_at-append bits n (x ∷ kept) e = ap (λ xs. item_at bits n x ∷ xs) (items_at-append bits n kept e)
+items_at-append bits n (x ∷ kept) e = cc (items_at-append bits n kept e)
 
 pub takes_one : (bits : List Bool) (at n : ℕ) (kept kept' : List IndexedItem) (e : IndexedItem) (seen : ItemBits) → start_of e ≡ at → (length (items_at bits n kept) + 1) * n ≤ max_values
     → IsSeen bits at n e.spec seen → kept' ≡ kept ++ e ∷ []
@@ -140,14 +121,14 @@ takes_one bits at n kept kept' e seen here few look is = record {
 -- If the code finds too many values, there are too many.
 too_many_kept : (s : PackedCursor) (bits : List Bool) (at n : ℕ) (kept : List IndexedItem) (len from : ℕ) → s ≡ packed_view bits at n kept → len ≡ length kept → from ≡ n
     → max_values < (len + 1) * from → max_values < (length s.items + 1) * s.subsets
-too_many_kept s bits at n kept len from e f g h = grind (arith, common_steps, length-items_at)
+too_many_kept s bits at n kept len from e f g h = grind (arith, length-items_at)
 
 pub too_many_here : (s : PackedCursor) (a : FieldSpec) (bits : List Bool) (at n : ℕ) (kept : List IndexedItem) (len from fxy : ℕ) → fxy ≡ a.fxy → s ≡ packed_view bits at n kept → len ≡ length kept
     → from ≡ n → max_values < (len + 1) * from → PackedTakes s a (Err (wrong.TooManyValues fxy)) s
 too_many_here s a bits at n kept len from fxy d e f g h = (d, too_many_kept s bits at n kept len from e f g h, refl)
 
 pub few_here : (bits : List Bool) (n : ℕ) (kept : List IndexedItem) (len from : ℕ) → len ≡ length kept → from ≡ n → (len + 1) * from ≤ max_values → (length (items_at bits n kept) + 1) * n ≤ max_values
-few_here bits n kept len from f g few = subst (λ z. z ≤ max_values) (ap (λ l. (l + 1) * from) (f ∙ sym (length-items_at bits n kept)) ∙ ap (λ m. (length (items_at bits n kept) + 1) * m) g) few
+few_here bits n kept len from f g few = search (rules, length-items_at)
 
 -- The call fails because the item is invalid.
 pub fault_here : (s : PackedCursor) (a : FieldSpec) (bits : List Bool) (at n : ℕ) (kept : List IndexedItem) (e : DataFault) → s ≡ packed_view bits at n kept
@@ -163,9 +144,7 @@ fault_here s a bits at n kept e view few h = subst (λ x. PackedTakes x a (Err e
 -- The call fails because memory for more items ran out.
 pub no_room : (s : PackedCursor) (a : FieldSpec) (bits : List Bool) (at n : ℕ) (kept kept' : List IndexedItem) (e : DataFault) → packed_view bits at n kept ≡ s → kept' ≡ kept → e ≡ wrong.Memory
     → length kept % items_at_once ≡ 0 → PackedTakes s a (Err e) (packed_view bits at n kept')
-no_room s a bits at n kept kept' e view same is full =
-    subst (λ w. PackedTakes s a (Err w) (packed_view bits at n kept')) (sym is)
-    (ap (packed_view bits at n) same ∙ view, subst (λ x. length x.items % items_at_once ≡ 0) view (subst (λ l. l % items_at_once ≡ 0) (sym (length-items_at bits n kept)) full))
+no_room s a bits at n kept kept' e view same is full = grind (arith, common_steps, length-items_at)
 
 -- ---- A walk over compressed data makes a single pass.
 
@@ -183,15 +162,14 @@ step_if n spec p b = if b then Err (stops.Field (wrong.TooManyValues spec.fxy)) 
 
 module _ (n : ℕ) (bits : List Bool) (xs : List (Item (List Content))) (s : PackedCursor) (spec : FieldSpec) (p : Place) (m : IsPackedAt n bits xs s p) where
   values : (length s.items + 1) * s.subsets ≡ (length xs + 1) * n
-  values = ap (λ (ys : List (Item (List Content))). (length ys + 1) * s.subsets) m.items ∙ ap (λ k. (length xs + 1) * k) m.subsets
+  values = rw (m.items, m.subsets)
 
   stepped : (b : Bool) → would_be_many n (length xs) ≡ b → (reading (packed n) (would_be_many n)).step spec p ≡ step_if n spec (place_at (length xs) (remaining_bits s)) b
-  stepped b e = ap (λ (q : Place). step_if n spec q (would_be_many n q.items)) m.place ∙ ap (step_if n spec (place_at (length xs) (remaining_bits s))) e
+  stepped b e = cc (m.place)
 
   read_here : (r : Result (FieldRead (List Content)) FieldFault) → (length s.items + 1) * s.subsets ≤ max_values → packed_field s.subsets spec (remaining_bits s) ≡ r
       → (reading (packed n) (would_be_many n)).step spec p ≡ read_field (packed n) spec (length xs) r
-  read_here r few e = stepped false (le-ltb max_values ((length xs + 1) * n) (subst (λ v. v ≤ max_values) values few))
-      ∙ ap (read_field (packed n) spec (length xs)) (ap (λ k. packed_field k spec (remaining_bits s)) (sym m.subsets) ∙ e)
+  read_here r few e = search (rules, stepped, le-ltb, values)
 
 pub packed_follows : (n : ℕ) (bits : List Bool) (before : List (Item (List Content))) (s : PackedCursor) (spec : FieldSpec) (t : Taken) (s' : PackedCursor) (p : Place)
     → IsPackedAt n bits before s p → PackedTakes s spec (Ok t) s' → IsStep PackedTakes (reading (packed n) (would_be_many n)) answer_first (IsPackedAt n bits) before spec t s' p
@@ -222,7 +200,7 @@ pub packed_fails : (n : ℕ) (bits : List Bool) (xs : List (Item (List Content))
 packed_fails n bits xs s p spec e s' m h = by e h
   where
     moved : s' ≡ s → IsPackedAt n bits xs s' p
-    moved e = subst (λ x. IsPackedAt n bits xs x p) (sym e) m
+    moved e = rw e m
 
     unseen : (e : DataFault) → IsUnseen s.bits s.at s.subsets spec e → s' ≡ s → (length s.items + 1) * s.subsets ≤ max_values → PackedFails n bits xs p (take_next spec) (stops.Field e) s'
     unseen e u same few = (moved same, inl (read_here n bits xs s spec p m (Err u.why) few u.field ∙ ap (λ x. Err (stops.Field x)) (sym u.fault)))
@@ -230,7 +208,7 @@ packed_fails n bits xs s p spec e s' m h = by e h
     by : (e : DataFault) → PackedTakes s spec (Err e) s' → PackedFails n bits xs p (take_next spec) (stops.Field e) s'
     by (wrong.TooManyValues fxy) h = (
       moved h.2,
-      inl (stepped n bits xs s spec p m true (lt-ltb max_values ((length xs + 1) * n) (subst (λ v. max_values < v) (values n bits xs s spec p m) h.1))
+      inl (stepped n bits xs s spec p m true (lt-ltb max_values ((length xs + 1) * n) (rw (← values n bits xs s spec p m) h.1))
           ∙ ap (λ f. Err (stops.Field (wrong.TooManyValues f))) (sym h.0)),
     )
     by wrong.Memory h = (moved h.0, inr (spec, refl, inl (ap (λ k. k == 0) (ap (λ (ys : List (Item (List Content))). length ys % items_at_once) (sym m.items) ∙ h.1)), λ subset at. refl))
@@ -242,7 +220,7 @@ abbrev packed_data : ℕ → List Bool → Data
 packed_data n bits = record { compressed = true; subsets = n; bits = bits }
 
 one_pass : (n : ℕ) (course : Course) (bits : List Bool) → 1 ≤ n → passes_together course n bits ≡ read_pass (packed n) (would_be_many n) course bits ∷ []
-one_pass zero course bits some = absurd (omega (arith, some))
+one_pass zero course bits some = absurd (omega arith)
 one_pass (suc n) course bits some = refl
 
 none_more : (t : ℕ) → t ≡ t + 0
@@ -334,7 +312,7 @@ module _ (n : ℕ) (course : CountedCourse) (bits : List Bool) (s : PackedCursor
 -- a bound on the steps of a walk that stopped
 pub few_stopped : (k steps steps' at here all : ℕ) (s : PackedCursor) (bits : List Bool) (n : ℕ) (why : WalkStop DataFault) → s ≡ new_packed_in bits n → steps ≡ 0
     → steps' ≤ steps + k * (at - s.at + 1) → here ≡ at → at ≤ all → steps' ≤ k * (bits_before (fault_at why 0 here) all + 1)
-few_stopped k steps steps' at here all s bits n why first e h u within = grind (arith, common_steps, mul-le-mul_left)
+few_stopped k steps steps' at here all s bits n why first e h u within = grind (arith, mul-le-mul_left)
 
 -- ---- The parts of a reading of compressed data.
 
@@ -345,27 +323,16 @@ length-items_of j (i ∷ items) = ap suc (length-items_of j items)
 
 items_apart : (n j : ℕ) (items : List (Item (List Content))) → items_in (subsets_from n j items) ≡ length items * n
 items_apart zero j items = omega arith
-items_apart (suc n) j items =
-    let more : length items * suc n ≡ length items + length items * n = grind arith in
-    omega (arith, more, length-items_of j items, items_apart n (suc j) items)
+items_apart (suc n) j items = omega (arith, length-items_of, items_apart n (suc j) items)
 
 pub packed_held : (table : List Row) (template : Tree) (subsets : ℕ) (octets : List ℕ) (used steps : ℕ) (entries : List IndexedItem)
     → IsReadAndKept (counted_item table template) (data_in true subsets octets) entries used steps → 7 * length entries ≤ used
     → IsStoredReading (read_by table template (data_in true subsets octets) used (length entries)) (kept.Together entries)
-packed_held table template subsets octets used steps entries h few =
-    let items = first_items (items_by_pass (passes_together (uncounted (counted_item table template)) subsets (bits_of octets))) in
-    record {
-      none = h.0.0;
-      keeps = h.1;
-      few = few;
-      pays = tt;
-      most = subst (λ k. k ≤ max_values)
-          (ap (λ k. k * subsets) (sym (length-items_at (bits_of octets) subsets entries) ∙ ap length h.1.0) ∙ sym (items_apart subsets 0 items)) h.2;
-    }
+packed_held table template subsets octets used steps entries h few = grind (arith, common_steps, length-items_at, items_apart)
 
 -- The data that are read are those of a compressed message.
 pub packed_data_same : (m : Sections) (subsets : ℕ) (octets : List ℕ) → m.compressed ≡ true → subsets ≡ m.subsets → octets ≡ m.payload → data_in true subsets octets ≡ data_of m
-packed_data_same m subsets octets packed e f = grind (arith, common_steps)
+packed_data_same m subsets octets packed e f = grind arith
 
 pub packed_is : (table : List Row) (template : Tree) (m : Sections) (subsets : ℕ) (octets : List ℕ) (used held steps : ℕ) (entries : List IndexedItem) → data_in true subsets octets ≡ data_of m
     → IsReadAndKept (counted_item table template) (data_in true subsets octets) entries used steps

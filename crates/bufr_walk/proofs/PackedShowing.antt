@@ -1,31 +1,29 @@
 -- Showing compressed data from the items that a reading has stored.
 use Rattle.std.proofs.lemmas.Grind.{common_steps}
-use Rattle.std.proofs.Common.{◌≡◌, ℕ, ◌+◌, ◌-◌, ◌*◌, ◌<◌, ◌≤◌, Bool, true, false, List, ◌++◌, length, take, drop, replicate, sym, ◌∙◌, ap, arith, zero, suc, get_or, set, length-take-le, Some, ◌==◌, Result, Ok, Err, ◌∷◌, inl, inr, refl, subst, add-one, append_assoc, if◌then◌else◌, ◌/◌, []}
+use Rattle.std.proofs.Common.{◌≡◌, ℕ, ◌+◌, ◌-◌, ◌*◌, ◌<◌, ◌≤◌, Bool, true, false, List, ◌++◌, length, take, drop, replicate, sym, ◌∙◌, ap, arith, zero, suc, get_or, set, length-take-le, Some, Result, Ok, Err, ◌∷◌, inl, inr, refl, subst, add-one, append_assoc, ◌/◌, [], rules}
 use Rattle.std.proofs.lemmas.List.{drop-drop, drop_all, get_or-take, take_all, append-nil, take_more_set, replicate-append-replicate}
 use Rattle.bufr_bits.specs.Prelude.{bits_of, are_all_ones}
 use Rattle.bufr_tables.specs.Prelude.{entry_of, is_character, Row}
-use Rattle.bufr_walk.specs.Prelude.{start_of, IndexedItem, PackedValues, packed_values, range_calls, packed_calls, IsPackedOf, course_of, content_at, item_at, item_call, view_of, octets_in, text, missing, shown_text, shown_missing, shown, Content, FieldSpec, content_kept, call_kept, IsStoredReading, KeepsValues, held_of, fits_at, items_at, ShowFault, Sofar, Call, Timed, timed, Shows, subset_call, calls_for, turns_for, Item, Values, apart, together, items_kept, Read, item_calls, turns_in, subset_calls, subsets_from, items_of_subset, without_turns, answers_in, answer_of}
+use Rattle.bufr_walk.specs.Prelude.{start_of, IndexedItem, PackedValues, packed_values, range_calls, packed_calls, IsPackedOf, content_at, item_at, item_call, view_of, octets_in, shown_text, shown_missing, shown, Content, FieldSpec, content_kept, call_kept, IsStoredReading, held_of, fits_at, items_at, ShowFault, Sofar, Call, Timed, timed, Shows, subset_call, Item, items_kept, Read, item_calls, turns_in, subset_calls, subsets_from, items_of_subset, without_turns, answers_in, answer_of}
 use Rattle.bufr_walk.proofs.PackedLemmas.{base_content, kept_parts, padded_text, text_content, text_within}
 use Rattle.bufr_walk.proofs.PlainLemmas.{bits_length, octets_prefix}
 use Rattle.std.specs.List.{list_all}
-use Rattle.std.proofs.lemmas.Bool.{eqb-true}
 use Rattle.std.proofs.Math.Seq.{drop-cons}
 use Rattle.bufr_bits.proofs.DecimalLemmas.{and_first, and_second}
 use Rattle.bufr_walk.proofs.ShownLemmas.{sofar_self, sofar_then, sofar_call}
 use Rattle.bufr_walk.specs.declared.reading.StoredItems.{StoredItems}
-use Rattle.bufr_walk.specs.Pass.{values_read, calls_of, turns_shown, reading_in}
+use Rattle.bufr_walk.specs.Pass.{values_read, calls_of, turns_shown}
 use Rattle.bufr_walk.specs.declared.fault.ShowFault.TheVariants as fault
-use Rattle.bufr_walk.specs.declared.reading.StoredItems.TheVariants as kept
 
 -- ---- How the texts of a stored item are shown.
 
 -- the text that is shown, or missing
 pub missing_text : (spec : FieldSpec) (count k : ℕ) (bits : List Bool) → are_all_ones (take (8 * k) bits) ≡ true → shown_missing ≡ shown spec (padded_text count k (take (8 * k) bits))
-missing_text spec count k bits e = sym (ap (λ b. shown spec (if b then missing else text (octets_in k (take (8 * k) bits) ++ replicate (count - k) 32))) e)
+missing_text spec count k bits e = rw e
 
 pub whole_text : (spec : FieldSpec) (count k : ℕ) (bits : List Bool) (octets : List ℕ) → are_all_ones (take (8 * k) bits) ≡ false → octets ≡ octets_in k bits ++ replicate (count - k) 32
     → shown_text octets ≡ shown spec (padded_text count k (take (8 * k) bits))
-whole_text spec count k bits octets e is = grind (arith, common_steps, octets_prefix)
+whole_text spec count k bits octets e is = grind (arith, octets_prefix)
 
 -- The text at this bit is the content of the subset.
 pub span_text : (bits : List Bool) (n : ℕ) (e : IndexedItem) (j place : ℕ) → fits_at bits n e ≡ true → 1 ≤ e.step → j < n → is_character e.spec.kind ≡ true
@@ -37,18 +35,18 @@ span_text bits n e j place h some below c is =
 
 pub span_within : (octets : List ℕ) (n : ℕ) (e : IndexedItem) (j : ℕ) → fits_at (bits_of octets) n e ≡ true → 1 ≤ e.step → j < n → is_character e.spec.kind ≡ true
     → start_of e + (e.spec.width + 6) + (j + 1) * (8 * e.step) ≤ 8 * length octets
-span_within octets n e j h some below c = omega (arith, text_within (bits_of octets) n e j h some below c, bits_length octets)
+span_within octets n e j h some below c = omega (arith, text_within (bits_of octets) n e j h some below c, bits_length)
 
 -- The base of a stored item is inside the data.
 pub base_within : (octets : List ℕ) (n : ℕ) (e : IndexedItem) → fits_at (bits_of octets) n e ≡ true → start_of e + e.spec.width ≤ 8 * length octets
-base_within octets n e h = let p = kept_parts (bits_of octets) n e h in omega (arith, p.within, bits_length octets)
+base_within octets n e h = let p = kept_parts (bits_of octets) n e h in omega (arith, p.within, bits_length)
 
 -- ---- Successive calls that show compressed data.
 
 module _ {S E : Type 0} (sees : S → Call → Result (Unit {0}) E → S → Type 0) where
   pub all_on : (s : S) (a b : List Timed) (s1 : S) (turns : ℕ) (r : Result (Unit {0}) (ShowFault E)) (s' : S) (steps : ℕ) → Shows sees s a 0 (Ok tt) s1 0 → Shows sees s1 b turns r s' steps
       → Shows sees s (a ++ b) turns r s' steps
-  all_on s [] b s1 turns r s' steps h w = subst (λ x. Shows sees x b turns r s' steps) h.0 w
+  all_on s [] b s1 turns r s' steps h w = grind arith
   all_on s (t ∷ a) b s1 turns (Ok u) s' steps h w = (h.0, h.1, all_on h.0 a b s1 turns (Ok u) s' steps h.2 w)
   all_on s (t ∷ a) b s1 turns (Err e) s' steps h w = inr (h.0, h.1, all_on h.0 a b s1 turns (Err e) s' steps h.2 w)
 
@@ -62,12 +60,11 @@ module _ {S E : Type 0} (sees : S → Call → Result (Unit {0}) E → S → Typ
   shows_before s s1 (t ∷ a) b e h = elim h as (λ _. Shows sees s (t ∷ a ++ b) 0 (Err e) s1 0) [ inl x ↦ inl x | inr y ↦ inr (y.0, y.1, shows_before y.0 s1 a b e y.2) ]
 
 pub no_turns : (items : List (Item Content)) → (without_turns (answers_in answer_of items)).turns ≡ 0
-no_turns [] = refl
-no_turns (i ∷ items) = no_turns items
+no_turns items = omega arith
 
 pub no_turns_in : (subsets : List (List (Item Content))) → turns_in answer_of without_turns subsets ≡ 0
 no_turns_in [] = refl
-no_turns_in (items ∷ subsets) = omega (arith, no_turns items, no_turns_in subsets)
+no_turns_in (items ∷ subsets) = omega (arith, no_turns_in subsets)
 
 -- The items from an index on are the item at the index and those after it.
 next_entry : {X : Type 0} (xs : List X) (i : ℕ) (x : X) → i < length xs → get_or xs i x ≡ x → drop i xs ≡ x ∷ drop (i + 1) xs
@@ -86,19 +83,19 @@ fit_from bits n (suc i) (k ∷ kept) w = fit_from bits n i kept (and_second (fit
 
 pub fit_here : (bits : List Bool) (n : ℕ) (kept : List IndexedItem) (i : ℕ) (k : IndexedItem) → i < length kept → k ≡ get_or kept i k → list_all (fits_at bits n) (drop i kept) ≡ true
     → fits_at bits n k ≡ true
-fit_here bits n kept i k h e w = and_first (fits_at bits n k) (list_all (fits_at bits n) (drop (i + 1) kept)) (subst (λ ks. list_all (fits_at bits n) ks ≡ true) (next_entry kept i k h (sym e)) w)
+fit_here bits n kept i k h e w = search (rules, and_first, next_entry)
 
 -- There is an entry at each index, and its item is at the same index of the items.
 pub item_there : (kept : List IndexedItem) (i : ℕ) → i < length kept → (k : IndexedItem) × (k ≡ get_or kept i k)
-item_there [] i h = absurd (omega (arith, h))
+item_there [] i h = absurd (omega arith)
 item_there (k ∷ kept) zero h = (k, refl)
-item_there (k ∷ kept) (suc i) h = item_there kept i (omega (arith, h))
+item_there (k ∷ kept) (suc i) h = item_there kept i (omega arith)
 
 pub item_of_entry : (bits : List Bool) (n : ℕ) (kept : List IndexedItem) (i : ℕ) (k : IndexedItem) → i < length kept → k ≡ get_or kept i k
     → item_at bits n k ≡ get_or (items_at bits n kept) i (item_at bits n k)
-item_of_entry bits n [] i k h e = absurd (omega (arith, h))
+item_of_entry bits n [] i k h e = absurd (omega arith)
 item_of_entry bits n (x ∷ kept) zero k h e = ap (item_at bits n) e
-item_of_entry bits n (x ∷ kept) (suc i) k h e = item_of_entry bits n kept i k (omega (arith, h)) e
+item_of_entry bits n (x ∷ kept) (suc i) k h e = item_of_entry bits n kept i k (omega arith) e
 
 pub length-items_at : (bits : List Bool) (n : ℕ) (entries : List IndexedItem) → length entries ≡ length (items_at bits n entries)
 length-items_at bits n [] = refl
@@ -106,7 +103,7 @@ length-items_at bits n (e ∷ entries) = ap suc (length-items_at bits n entries)
 
 -- There is an entry for each item.
 pub entry_there : (table : List Row) (bits : List Bool) (n : ℕ) (kept : List IndexedItem) (p : PackedValues) (i : ℕ) → packed_values table bits n kept ≡ p → i < length p.items → i < length kept
-entry_there table bits n kept p i e h = omega (arith, length-items_at bits n kept, ap (λ q. length q.items) e, h)
+entry_there table bits n kept p i e h = omega (arith, length-items_at, ap (λ q. length q.items) e)
 
 -- An item without increments is the same in all subsets.
 pub alike_entry : (bits : List Bool) (n : ℕ) (kept : List IndexedItem) (i j : ℕ) (k : IndexedItem) → list_all (fits_at bits n) kept ≡ true → i < length kept → k ≡ get_or kept i k → k.step ≡ 0
@@ -115,31 +112,28 @@ alike_entry bits n kept i j k fit h e none below =
     let items = items_at bits n kept in
     let fits : fits_at bits n k ≡ true = fit_here bits n kept i k h e (fit_from bits n i kept fit) in
     let long : i + 1 ≤ length items = omega (arith, h, length-items_at bits n kept) in
-    let is : drop i (take (i + 1) items) ≡ item_at bits n k ∷ [] = next_between items i (i + 1) (item_at bits n k) (omega arith) long (item_of_entry bits n kept i k h e)
-    ∙ ap (λ l. item_at bits n k ∷ l) (drop_all (i + 1) (take (i + 1) items) (omega (arith, length-take-le (i + 1) items long))) in
+    let is : drop i (take (i + 1) items) ≡ item_at bits n k ∷ [] =
+    cc (
+      next_between items i (i + 1) (item_at bits n k) (omega arith) long (item_of_entry bits n kept i k h e),
+      drop_all (i + 1) (take (i + 1) items) (omega (arith, length-take-le (i + 1) items long)),
+    ) in
     let same : content_kept bits n k j ≡ content_kept bits n k 0 = base_content bits n k j fits none below ∙ sym (base_content bits n k 0 fits none (omega (arith, below))) in
-    ap (items_of_subset j) is ∙ ap (λ c. items_of_subset 0 (record { spec = k.spec; content = c ∷ [] } ∷ [])) same ∙ ap (items_of_subset 0) (sym is)
+    cc (is, same)
 
 -- The row that is found for a descriptor has this descriptor.
 pub entry_fxy : (rows : List Row) (fxy : ℕ) (row : Row) → Some row ≡ entry_of rows fxy → row.fxy ≡ fxy
 entry_fxy [] fxy row e = absurd cc
-entry_fxy (r ∷ rows) fxy row e = by (r.fxy == fxy) refl e (entry_fxy rows fxy row)
-  where
-    by : (b : Bool) → (r.fxy == fxy) ≡ b → Some row ≡ (if b then Some r else entry_of rows fxy) → (Some row ≡ entry_of rows fxy → row.fxy ≡ fxy) → row.fxy ≡ fxy
-    by true is e more = let same : row ≡ r = cc in ap (λ x. x.fxy) same ∙ eqb-true r.fxy fxy is
-    by false is e more = more e
+entry_fxy (r ∷ rows) fxy row e = grind (arith, entry_fxy rows fxy row)
 
 -- the spaces after a text: none, or one more
 pub pad_none : (xs : List ℕ) (n : ℕ) → xs ≡ xs ++ replicate (n - n) 32
-pad_none xs n = let none : 0 ≡ n - n = omega arith in sym (append-nil xs) ∙ ap (λ k. xs ++ replicate k 32) none
+pad_none xs n = let none : 0 ≡ n - n = omega arith in cc (append-nil xs, none)
 
 pub pad_more : (octets prefix : List ℕ) (place from : ℕ) → place < length octets → from ≤ place → take place octets ≡ prefix ++ replicate (place - from) 32
     → take (place + 1) (set octets place 32) ≡ prefix ++ replicate (place + 1 - from) 32
 pad_more octets prefix place from h order e =
-    let space : ℕ = 32 in
     let more : place - from + 1 ≡ place + 1 - from = omega arith in
-    take_more_set octets place 32 h ∙ ap (λ xs. xs ++ 32 ∷ []) e ∙ append_assoc prefix (replicate (place - from) 32) (32 ∷ [])
-    ∙ ap (λ xs. prefix ++ xs) (replicate-append-replicate (place - from) 1 32 ∙ ap (λ n. replicate n 32) more)
+    grind (arith, common_steps, take_more_set, append_assoc, replicate-append-replicate)
 
 -- ---- Showing the subsets of compressed data.
 
@@ -151,7 +145,7 @@ module _ {S E : Type 0} (sees : S → Call → Result (Unit {0}) E → S → Typ
   -- The calls from an index on are the call for the item at the index and those from the next index
   -- on.
   next_calls : (i : ℕ) (item : Item (List Content)) → i < to → to ≤ length p.items → item ≡ get_or p.items i item → range_calls p j i to ≡ timed 0 (call_of_item item) ∷ range_calls p j (i + 1) to
-  next_calls i item below within e = ap (λ items. item_calls p.table 0 without_turns (items_of_subset j items)) (next_between p.items i to item below within e)
+  next_calls i item below within e = search (rules, next_between)
 
   -- One more item was shown.
   pub items_go : (s s1 s2 : S) (from i : ℕ) (item : Item (List Content)) → i < to → to ≤ length p.items → item ≡ get_or p.items i item
@@ -165,10 +159,7 @@ module _ {S E : Type 0} (sees : S → Call → Result (Unit {0}) E → S → Typ
   -- The visitor refused an item.
   pub items_end : (s s1 s2 : S) (from i : ℕ) (item : Item (List Content)) (f : E) → i < to → to ≤ length p.items → item ≡ get_or p.items i item
       → Sofar sees s (range_calls p j from to) s1 (range_calls p j i to) → sees s1 (call_of_item item) (Err f) s2 → Shows sees s (range_calls p j from to) 0 (Err (fault.Visitor f)) s2 0
-  items_end s s1 s2 from i item f below within e so call =
-      let so_far : Sofar sees s (range_calls p j from to) s1 (timed 0 (call_of_item item) ∷ range_calls p j (i + 1) to) =
-      subst (Sofar sees s (range_calls p j from to) s1) (next_calls i item below within e) so in
-      so_far.on 0 (Err (fault.Visitor f)) s2 0 (inl (call, refl))
+  items_end s s1 s2 from i item f below within e so call = search (rules, next_calls)
 
 -- the same for the items of stored entries
 module _ {S E : Type 0} (sees : S → Call → Result (Unit {0}) E → S → Type 0) (table : List Row) (bits : List Bool) (n : ℕ) (kept : List IndexedItem) (p : PackedValues) (j to from i : ℕ)
@@ -197,11 +188,7 @@ module _ {S E : Type 0} (sees : S → Call → Result (Unit {0}) E → S → Typ
 
 -- The calls for all items of a subset are those from index 0 to the last index.
 pub range_of_all : (p : PackedValues) (j : ℕ) → range_calls p j 0 (length p.items) ≡ item_calls p.table 0 without_turns (items_of_subset j p.items)
-range_of_all p j = ap (λ items. item_calls p.table 0 without_turns (items_of_subset j items)) (from_first (take (length p.items) p.items) ∙ take_all (length p.items) p.items (omega arith))
-  where
-    from_first : (items : List (Item (List Content))) → drop 0 items ≡ items
-    from_first [] = refl
-    from_first (item ∷ items) = refl
+range_of_all p j = search (rules, take_all)
 
 module _ {S E : Type 0} (sees : S → Call → Result (Unit {0}) E → S → Type 0) (p : PackedValues) where
   -- the calls for one subset
@@ -217,57 +204,34 @@ module _ {S E : Type 0} (sees : S → Call → Result (Unit {0}) E → S → Typ
   subsets_left j = calls_on (p.subsets - j) j (j + 1)
 
   pub subsets_start : (s : S) → Sofar sees s (packed_calls p) s (subsets_left 0)
-  subsets_start s = let all : p.subsets ≡ p.subsets - 0 = omega arith in subst (λ x. Sofar sees s (packed_calls p) s x) (ap (λ left. calls_on left 0 1) all) (sofar_self sees s (packed_calls p))
+  subsets_start s = search (rules, sofar_self)
 
   next_subset : (j : ℕ) → j < p.subsets → subsets_left j ≡ subset_at j ++ subsets_left (j + 1)
-  next_subset j h =
-      let more : p.subsets - j ≡ suc (p.subsets - (j + 1)) = omega (arith, h) in
-      let next : suc j ≡ j + 1 = omega arith in
-      let none : 0 + (without_turns (answers_in answer_of (items_of_subset j p.items))).turns ≡ 0 = omega (arith, no_turns (items_of_subset j p.items)) in
-      ap (λ left. calls_on left j (j + 1)) more
-      ∙ ap (λ calls. timed 0 (subset_call (j + 1)) ∷ calls
-      ++ subset_calls p.table without_turns (0 + (without_turns (answers_in answer_of (items_of_subset j p.items))).turns) (j + 1 + 1) (subsets_from (p.subsets - (j + 1)) (suc j) p.items))
-      (sym (range_of_all p j))
-      ∙ ap (λ turns. subset_at j ++ subset_calls p.table without_turns turns (j + 1 + 1) (subsets_from (p.subsets - (j + 1)) (suc j) p.items)) none
-      ∙ ap (λ k. subset_at j ++ calls_on (p.subsets - (j + 1)) k (j + 1 + 1)) next
+  next_subset j h = search (rules, range_of_all)
 
   -- One more subset was shown.
   pub subsets_go : (s s1 s2 : S) (j : ℕ) → j < p.subsets → Sofar sees s (packed_calls p) s1 (subsets_left j) → Shows sees s1 (subset_at j) 0 (Ok tt) s2 0
       → Sofar sees s (packed_calls p) s2 (subsets_left (j + 1))
   subsets_go s s1 s2 j h so shows =
       let so_far : Sofar sees s (packed_calls p) s1 (subset_at j ++ subsets_left (j + 1)) = subst (Sofar sees s (packed_calls p) s1) (next_subset j h) so in
-      sofar_then sees s s1 s2 _ _ _ so_far (sofar_all sees s1 s2 (subset_at j) (subsets_left (j + 1)) shows)
+      search (rules, sofar_then, sofar_all)
 
   pub subsets_end : (s s1 s2 : S) (j : ℕ) (e : ShowFault E) → j < p.subsets → Sofar sees s (packed_calls p) s1 (subsets_left j) → Shows sees s1 (subset_at j) 0 (Err e) s2 0
       → Shows sees s (packed_calls p) 0 (Err e) s2 0
   subsets_end s s1 s2 j e h so shows =
-      let so_far : Sofar sees s (packed_calls p) s1 (subset_at j ++ subsets_left (j + 1)) = subst (Sofar sees s (packed_calls p) s1) (next_subset j h) so in
-      so_far.on 0 (Err e) s2 0 (shows_before sees s1 s2 (subset_at j) (subsets_left (j + 1)) e shows)
+      let so_far : Sofar sees s (packed_calls p) s1 (subset_at j ++ subsets_left (j + 1)) = grind (arith, next_subset) in
+      grind (arith, common_steps, shows_before)
 
   pub subsets_done : (s s1 : S) (j : ℕ) → p.subsets ≤ j → Sofar sees s (packed_calls p) s1 (subsets_left j) → Shows sees s (packed_calls p) 0 (Ok tt) s1 0
-  subsets_done s s1 j h so =
-      let none : p.subsets - j ≡ 0 = omega (arith, h) in
-      let so_far : Sofar sees s (packed_calls p) s1 [] = subst (Sofar sees s (packed_calls p) s1) (ap (λ left. calls_on left j (j + 1)) none) so in
-      so_far.on 0 (Ok tt) s1 0 (refl, refl)
+  subsets_done s s1 j h so = grind arith
 
 -- ---- What a reading stores, as its users see it.
 
 -- If compressed data were shown from the stored items, the reading was shown.
 pub packed_shown : {V E : Type 0} (sees : V → Call → Result (Unit {0}) E → V → Type 0) (p : PackedValues) (r : Read) (v v' : V) (result : Result (Unit {0}) (ShowFault E)) (steps : ℕ) → IsPackedOf p r
     → steps ≡ 0 → Shows sees v (packed_calls p) 0 result v' 0 → Shows sees v (calls_of r) (turns_shown r) result v' steps
-packed_shown sees p r v v' result steps h are shows =
-    let calls : packed_calls p ≡ calls_of r = ap (λ t. subset_calls t without_turns 0 1 (subsets_from p.subsets 0 p.items)) h.table
-    ∙ ap (λ n. subset_calls r.table without_turns 0 1 (subsets_from n 0 p.items)) h.subsets ∙ ap (calls_for r) (sym h.values) in
-    let turns : 0 ≡ turns_shown r = sym (no_turns_in (subsets_from r.source.subsets 0 p.items)) ∙ ap (turns_for r) (sym h.values) in
-    subst (λ n. Shows sees v (calls_of r) (turns_shown r) result v' n) (sym are)
-    (subst (λ n. Shows sees v (calls_of r) n result v' 0) turns (subst (λ cs. Shows sees v cs 0 result v' 0) calls shows))
+packed_shown sees p r v v' result steps h are shows = grind (arith, no_turns_in, h.values)
 
 -- All items of compressed data are stored, and none of plain data.
 pub all_kept : (r : Read) (k : StoredItems) → IsStoredReading r k → held_of k ≡ items_kept (values_read r)
-all_kept r k h = by k (values_read r) h.keeps
-  where
-    by : (k : StoredItems) (v : Values) → KeepsValues k r.source v → held_of k ≡ items_kept v
-    by kept.Apart (apart xs) w = refl
-    by kept.Apart (together xs) w = absurd w
-    by (kept.Together entries) (apart xs) w = absurd w
-    by (kept.Together entries) (together xs) w = length-items_at r.source.bits r.source.subsets entries ∙ ap length w.0
+all_kept r k h = search (rules, length-items_at)

@@ -14,7 +14,7 @@ use Rattle.std.proofs.lemmas.Grind.{common_steps}
 use Rattle.std.proofs.lemmas.List.{drop-drop}
 use Rattle.bufr_walk.proofs.CourseLemmas.{IsSane, Forth, plain_forth, packed_forth, template_sane}
 use Rattle.bufr_walk.proofs.NextField.{AreRead, row_found}
-use Rattle.std.specs.Prelude.{is_none, is_some}
+use Rattle.std.specs.Prelude.{is_none}
 
 none_more : (a : ℕ) → a + 0 ≡ a
 none_more a = omega arith
@@ -40,7 +40,7 @@ module _ {C : Type 0} (form : DataCoding C) (many : ℕ → Bool) where
       (ap (λ b. if b then Err (stops.Field (wrong.TooManyValues x.spec.fxy)) else read_field form x.spec from (form.field x.spec bits)) (ap many (sym (none_more from)) ∙ few 0 (omega arith))
       ∙ ap (read_field form x.spec from) h.2)
       (subst (λ k. Passes (reading form many) (answers_in form.gives xs) (after form course x) (place_at (from + 1) h.0) xs (place_at k left)) (one_more from (length xs))
-      (reads_pass (after form course x) (from + 1) h.0 xs left h.3 (λ j l. ap many (one_more from j) ∙ few (suc j) (omega (arith, l)))))
+      (reads_pass (after form course x) (from + 1) h.0 xs left h.3 (λ j l. ap many (one_more from j) ∙ few (suc j) (omega arith))))
 
 -- ---- A pass reads each item where the previous one ended.
 
@@ -63,7 +63,7 @@ module _ {C : Type 0} (form : DataCoding C) (many : ℕ → Bool) where
 
   pass_so : GoesForth form → (n : ℕ) (course : Course) (from : ℕ) (bits : List Bool) → IsSane n course → length bits < n
       → ReadsSo course from bits (pass (reading form many) n course (place_at from bits))
-  pass_so forth zero course from bits sane lt = absurd (omega (arith, lt))
+  pass_so forth zero course from bits sane lt = absurd (omega arith)
   pass_so forth (suc n) course from bits sane lt = by (course []) refl (λ c bs h l. pass_so forth n c (from + 1) bs h l)
     where
       at_once : (next : Next) → course [] ≡ next → (o : Option Stop) → EndsPass (reading form many) next (place_at from bits) o
@@ -71,9 +71,9 @@ module _ {C : Type 0} (form : DataCoding C) (many : ℕ → Bool) where
       at_once next e o h = (
         record {
           reads = refl;
-          few = λ j l. absurd (omega (arith, l));
+          few = λ j l. absurd (omega arith);
           count = omega arith;
-          ends = subst (λ n. EndsPass (reading form many) n (place_at from bits) o) (sym e) h;
+          ends = rw e h;
         },
         (0, omega arith, refl),
       )
@@ -93,7 +93,7 @@ module _ {C : Type 0} (form : DataCoding C) (many : ℕ → Bool) where
         where
           few : (j : ℕ) → j < suc (length p.items) → many (from + j) ≡ false
           few zero l = ap many (none_more from) ∙ m
-          few (suc j) l = ap many (sym (one_more from j)) ∙ r.0.few j (omega (arith, l))
+          few (suc j) l = ap many (sym (one_more from j)) ∙ r.0.few j (omega arith)
 
       stepped : (spec : FieldSpec) (b : Bool) → many from ≡ b → (reading form many).step spec (place_at from bits)
           ≡ (if b then Err (stops.Field (wrong.TooManyValues spec.fxy)) else read_field form spec from (form.field spec bits))
@@ -112,7 +112,7 @@ module _ {C : Type 0} (form : DataCoding C) (many : ℕ → Bool) where
           one_item (record { spec = spec; content = f.content }) f.suffix (pass (reading form many) n (after form course (record { spec = spec; content = f.content })) (place_at (from + 1) f.suffix))
           m e q w
           (go (after form course (record { spec = spec; content = f.content })) f.suffix (k.1 (form.gives spec f.content) w.gives)
-          (omega (arith, lt, w.some, w.within, length-drop w.size bits, ap length w.left_is)))
+          (omega (arith, w.some, w.within, length-drop w.size bits, ap length w.left_is)))
 
       by : (next : Next) → course [] ≡ next
           → ((c : Course) (bs : List Bool) → IsSane n c → length bs < n → ReadsSo c (from + 1) bs (pass (reading form many) n c (place_at (from + 1) bs)))
@@ -150,17 +150,7 @@ pass_at_end {C} form many (suc most) course p h = by (course []) refl (λ t q. p
 pub next_pass : (course : Course) (n left : ℕ) (bits : List Bool) → n ≡ suc left → stop_of (passes_apart course n bits) ≡ None
     → (let p = read_pass plain (λ items. false) course bits in
     (p.stop ≡ None) × (passes_apart course n bits ≡ p ∷ passes_apart course left p.state.left) × (stop_of (passes_apart course left p.state.left) ≡ None))
-next_pass course n left bits one h =
-    let p = read_pass plain (λ items. false) course bits in
-    let k = by p.stop refl (subst (λ m. stop_of (passes_apart course m bits) ≡ None) one h) in
-    (k.0, ap (λ m. passes_apart course m bits) one ∙ ap (λ o. p ∷ (if is_none o then passes_apart course left p.state.left else [])) k.0, k.1)
-  where
-    by : (o : Option Stop) → (read_pass plain (λ items. false) course bits).stop ≡ o
-        → (let p = read_pass plain (λ items. false) course bits in
-        (if is_some o then o else stop_of (if is_none o then passes_apart course left p.state.left else [])) ≡ None
-        → (p.stop ≡ None) × (stop_of (passes_apart course left p.state.left) ≡ None))
-    by None e h = (e, h)
-    by (Some why) e h = absurd cc
+next_pass course n left bits one h = grind arith
 
 -- ---- Why a walk that reads data stops.
 
@@ -176,19 +166,7 @@ module _ {C : Type 0} (form : DataCoding C) (many wants : ℕ → Bool) where
       → RunsShort form wants course (done ++ read_pass form many (uncounted course) bits ∷ later) (turns_in form.gives course (items_by_pass done) + (course (answers_in form.gives g.items)).turns)
   runs_short course bits steps steps' g enough done later spec n why =
       let begins = g.begins (suc (length bits)) enough in
-      record {
-        done = done;
-        here = read_pass form many (uncounted course) bits;
-        later = later;
-        among = refl;
-        items = g.items;
-        more = begins.0;
-        are = begins.1;
-        spec = spec;
-        next = n;
-        why = why;
-        turns_are = refl;
-      }
+      grind arith
 
 -- If the number of items is not too large, nor is any smaller number.
 pub few_values : (n items j : ℕ) → items * n ≤ max_values → j < items → would_be_many n (0 + j) ≡ false

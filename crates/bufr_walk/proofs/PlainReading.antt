@@ -1,7 +1,6 @@
 -- Plain data: a walk over each subset makes the pass over this subset.
 use Rattle.bufr_walk.proofs.PassLemmas.{Stops, runs_short}
 use Rattle.std.proofs.Common.{◌≡◌, ℕ, ◌+◌, ◌-◌, ◌*◌, ◌<◌, ◌≤◌, List, ◌∷◌, ◌++◌, Bool, false, length, if◌then◌else◌, Option, Some, None, option_map, Ok, Err, suc, inl, inr, refl, sym, ◌∙◌, ap, subst, arith, length-append, length-drop, append_assoc, []}
-use Rattle.std.proofs.lemmas.Grind.{common_steps}
 use Rattle.std.proofs.lemmas.List.{append-nil}
 use Rattle.std.specs.Prelude.{is_none, is_some}
 use Rattle.bufr_bits.specs.Prelude.{bits_of}
@@ -14,7 +13,7 @@ use Rattle.bufr_walk.proofs.CourseLemmas.{plain_forth}
 use Rattle.bufr_walk.proofs.WalkPass.{item, IsStep, Comes, whole_passes, stopped_passes}
 
 pub ticked_more : (a b : ℕ) → ticked (ticked 0 a) b ≡ ticked 0 (a + b)
-ticked_more a b = grind (arith, common_steps)
+ticked_more a b = grind arith
 
 -- ---- One subset.
 
@@ -35,7 +34,7 @@ at_first s = record { place = refl; same = refl; pays = omega arith }
 -- The step at a field reads it from the remaining bits.
 pub step_there : (first : Cursor) (items : List (Item Content)) (s : Cursor) (spec : FieldSpec) (p : Place) → IsAt first items s p
     → how.step spec p ≡ read_field plain spec (length items) (plain_field spec (rest_of s))
-step_there first items s spec p m = ap (λ (q : Place). read_field plain spec q.items (plain_field spec q.left)) m.place
+step_there first items s spec p m = cc (m.place)
 
 unfoldable pub plain_follows : (first : Cursor) (before : List (Item Content)) (s : Cursor) (spec : FieldSpec) (t : Taken) (s' : Cursor) (p : Place) → IsAt first before s p
     → PlainTakes s spec (Ok t) s' → IsStep PlainTakes how answer_of (IsAt first) before spec t s' p
@@ -58,10 +57,7 @@ Fails first items p next why s' = IsAt first items s' p × Stops plain (λ n. fa
 
 pub plain_fails : (first : Cursor) (items : List (Item Content)) (s : Cursor) (p : Place) (spec : FieldSpec) (e : DataFault) (s' : Cursor) → IsAt first items s p → PlainTakes s spec (Err e) s'
     → Fails first items p (take_next spec) (stops.Field e) s'
-plain_fails first items s p spec e s' m h = (
-  subst (λ x. IsAt first items x p) (sym h.2) m,
-  inl (step_there first items s spec p m ∙ ap (read_field plain spec (length items)) h.0 ∙ ap (λ x. Err (stops.Field x)) (sym h.1)),
-)
+plain_fails first items s p spec e s' m h = grind arith
 
 module _ (course : CountedCourse) (s : Cursor) (c : ℕ) (s' : Cursor) (c' : ℕ) where
   -- the progress of a walk over a subset
@@ -135,7 +131,7 @@ none_yet n course bits s steps e z = record {
     zero_plus n = omega arith
 
     ticked_none : 0 ≡ ticked 0 0
-    ticked_none = grind (arith, common_steps)
+    ticked_none = grind arith
 
 split : (n a d b : ℕ) → b ≡ a + d → n * b ≡ n * a + n * d
 split n a d b e = ap (λ x. n * x) e ∙ grind arith
@@ -220,7 +216,7 @@ module _ (n : ℕ) (course : CountedCourse) (bits : List Bool) (i : ℕ) (s s' :
 -- ---- All subsets.
 
 here : (s : Cursor) (bits : List Bool) → s.bits ≡ bits → s.at ≤ length bits → s.at + length (rest_of s) ≡ length bits
-here s bits e h = omega (arith, length-drop s.at s.bits, ap length e, h)
+here s bits e h = omega (arith, length-drop s.at s.bits, ap length e)
 
 module _ (n : ℕ) (course : CountedCourse) (octets : List ℕ) (total i : ℕ) where
   abbrev all : List (DataPass Content)

@@ -4,14 +4,13 @@ use Rattle.bufr_walk.proofs.PassLemmas.{next_pass}
 use Rattle.bufr_walk.proofs.PlainReading.{IsAt, plain_follows, ticked_more, how, at_first, step_there}
 use Rattle.bufr_walk.proofs.WalkPass.{Comes, IsStep, item, stopped_passes, whole_passes}
 use Rattle.std.proofs.lemmas.Grind.{common_steps}
-use Rattle.std.proofs.Common.{suc, None, Option, append_assoc, ◌≡◌, ℕ, ◌+◌, ◌^◌, ◌<◌, ◌≤◌, false, Bool, List, ◌∷◌, ◌++◌, length, drop, Some, refl, sym, ◌∙◌, ap, subst, arith, ◌/◌, ◌&&◌, true, ◌⊎◌, inl, inr, take, Result, Ok, Err, ℤ, pos, ◌+ℤ◌, nat_lt, if◌then◌else◌, nat_le, not, unsigned_abs, ◌-◌, []}
-use Rattle.std.proofs.lemmas.Bool.{ltb-true}
+use Rattle.std.proofs.Common.{suc, None, Option, append_assoc, ◌≡◌, ℕ, ◌+◌, ◌<◌, ◌≤◌, false, Bool, List, ◌∷◌, ◌++◌, length, Some, refl, sym, ◌∙◌, ap, subst, arith, ◌/◌, ◌&&◌, true, ◌⊎◌, inl, inr, take, Result, Ok, Err, ℤ, pos, ◌+ℤ◌, ◌-◌, [], rules}
 use Rattle.bufr_bits.specs.Prelude.{number_of, are_all_ones}
-use Rattle.bufr_walk.specs.Prelude.{Kind, Content, data_end, answer_of, number, text, missing, content_in, octets_in, signed_by, shown_number, shown_text, shown_missing, shown_reference, shown, FieldFault, FieldRead, found, plain_field, FieldSpec, IsSpec, HasRole, is_reference, IsFor, IsForRole, is_plain_number, is_plain, IsPlainNumber, Next, take_next, ticked, Walked, Stop, Item, plain, answers_in, turns_in, Read, course_of, IsStoredReading, KeepsValues, calls_for, turns_for, Cursor, rest_of, past, IsTaken, Stage, stage, IsShown, IsUnshown, ShowingTakes, Sofar, ItemsGo, ShowFault, Role, Taken, WalkStop, Call, item_call, view_of, Timed, timed, item_calls, Shows, EndsAt, IsReferenceValue, subset_call, subset_calls, stop_by, CountedCourse, uncounted, after, counted_course_of, IsAllShown, same}
+use Rattle.bufr_walk.specs.Prelude.{Kind, Content, answer_of, content_in, octets_in, signed_by, shown_number, shown_text, shown_missing, shown_reference, shown, FieldFault, FieldRead, found, plain_field, FieldSpec, IsSpec, HasRole, is_reference, IsFor, is_plain, IsPlainNumber, Next, take_next, ticked, Walked, Stop, Item, plain, answers_in, turns_in, Read, course_of, IsStoredReading, Cursor, rest_of, past, IsTaken, Stage, stage, IsShown, IsUnshown, ShowingTakes, Sofar, ItemsGo, ShowFault, Role, Taken, WalkStop, Call, item_call, view_of, Timed, timed, item_calls, Shows, EndsAt, IsReferenceValue, subset_call, subset_calls, stop_by, CountedCourse, uncounted, after, counted_course_of, IsAllShown, same}
 use Rattle.bufr_tables.specs.Prelude.{Row, is_character}
 use Rattle.bufr_walk.specs.declared.plain.ShowStop.{ShowStop}
 use Rattle.std.proofs.lemmas.Bool.Decides.{nat_tests}
-use Rattle.bufr_bits.proofs.DecimalLemmas.{and_first, and_second}
+use Rattle.bufr_bits.proofs.DecimalLemmas.{and_first}
 use Rattle.bufr_walk.proofs.PlainLemmas.{answer_element, is_reference_role, number_said, text_said, reference_said}
 use Rattle.bufr_walk.specs.declared.fault.ShowFault.TheVariants as show_fault
 use Rattle.bufr_walk.specs.declared.plain.ShowStop.TheVariants as stop
@@ -20,7 +19,7 @@ use Rattle.bufr_walk.specs.declared.walker.WalkStop.TheVariants as stops
 use Rattle.bufr_walk.specs.declared.fault.DataFault.TheVariants as wrong
 use Rattle.bufr_walk.specs.declared.spec.Taken.TheVariants as taken
 use Rattle.std.proofs.lemmas.List.{map-append, append-nil}
-use Rattle.bufr_walk.specs.Pass.{DataPass, read_pass, passes_apart, stop_of, calls_of, turns_shown, EndsPass, Place, Step, read_field, reading_in}
+use Rattle.bufr_walk.specs.Pass.{DataPass, read_pass, passes_apart, stop_of, calls_of, turns_shown, EndsPass, Place, Step, read_field}
 use Rattle.bufr_walk.specs.Readers.{items_by_pass, place_at}
 use Rattle.bufr_walk.specs.declared.reading.StoredItems.TheVariants as kept
 
@@ -29,54 +28,34 @@ same_found a b e = cc
 
 -- The content of a field that was read is that of its bits.
 pub content_is : (spec : FieldSpec) (bits suffix : List Bool) (c : Content) → plain_field spec bits ≡ Ok (found c suffix) → content_in spec (take spec.width bits) ≡ c
-content_is spec bits suffix c h = grind (arith, common_steps, nat_lt, same_found)
+content_is spec bits suffix c h = search (rules, same_found)
 
 -- what a field shows, by its kind and role
 pub reference_shown : (spec : FieldSpec) (bits : List Bool) (z : ℤ) → is_reference spec.role ≡ true → z ≡ signed_by bits → shown_reference z ≡ shown spec (content_in spec bits)
-reference_shown spec bits z e is = ap shown_reference is ∙ ap (shown spec) (sym (reference_said spec bits (is_reference_role spec.role e)))
+reference_shown spec bits z e is = cc (is, reference_said spec bits (is_reference_role spec.role e))
 
 pub missing_shown : (spec : FieldSpec) (bits : List Bool) → is_reference spec.role ≡ false → (are_all_ones bits && spec.may_be_missing) ≡ true → shown_missing ≡ shown spec (content_in spec bits)
-missing_shown spec bits e m = ap (shown spec) (sym (by (is_character spec.kind) refl))
-  where
-    by : (b : Bool) → is_character spec.kind ≡ b → content_in spec bits ≡ missing
-    by true k = text_said spec bits k e ∙ ap (λ b. if b then missing else text (octets_in (spec.width / 8) bits)) (and_first (are_all_ones bits) spec.may_be_missing m)
-    by false k = number_said spec bits k e ∙ ap (λ b. if b then missing else number (number_of bits)) m
+missing_shown spec bits e m = search (rules, text_said, and_first, number_said)
 
 pub number_shown : (spec : FieldSpec) (bits : List Bool) (raw : ℕ) → is_character spec.kind ≡ false → is_reference spec.role ≡ false → (are_all_ones bits && spec.may_be_missing) ≡ false
     → raw ≡ number_of bits → shown_number (pos raw +ℤ spec.reference) spec.scale ≡ shown spec (content_in spec bits)
-number_shown spec bits raw k e m is =
-    ap (λ r. shown_number (pos r +ℤ spec.reference) spec.scale) is
-    ∙ ap (shown spec) (sym (number_said spec bits k e ∙ ap (λ b. if b then missing else number (number_of bits)) m))
+number_shown spec bits raw k e m is = grind arith
 
 text_role : (r : Role) (k : Kind) (m : Bool) → HasRole r k m → is_character k ≡ true → is_reference r ≡ false
-text_role role.Element k m h e = refl
-text_role role.Inserted k m h e = refl
-text_role role.Factor k m h e = refl
-text_role role.Reference k m h e = let f : is_character k ≡ false = ap is_character h.0 in absurd cc
+text_role r k m h e = grind arith
 
 pub text_shown : (spec : FieldSpec) (bits : List Bool) (octets : List ℕ) → IsSpec spec → is_character spec.kind ≡ true → are_all_ones bits ≡ false → octets ≡ octets_in (spec.width / 8) bits
     → shown_text octets ≡ shown spec (content_in spec bits)
-text_shown spec bits octets h k e is =
-    ap shown_text is ∙ ap (shown spec)
-    (sym (text_said spec bits k (text_role spec.role spec.kind spec.may_be_missing h.role k) ∙ ap (λ b. if b then missing else text (octets_in (spec.width / 8) bits)) e))
+text_shown spec bits octets h k e is = search (rules, text_said, text_role)
 
 -- A redefined reference is shown as one.
 pub reference_kept : (spec : FieldSpec) (bits : List Bool) → spec.role ≡ role.Reference → IsReferenceValue (shown spec (content_in spec bits))
-reference_kept spec bits e = subst (λ c. IsReferenceValue (shown spec c)) (sym (reference_said spec bits e)) tt
+reference_kept spec bits e = search (rules, reference_said)
 
 -- The step of a pass reads the content of the next bits.
 step_content : (spec : FieldSpec) (bits : List Bool) (n : ℕ) (f : Step Place Content) → ◌≡◌ {A = Result (Step Place Content) Stop} (read_field plain spec n (plain_field spec bits)) (Ok f)
     → content_in spec (take spec.width bits) ≡ f.content
-step_content spec bits n f h = by (nat_lt (length bits) spec.width) h
-  where
-    by : (b : Bool)
-        → ◌≡◌ {A = Result (Step Place Content) Stop} (read_field plain spec n (if b then Err data_end else Ok (found (content_in spec (take spec.width bits)) (drop spec.width bits)))) (Ok f)
-        → content_in spec (take spec.width bits) ≡ f.content
-    by true h = absurd cc
-    by false h = ap (λ (f : Step Place Content). f.content) (same_step _ f h)
-      where
-        same_step : (a b : Step Place Content) → ◌≡◌ {A = Result (Step Place Content) Stop} (Ok a) (Ok b) → a ≡ b
-        same_step a b e = cc
+step_content spec bits n f h = grind arith
 
 -- A walk over data that were read before stopped because the visitor refused an item, or because
 -- memory ran out.
@@ -90,22 +69,22 @@ module _ {V E : Type 0} (sees : V → Call → Result (Unit {0}) E → V → Typ
   pub shown_here : (c c' : Cursor) (v v' : V) (table : List Row) (a b : ℕ) (spec : FieldSpec) (t : Taken) → c' ≡ past c spec → IsTaken c spec t (past c spec)
       → sees v (item_call (view_of table spec (content_in spec (take spec.width (rest_of c))))) (Ok tt) v' → IsShown sees (stage c v table a b) spec t (stage c' v' table a b)
   shown_here c c' v v' table a b spec t e h w = record {
-    is_taken = subst (λ x. IsTaken c spec t x) (sym e) h;
+    is_taken = rw e h;
     call = call_at c' (sym e);
     table = refl;
     names = refl;
   }
     where
-      call_at : (c' : Cursor) (e : past c spec ≡ c') → sees v (item_call (view_of table spec (subst (λ x. IsTaken c spec t x) e h).content)) (Ok tt) v'
+      call_at : (c' : Cursor) (e : past c spec ≡ c') → sees v (item_call (view_of table spec (rw e at h).content)) (Ok tt) v'
       call_at c' e = subst (λ x. sees v (item_call (view_of table spec x)) (Ok tt) v')
-          (content_is spec (rest_of c) (rest_of c') (subst (λ x. IsTaken c spec t x) e h).content (subst (λ x. IsTaken c spec t x) e h).field) w
+          (content_is spec (rest_of c) (rest_of c') (rw e at h).content (rw e at h).field) w
 
   pub unshown_here : (c c' : Cursor) (v v' : V) (table : List Row) (a b : ℕ) (spec : FieldSpec) (t : Taken) (e : E) → c' ≡ c → IsTaken c spec t (past c spec)
       → sees v (item_call (view_of table spec (content_in spec (take spec.width (rest_of c))))) (Err e) v' → IsUnshown sees (stage c v table a b) spec e (stage c' v' table a b)
   unshown_here c c' v v' table a b spec t e same h w = record {
     answer = t;
     is_taken = h;
-    call = subst (λ x. sees v (item_call (view_of table spec x)) (Err e) v') (content_is spec (rest_of c) (rest_of (past c spec)) h.content h.field) w;
+    call = rw (← content_is spec (rest_of c) (rest_of (past c spec)) h.content h.field) w;
     cursor = same;
     names = refl;
   }
@@ -130,9 +109,7 @@ abbrev beyond : CountedCourse → List (Item Content) → CountedCourse
 beyond course xs answers = course (answers_in answer_of xs ++ answers)
 
 beyond_one : (course : CountedCourse) (xs : List (Item Content)) (x : Item Content) → after plain (beyond course xs) x ≡ beyond course (xs ++ x ∷ [])
-beyond_one course xs x =
-    fun_ext (λ answers. ap course (sym (ap (λ ts. ts ++ answers) (map-append (λ (i : Item Content). answer_of i.spec i.content) xs (x ∷ []))
-    ∙ append_assoc (answers_in answer_of xs) (answer_of x.spec x.content ∷ []) answers)))
+beyond_one course xs x = search (rules, fun_ext, map-append, append_assoc)
 
 beyond_all : (course : CountedCourse) (xs : List (Item Content)) → (beyond course xs []) ≡ course (answers_in answer_of xs)
 beyond_all course xs = ap course (append-nil (answers_in answer_of xs))
@@ -345,25 +322,7 @@ module _ {V E : Type 0} (sees : V → Call → Result (Unit {0}) E → V → Typ
 
   -- At first, no subset was shown.
   pub none_shown : (s : V) (c : Cursor) (steps : ℕ) → c ≡ record { bits = bits; at = 0 } → steps ≡ 0 → stop_of (passes_apart (uncounted course) n bits) ≡ None → SubsetsShown 0 s c s steps
-  none_shown s c steps first z none = record {
-    before = 0;
-    none = ap stop_of whole ∙ none;
-    ticks = z ∙ ticked_none;
-    total = ap (λ ps. 0 + turns_in answer_of course (items_by_pass ps)) whole ∙ zero_plus all_turns;
-    so_far = subst (λ ps. Sofar sees s all s (subset_calls table course 0 (0 + 1) (items_by_pass ps))) (sym whole) (sofar_self sees s all);
-  }
-    where
-      whole : passes_apart (uncounted course) (n - 0) (rest_of c) ≡ passes_apart (uncounted course) n bits
-      whole = ap (λ k. passes_apart (uncounted course) k (rest_of c)) (minus_none n) ∙ ap (λ x. passes_apart (uncounted course) n (rest_of x)) first
-        where
-          minus_none : (k : ℕ) → k - 0 ≡ k
-          minus_none k = omega arith
-
-      zero_plus : (k : ℕ) → 0 + k ≡ k
-      zero_plus k = omega arith
-
-      ticked_none : 0 ≡ ticked 0 0
-      ticked_none = grind (arith, common_steps)
+  none_shown s c steps first z none = search (rules, sofar_self)
 
   module _ (done : ℕ) (s : V) (c : Cursor) (s1 : V) (steps : ℕ) (h : SubsetsShown done s c s1 steps) (lt : done < n) where
     -- the pass over the next subset, its turns, and the subsets after it
@@ -418,9 +377,9 @@ module _ {V E : Type 0} (sees : V → Call → Result (Unit {0}) E → V → Typ
 
   pub all_subsets : (done : ℕ) (s s1 : V) (c : Cursor) (steps : ℕ) → SubsetsShown done s c s1 steps → n ≤ done → Shows sees s all all_turns (Ok tt) s1 steps
   all_subsets done s s1 c steps h ge =
-      let none : passes_apart (uncounted course) (n - done) (rest_of c) ≡ [] = ap (λ k. passes_apart (uncounted course) k (rest_of c)) (none_left n done ge) in
+      let none : passes_apart (uncounted course) (n - done) (rest_of c) ≡ [] = rw none_left in
       let total : h.before + 0 ≡ all_turns = ap (λ ps. h.before + turns_in answer_of course (items_by_pass ps)) (sym none) ∙ h.total in
-      (subst (λ ps. Sofar sees s all s1 (subset_calls table course h.before (done + 1) (items_by_pass ps))) none h.so_far).on all_turns (Ok tt) s1 steps
+      (rw none at h.so_far).on all_turns (Ok tt) s1 steps
       (refl, h.ticks ∙ ap (ticked 0) (omega (arith, total)))
     where
       none_left : (n done : ℕ) → n ≤ done → n - done ≡ 0
@@ -430,31 +389,7 @@ module _ {V E : Type 0} (sees : V → Call → Result (Unit {0}) E → V → Typ
 
 -- The conditions of `is_plain`, one by one, are true for a plain field.
 pub plain_is : (a : FieldSpec) → is_plain a ≡ true → IsPlainNumber a
-plain_is a h =
-    let number : not (is_character a.kind) ≡ true = and_first _ (is_plain_number a.role a.width a.reference a.listed) h in
-    let rest : is_plain_number a.role a.width a.reference a.listed ≡ true = and_second (not (is_character a.kind)) _ h in
-    let e = by a.role rest in
-    let parts = and_second a.listed (nat_le a.width 62 && nat_lt (unsigned_abs a.reference) (2 ^ 62)) e.1 in
-    record {
-      kind = no (is_character a.kind) number;
-      role = e.0;
-      listed = and_first a.listed (nat_le a.width 62 && nat_lt (unsigned_abs a.reference) (2 ^ 62)) e.1;
-      width = at_most a.width (and_first (nat_le a.width 62) (nat_lt (unsigned_abs a.reference) (2 ^ 62)) parts);
-      reference = ltb-true (unsigned_abs a.reference) (2 ^ 62) (and_second (nat_le a.width 62) (nat_lt (unsigned_abs a.reference) (2 ^ 62)) parts);
-    }
-  where
-    no : (b : Bool) → not b ≡ true → b ≡ false
-    no true h = absurd cc
-    no false h = refl
-
-    at_most : (w : ℕ) → nat_le w 62 ≡ true → w ≤ 62
-    at_most w h = grind (arith, nat_tests)
-
-    by : (r : Role) → is_plain_number r a.width a.reference a.listed ≡ true → (r ≡ role.Element) × ((a.listed && (nat_le a.width 62 && nat_lt (unsigned_abs a.reference) (2 ^ 62))) ≡ true)
-    by role.Element h = (refl, h)
-    by role.Inserted h = absurd cc
-    by role.Factor h = absurd cc
-    by role.Reference h = absurd cc
+plain_is a h = grind (arith, common_steps, nat_tests)
 
 -- what a plain field shows
 pub plain_missing : (a : FieldSpec) (bits : List Bool) → IsPlainNumber a → (are_all_ones bits && a.may_be_missing) ≡ true → shown_missing ≡ shown a (content_in a bits)
@@ -469,16 +404,11 @@ pub plain_answer : (a : FieldSpec) (bits : List Bool) → IsPlainNumber a → ta
 plain_answer a bits p = answer_element a bits p.role
 
 pub plain_for : (a : FieldSpec) → IsPlainNumber a → IsFor a taken.Plain
-plain_for a p = subst (λ r. IsForRole r taken.Plain) (sym p.role) tt
+plain_for a p = grind arith
 
 -- If all subsets of plain data were shown, the reading was shown.
 pub apart_shown : {V E : Type 0} (sees : V → Call → Result (Unit {0}) E → V → Type 0) (r : Read) (v v' : V) (result : Result (Unit {0}) (ShowFault E)) (steps : ℕ) → IsStoredReading r kept.Apart
     → (let all = items_by_pass (passes_apart (course_of r) r.source.subsets r.source.bits) in
     Shows sees v (subset_calls r.table (counted_course_of r) 0 1 all) (turns_in answer_of (counted_course_of r) all) result v' steps)
     → Shows sees v (calls_of r) (turns_shown r) result v' steps
-apart_shown sees r v v' result steps h shows = by r.source.compressed h.keeps
-  where
-    by : (b : Bool) → KeepsValues kept.Apart r.source (reading_in (course_of r) b r.source.subsets r.source.bits).values
-        → (let values = (reading_in (course_of r) b r.source.subsets r.source.bits).values in Shows sees v (calls_for r values) (turns_for r values) result v' steps)
-    by false k = shows
-    by true k = absurd k
+apart_shown sees r v v' result steps h shows = grind arith

@@ -1,10 +1,9 @@
 -- The effect of each turn of a walk, and of successive walks.
 use Rattle.std.proofs.lemmas.Grind.{common_steps}
-use Rattle.std.proofs.Common.{◌≡◌, ℕ, ◌+◌, List, [], ◌∷◌, ◌++◌, Result, refl, sym, ◌∙◌, ap, subst, zero-add, add_assoc, arith, ◌*◌, append-nil, Bool, true, false, Option, Some, None, Ok, Err, zero, suc, ◌-◌, ◌^◌, ◌<◌, length, drop, get_or, add-zero, ◌≤◌, length-append, ◌==◌, nat_lt, nat_le, if◌then◌else◌}
+use Rattle.std.proofs.Common.{◌≡◌, ℕ, ◌+◌, List, [], ◌∷◌, ◌++◌, Result, refl, sym, ◌∙◌, ap, subst, zero-add, add_assoc, arith, ◌*◌, append-nil, true, false, Option, Some, None, Ok, Err, zero, suc, ◌-◌, ◌^◌, ◌<◌, length, drop, get_or, add-zero, ◌≤◌, length-append, rules}
 use Rattle.bufr_tables.specs.Prelude.{Row, entry_of, x_of, Tree, delayed, is_inserted_text, bare, element, operator, fixed, size, depth, is_legal_operator, cells_of, AreCellsOf, IsLegal}
-use Rattle.bufr_walk.specs.Prelude.{Kind, Taken, Course, next_item, FieldSpec, IsFor, IsForRole, is_reference, OperatorModel, after_field, after_operator, is_defining, element_spec, factor_spec, inserted_spec, if_valid_width, spec_by_kind, new_reference_spec, defined_field, numeric_spec, coded_spec, text_spec, text_width, local_width_spec, listed_by, unsigned_field, begin, Rest, counts_of, finish, open_end, operator_turn, unroll, passes, turns_of, counts_in, at_end, refused, TakenField, Takes, oks, answers_of, StopsWalk, ticked, Walked, TakesField, stop_by, WalkStop, Role, TurnRefusal, Next, take_next, astray, NextTurn, CountedCourse, uncounted, counted_item}
-use Rattle.bufr_walk.proofs.WalkProgress.{later, in_one_turn, counted_ahead, counted_asked, counted_operated, counted_either, WalkGoes, Stops, HasWalked, StopsIn, course, tail_of, costs, owed, OpenGroup, frames_of, turns_after_pass, AllGroupsFit, IsAtNodes, IsAtCell, weight, Turned}
-use Rattle.std.proofs.lemmas.Bool.Decides.{nat_tests}
+use Rattle.bufr_walk.specs.Prelude.{Kind, Taken, Course, next_item, FieldSpec, IsFor, IsForRole, is_reference, OperatorModel, after_field, after_operator, is_defining, element_spec, factor_spec, inserted_spec, if_valid_width, spec_by_kind, new_reference_spec, numeric_spec, coded_spec, unsigned_field, begin, Rest, counts_of, finish, open_end, operator_turn, unroll, passes, turns_of, counts_in, at_end, refused, TakenField, Takes, oks, answers_of, StopsWalk, ticked, Walked, TakesField, stop_by, WalkStop, Role, TurnRefusal, Next, take_next, NextTurn, CountedCourse, uncounted, counted_item}
+use Rattle.bufr_walk.proofs.WalkProgress.{later, in_one_turn, counted_ahead, counted_asked, counted_operated, WalkGoes, Stops, HasWalked, StopsIn, course, tail_of, costs, owed, OpenGroup, frames_of, turns_after_pass, AllGroupsFit, IsAtNodes, IsAtCell, weight, Turned}
 use Rattle.std.proofs.lemmas.List.{drop-drop}
 use Rattle.bufr_tables.specs.declared.template.Cell.{Cell}
 use Rattle.bufr_walk.specs.declared.walker.Frame.{Frame}
@@ -22,25 +21,23 @@ pub ticked_none : (s : ℕ) → ticked s 0 ≡ s
 ticked_none s = omega arith
 
 pub later_twice : (t u : ℕ) (a : NextTurn) → later t (later u a) ≡ later (t + u) a
-later_twice t u a = ap (λ k. let r : NextTurn = record { turns = k; next = a.next } in r) (sym (add_assoc t u a.turns))
+later_twice t u a = rw add_assoc
 
 pub later_none : (a : NextTurn) → later 0 a ≡ a
-later_none a = ap (λ k. let r : NextTurn = record { turns = k; next = a.next } in r) (zero-add a.turns)
+later_none a = rw zero-add
 
 pub answer_then : (a b : List TakenField) (more : List Taken) → answers_of (a ++ b) ++ more ≡ answers_of a ++ (answers_of b ++ more)
 answer_then [] b more = refl
-answer_then (i ∷ a) b more = ap (λ ts. i.taken ∷ ts) (answer_then a b more)
+answer_then (i ∷ a) b more = cc (answer_then a b more)
 
 pub answer_both : (a b : List TakenField) → answers_of (a ++ b) ≡ answers_of a ++ answers_of b
 answer_both [] b = refl
-answer_both (i ∷ a) b = ap (λ ts. i.taken ∷ ts) (answer_both a b)
+answer_both (i ∷ a) b = cc (answer_both a b)
 
 module _ {S : Type 0} (takes : S → FieldSpec → Taken → S → Type 0) where
   -- If the same things come next on two courses, the same fields are taken.
   pub takes_same : (n m : Course) (s : S) (items : List TakenField) (s' : S) → ((more : List Taken) → n more ≡ m more) → Takes takes n s items s' → Takes takes m s items s'
-  takes_same n m s [] s' h w = w
-  takes_same n m s (i ∷ items) s' h w =
-      (w.0, sym (h []) ∙ w.1, w.2, takes_same (λ more. n (i.taken ∷ more)) (λ more. m (i.taken ∷ more)) w.0 items s' (λ more. h (i.taken ∷ more)) w.3)
+  takes_same n m s items s' h w = grind arith
 
   -- Fields that are taken along one course, and then along the course after them, are taken in a
   -- single walk.
@@ -54,11 +51,7 @@ module _ {S E : Type 0} (takes : S → FieldSpec → Result Taken E → S → Ty
   goes_none n m s h = record { items = []; taken = refl; leads = λ more. h more ∙ sym (later_none (m more)) }
 
   pub goes_then : {n m o : CountedCourse} {s mid s' : S} {t u : ℕ} → WalkGoes takes n s t m mid → WalkGoes takes m mid u o s' → WalkGoes takes n s (t + u) o s'
-  goes_then {n} {m} {o} {s} {mid} {s'} {t} {u} a b = record {
-    items = a.items ++ b.items;
-    taken = takes_then (oks takes) (uncounted n) (uncounted m) s a.items mid b.items s' a.taken (λ more. ap (λ x. x.next) (a.leads more)) b.taken;
-    leads = λ more. ap n (answer_then a.items b.items more) ∙ a.leads (answers_of b.items ++ more) ∙ ap (later t) (b.leads more) ∙ later_twice t u (o more);
-  }
+  goes_then {n} {m} {o} {s} {mid} {s'} {t} {u} a b = grind (arith, takes_then, answer_then)
 
   pub goes_stops : {n m : CountedCourse} {s mid s' : S} {t u : ℕ} {why : WalkStop E} → WalkGoes takes n s t m mid → Stops takes m mid u why s' → Stops takes n s (t + u) why s'
   goes_stops {n} {m} {s} {mid} {s'} {t} {u} {why} a b =
@@ -67,7 +60,7 @@ module _ {S E : Type 0} (takes : S → FieldSpec → Result Taken E → S → Ty
         items = a.items ++ b.items;
         mid = b.mid;
         taken = takes_then (oks takes) (uncounted n) (uncounted m) s a.items mid b.items b.mid a.taken (λ more. ap (λ x. x.next) (a.leads more)) b.taken;
-        stops = subst (λ x. StopsWalk takes x b.mid why s') (sym (ap (λ x. x.next) same)) b.stops;
+        stops = rw (ap (λ x. x.next) same) b.stops;
         turns = ap (λ x. x.turns) same ∙ ap (λ k. t + k) b.turns;
       }
 
@@ -109,60 +102,33 @@ pub stop_cases : {S E : Type 0} (takes : S → FieldSpec → Result Taken E → 
     → ((spec : FieldSpec) (e : E) → takes s spec (Err e) s' → P (take_next spec) (stops.Field e)) → ((spec : FieldSpec) → spec.role ≡ role.Reference → s' ≡ s → P (take_next spec) stops.Memory)
     → ((why : TurnRefusal) → s' ≡ s → P (refused why) (stop_by why))
     → (next : Next) (why : WalkStop E) → StopsWalk takes next s why s' → P next why
-stop_cases takes P s s' field short refusal (take_next spec) (stops.Field e) h = field spec e h
-stop_cases takes P s s' field short refusal (take_next spec) stops.Memory h = short spec h.0 h.1
-stop_cases takes P s s' field short refusal (take_next spec) (stops.Width fxy) h = absurd h
-stop_cases takes P s s' field short refusal (take_next spec) (stops.Defining fxy) h = absurd h
-stop_cases takes P s s' field short refusal (refused w) why h = subst (P (refused w)) (sym h.0) (refusal w h.1)
-stop_cases takes P s s' field short refusal at_end why h = absurd h
-stop_cases takes P s s' field short refusal astray why h = absurd h
+stop_cases takes P s s' field short refusal next why h = grind arith
 
 -- A field that is not a factor returns no count.
 pub no_count : (r : Role) (t : Taken) (counts : List ℕ) → (r ≡ role.Factor → ⊥) → IsForRole r t → counts_in t counts ≡ counts
-no_count r taken.Plain counts n h = refl
-no_count r (taken.Reference x) counts n h = refl
-no_count role.Factor (taken.Count x) counts n h = absurd (n refl)
-no_count role.Element (taken.Count x) counts n h = absurd h
-no_count role.Inserted (taken.Count x) counts n h = absurd h
-no_count role.Reference (taken.Count x) counts n h = absurd h
+no_count r t counts n h = grind arith
 
 -- The field is not a factor.
 NoFactor : FieldSpec → Type 0
 NoFactor a = a.role ≡ role.Factor → ⊥
 
 pub fitted_role : (a spec : FieldSpec) → if_valid_width a ≡ Ok spec → a.role ≡ spec.role
-fitted_role a spec e = grind (arith, common_steps, nat_le)
+fitted_role a spec e = grind arith
 
 pub kind_role : (k : Kind) (s : OperatorModel) (row : Row) (spec : FieldSpec) → spec_by_kind k s row ≡ Ok spec → role.Element ≡ spec.role
 kind_role kind.Numeric s row spec e = fitted_role (numeric_spec s row) spec e
 kind_role kind.Coded s row spec e = fitted_role (coded_spec s row) spec e
-kind_role kind.Character s row spec e = let is : text_spec role.Element row.fxy (text_width s row.width) true ≡ spec = cc in ap (λ x. x.role) is
+kind_role kind.Character s row spec e = cc
 
 defined_role : (k : Kind) (s : OperatorModel) (fxy : ℕ) (spec : FieldSpec) → new_reference_spec k s fxy ≡ Ok spec → spec.role ≡ role.Factor → ⊥
-defined_role kind.Character s fxy spec e h = cc
-defined_role kind.Coded s fxy spec e h = let q : role.Reference ≡ role.Factor = fitted_role (defined_field s fxy) spec e ∙ h in cc
-defined_role kind.Numeric s fxy spec e h = let q : role.Reference ≡ role.Factor = fitted_role (defined_field s fxy) spec e ∙ h in cc
+defined_role k s fxy spec e h = grind arith
 
 -- the cases in which an element has a spec
 pub element_cases : (P : Type 0) (table : List Row) (s : OperatorModel) (fxy : ℕ) (spec : FieldSpec)
     → ((z : OperatorModel) (row : Row) → entry_of table fxy ≡ Some row → spec_by_kind row.kind z row ≡ Ok spec → P) → (if_valid_width (unsigned_field fxy s.local_width) ≡ Ok spec → P)
     → ((row : Row) → is_defining s ≡ true → new_reference_spec row.kind s fxy ≡ Ok spec → P)
     → element_spec table s fxy ≡ Ok spec → P
-element_cases P table s fxy spec listed local defined e = by_given (nat_lt 0 s.local_width) (entry_of table fxy) refl e
-  where
-    by_width : (b : Bool) (row : Row) → entry_of table fxy ≡ Some row → (if b then spec_by_kind row.kind begin row else if_valid_width (unsigned_field fxy s.local_width)) ≡ Ok spec → P
-    by_width true row p q = listed begin row p q
-    by_width false row p q = local q
-
-    by_defining : (b : Bool) (row : Row) → is_defining s ≡ b → entry_of table fxy ≡ Some row → (if b then new_reference_spec row.kind s fxy else spec_by_kind row.kind s row) ≡ Ok spec → P
-    by_defining true row d p q = defined row d q
-    by_defining false row d p q = listed s row p q
-
-    by_given : (b : Bool) (o : Option Row) → entry_of table fxy ≡ o → (if b then local_width_spec o s fxy else listed_by o s fxy) ≡ Ok spec → P
-    by_given true None p q = local q
-    by_given false None p q = absurd cc
-    by_given true (Some row) p q = by_width (row.width == s.local_width) row p q
-    by_given false (Some row) p q = by_defining (is_defining s) row refl p q
+element_cases P table s fxy spec listed local defined e = grind arith
 
 element_role : (table : List Row) (s : OperatorModel) (fxy : ℕ) (spec : FieldSpec) → element_spec table s fxy ≡ Ok spec → spec.role ≡ role.Factor → ⊥
 element_role table s fxy spec e h =
@@ -171,16 +137,11 @@ element_role table s fxy spec e h =
     (λ row d q. defined_role row.kind s fxy spec q h) e
 
 pub inserted_role : (s : OperatorModel) (fxy : ℕ) (spec : FieldSpec) → inserted_spec s fxy ≡ Ok spec → spec.role ≡ role.Factor → ⊥
-inserted_role s fxy spec e h = grind (arith, common_steps)
+inserted_role s fxy spec e h = grind arith
 
 -- A field that is not a redefined reference does not change the redefined references.
 pub no_reference : (r : Role) (s : OperatorModel) (fxy : ℕ) (t : Taken) → is_reference r ≡ false → IsForRole r t → record s { local_width = 0 } ≡ after_field s fxy t
-no_reference r s fxy taken.Plain e h = refl
-no_reference r s fxy (taken.Count n) e h = refl
-no_reference role.Element s fxy (taken.Reference x) e h = absurd h
-no_reference role.Inserted s fxy (taken.Reference x) e h = absurd h
-no_reference role.Factor s fxy (taken.Reference x) e h = absurd h
-no_reference role.Reference s fxy (taken.Reference x) e h = absurd cc
+no_reference r s fxy t e h = grind arith
 
 module _ {S E : Type 0} (takes : S → FieldSpec → Result Taken E → S → Type 0) (table : List Row) where
   took_ok : (r : Result FieldSpec TurnRefusal) (f : S) (t : Taken) (f' : S) → TakesField takes r f (Ok t) f' → (spec : FieldSpec) × (r ≡ Ok spec) × takes f spec (Ok t) f' × IsFor spec t
@@ -195,7 +156,7 @@ module _ {S E : Type 0} (takes : S → FieldSpec → Result Taken E → S → Ty
   came_field over left fxy s f c r t f' c' asks none took tick =
       let k = took_ok r f t f' took in
       let spec : FieldSpec = k.0 in
-      let plain : (counts : List ℕ) → counts_in t counts ≡ counts = λ counts. no_count spec.role t counts (none spec k.1) k.3 in
+      let plain : (counts : List ℕ) → counts_in t counts ≡ counts = search (rules, no_count) in
       record {
         turns = 1;
         ticks = tick;
@@ -232,62 +193,31 @@ module _ {S E : Type 0} (takes : S → FieldSpec → Result Taken E → S → Ty
   -- If a field comes next and is not taken, the walk stops there.
   stops_asked : (k : ℕ) (r : Result FieldSpec TurnRefusal) (go : Taken → List Taken → NextTurn) (f : S) (why : WalkStop E) (f' : S) (n : CountedCourse) → n [] ≡ later k (counted_asked r go [])
       → TakesField takes r f (Err why) f' → Stops takes n f (k + 1) why f'
-  stops_asked k (Ok spec) go f (stops.Field e) f' n h took = record {
-    items = [];
-    mid = f;
-    taken = refl;
-    stops = subst (λ x. StopsWalk takes x f (stops.Field e) f') (sym (ap (λ x. x.next) h)) took;
-    turns = ap (λ x. x.turns) h;
-  }
-  stops_asked k (Ok spec) go f stops.Memory f' n h took = record {
-    items = [];
-    mid = f;
-    taken = refl;
-    stops = subst (λ x. StopsWalk takes x f stops.Memory f') (sym (ap (λ x. x.next) h)) took;
-    turns = ap (λ x. x.turns) h;
-  }
-  stops_asked k (Ok spec) go f (stops.Width w) f' n h took = absurd took
-  stops_asked k (Ok spec) go f (stops.Defining w) f' n h took = absurd took
-  stops_asked k (Err why) go f w f' n h took = record { items = []; mid = f; taken = refl; stops = subst (λ x. StopsWalk takes x f w f') (sym (ap (λ x. x.next) h)) took; turns = ap (λ x. x.turns) h }
+  stops_asked k r go f why f' n h took = grind arith
 
   -- The walk stopped at a field that was not taken.
   pub stops_field : (over left : Rest → Rest) (fxy : ℕ) (s : OperatorModel) (f : S) (c : ℕ) (r : Result FieldSpec TurnRefusal) (why : WalkStop E) (f' : S) (c' : ℕ)
       → ((rest : Rest) (counts : List ℕ) (answers : List Taken) → counted_ahead table (over rest counts) s answers
       ≡ counted_asked r (λ u more. counted_ahead table (left rest counts) (after_field s fxy u) more) answers)
       → TakesField takes r f (Err why) f' → c' ≡ ticked c 1 → StopsIn takes table over s f c why f' c'
-  stops_field over left fxy s f c r why f' c' asks took tick = record {
-    turns = 1;
-    ticks = tick;
-    way = λ rest. stops_asked 0 r (λ u more. counted_ahead table (left rest []) (after_field s fxy u) more) f why f' _ (asks rest [] [] ∙ sym (later_none _)) took;
-  }
+  stops_field over left fxy s f c r why f' c' asks took tick = grind (arith, common_steps, stops_asked, counted_ahead, later_none)
 
   -- The walk stopped at the factor of a delayed group.
   pub stops_factor : (fxy : ℕ) (body more : Tree) (s : OperatorModel) (f : S) (c : ℕ) (r : Result FieldSpec TurnRefusal) (why : WalkStop E) (f' : S) (c' : ℕ) → r ≡ factor_spec table s fxy
       → TakesField takes r f (Err why) f' → c' ≡ ticked (ticked c 1) 1
       → (k : Rest → Rest) → StopsIn takes table (λ rest. unroll (delayed fxy body more) (k rest)) s f c why f' c'
-  stops_factor fxy body more s f c r why f' c' is took tick k = record {
-    turns = 2;
-    ticks = tick ∙ ticked_twice c 1 1;
-    way = λ rest. stops_asked 1 (factor_spec table s fxy) (λ u answers. counted_ahead table open_end (after_field s fxy u) answers) f why f' _ refl
-        (subst (λ q. TakesField takes q f (Err why) f') is took);
-  }
+  stops_factor fxy body more s f c r why f' c' is took tick k = grind (arith, ticked_twice)
 
   -- An operator that does not insert a text changes the operators in effect.
   operator_is : (over left : Rest → Rest) (fxy : ℕ) (s : OperatorModel) → is_inserted_text fxy ≡ false → ((rest : Rest) (counts : List ℕ) → over rest counts ≡ operator_turn fxy (left rest counts))
       → (rest : Rest) (counts : List ℕ) (answers : List Taken)
       → counted_ahead table (over rest counts) s answers ≡ counted_operated (after_operator s fxy) (λ s'. counted_ahead table (left rest counts) s' answers)
-  operator_is over left fxy s x is rest counts answers =
-      ap (λ ts. counted_ahead table ts s answers) (is rest counts)
-      ∙ ap (λ b. counted_either b (counted_asked (inserted_spec s fxy) (λ t more. counted_ahead table (left rest counts) (after_field s fxy t) more) answers) (counted_operated (after_operator s fxy)
-      (λ s'. counted_ahead table (left rest counts) s' answers))) x
+  operator_is over left fxy s x is rest counts answers = rw (is, x)
 
   pub inserted_is : (over left : Rest → Rest) (fxy : ℕ) (s : OperatorModel) → is_inserted_text fxy ≡ true → ((rest : Rest) (counts : List ℕ) → over rest counts ≡ operator_turn fxy (left rest counts))
       → (rest : Rest) (counts : List ℕ) (answers : List Taken)
       → counted_ahead table (over rest counts) s answers ≡ counted_asked (inserted_spec s fxy) (λ t more. counted_ahead table (left rest counts) (after_field s fxy t) more) answers
-  inserted_is over left fxy s x is rest counts answers =
-      ap (λ ts. counted_ahead table ts s answers) (is rest counts)
-      ∙ ap (λ b. counted_either b (counted_asked (inserted_spec s fxy) (λ t more. counted_ahead table (left rest counts) (after_field s fxy t) more) answers) (counted_operated (after_operator s fxy)
-      (λ s'. counted_ahead table (left rest counts) s' answers))) x
+  inserted_is over left fxy s x is rest counts answers = rw (is, x)
 
   pub came_operator : (over left : Rest → Rest) (fxy : ℕ) (s s' : OperatorModel) (f : S) (c c' : ℕ) → is_inserted_text fxy ≡ false
       → ((rest : Rest) (counts : List ℕ) → over rest counts ≡ operator_turn fxy (left rest counts)) → after_operator s fxy ≡ Ok s' → c' ≡ ticked c 1 → HasWalked takes table over left s f c s' f c'
@@ -327,15 +257,15 @@ module _ {S E : Type 0} (takes : S → FieldSpec → Result Taken E → S → Ty
 
 -- An operator inserts a text if, and only if, its X is 5.
 pub five_is : (fxy x : ℕ) → x ≡ x_of fxy → x ≡ 5 → is_inserted_text fxy ≡ true
-five_is fxy x e h = grind (arith, common_steps, nat_tests)
+five_is fxy x e h = cc
 
 pub five_is_not : (fxy x : ℕ) → x ≡ x_of fxy → (x ≡ 5 → ⊥) → is_inserted_text fxy ≡ false
-five_is_not fxy x e h = grind (arith, common_steps, nat_tests)
+five_is_not fxy x e h = grind arith
 
 -- ---- The maximum number of turns that are left, given the template.
 
 skip : (a b k : ℕ) (xs ys zs : List Cell) → drop a xs ≡ ys → drop b ys ≡ zs → k ≡ a + b → drop k xs ≡ zs
-skip a b k xs ys zs h g e = ap (λ j. drop j xs) e ∙ sym (drop-drop b a xs) ∙ ap (drop b) h ∙ g
+skip a b k xs ys zs h g e = cc (e, drop-drop b a xs, h, g)
 
 pub drop_head : (xs : List Cell) (p : ℕ) (y : Cell) (ys : List Cell) → drop p xs ≡ y ∷ ys → (p < length xs) × ((d : Cell) → get_or xs p d ≡ y) × (drop (p + 1) xs ≡ ys)
 drop_head [] zero y ys h = cc
@@ -372,14 +302,14 @@ drop_body t at tail = skip (size t) 1 (size t + 1) _ (cell.PassEnd ∷ tail) tai
 costs_drop : (xs : List Cell) (at i : ℕ) → get_or (costs xs at) i 0 ≡ get_or (costs (drop i xs) (at + i)) 0 0
 costs_drop [] at zero = refl
 costs_drop [] at (suc i) = refl
-costs_drop (x ∷ xs) at zero = ap (λ k. get_or (costs (x ∷ xs) k) 0 0) (let e : at ≡ at + 0 = omega arith in e)
-costs_drop (x ∷ xs) at (suc i) = costs_drop xs (at + 1) i ∙ ap (λ k. get_or (costs (drop i xs) k) 0 0) (let e : at + 1 + i ≡ at + suc i = omega arith in e)
+costs_drop (x ∷ xs) at zero = search (rules, costs)
+costs_drop (x ∷ xs) at (suc i) = costs_drop xs (at + 1) i ∙ ap (λ k. get_or (costs (drop i xs) k) 0 0) (omega arith)
 
 -- The cost after a jump is that of the cells at its target.
 jump : (xs ys : List Cell) (at after k : ℕ) → drop k xs ≡ ys → after ≡ at + k → get_or (costs xs at) (after - at) 0 ≡ get_or (costs ys after) 0 0
 jump xs ys at after k h e =
     costs_drop xs at (after - at)
-    ∙ ap (λ j. get_or (costs (drop j xs) (at + j)) 0 0) (let g : after - at ≡ k = omega arith in g)
+    ∙ ap (λ j. get_or (costs (drop j xs) (at + j)) 0 0) (omega arith)
     ∙ ap (λ z. get_or (costs z (at + k)) 0 0) h ∙ ap (λ j. get_or (costs ys j) 0 0) (sym e)
 
 pub cost_cells : (t : Tree) (at : ℕ) (tail : List Cell) → get_or (costs (cells_of t at tail) at) 0 0 ≡ worst t + get_or (costs tail (at + size t)) 0 0
@@ -406,8 +336,7 @@ cost_cells (delayed fxy body more) at tail =
     jump (cell.Factor fxy ∷ cells) (cells_of more after tail) (at + 1) after (size body + 2)
     (skip 1 (size body + 1) (size body + 2) _ cells (cells_of more after tail) refl (drop_body body (at + 2) (cells_of more after tail)) (omega arith)) (omega arith) ∙ cost_cells more after tail
     ∙ ap (λ k. worst more + get_or (costs tail k) 0 0) (let e : after + size more ≡ at + (3 + size body + size more) = omega arith in e) in
-    ap (λ x. 2 + 2 ^ 64 * (1 + x) + get_or (costs (cell.Factor fxy ∷ cells) (at + 1)) (after - (at + 1)) 0) b ∙ ap (λ y. 2 + 2 ^ 64 * (1 + worst body) + y) j
-    ∙ sym (add_assoc (2 + 2 ^ 64 * (1 + worst body)) (worst more) _)
+    cc (b, j, add_assoc (2 + 2 ^ 64 * (1 + worst body)) (worst more) _)
 
 -- At the end of a pass, and at the end of the template, the cost is 0.
 tail_costs : (groups : List OpenGroup) (at : ℕ) → get_or (costs (tail_of groups) at) 0 0 ≡ 0
@@ -416,9 +345,7 @@ tail_costs (s ∷ outer) at = refl
 
 -- The cost at a place is that of the nodes before which the walk is.
 pub cost_here : (cells : List Cell) (place : ℕ) (more : Tree) (groups : List OpenGroup) → drop place cells ≡ cells_of more place (tail_of groups) → get_or (costs cells 0) place 0 ≡ worst more
-cost_here cells place more groups h =
-    costs_drop cells 0 place ∙ ap (λ k. get_or (costs (drop place cells) k) 0 0) (zero-add place) ∙ ap (λ z. get_or (costs z place) 0 0) h
-    ∙ cost_cells more place (tail_of groups) ∙ ap (λ k. worst more + k) (tail_costs groups (place + size more)) ∙ add-zero (worst more)
+cost_here cells place more groups h = rw (costs_drop, zero-add, h, cost_cells, tail_costs, add-zero)
 
 pub owed_push : (cost : List ℕ) (frames : List Frame) (f : Frame) → owed cost (frames ++ f ∷ []) ≡ owed cost frames + (1 + f.left * (1 + get_or cost f.start 0) + get_or cost f.after 0)
 owed_push cost [] f = omega arith
@@ -460,7 +387,7 @@ module _ (cells : List Cell) where
   met place stack left d c st e =
       let k = spot _ st.0 st.1 place (meets st.0 st.1 place) in
       let r = drop_head cells place k.0 k.1 (st.2.here ∙ k.2) in
-      subst (λ l. Meets l st.0 st.1 place) (k.2 ∙ ap (λ x. x ∷ k.1) (sym (r.1 d) ∙ e) ∙ ap (λ xs. c ∷ xs) (sym r.2)) (meets st.0 st.1 place)
+      rw (k.2 ∙ ap (λ x. x ∷ k.1) (sym (r.1 d) ∙ e) ∙ ap (λ xs. c ∷ xs) (sym r.2)) at (meets st.0 st.1 place)
 
   frames_length : (groups : List OpenGroup) → length (frames_of groups) ≡ length groups
   frames_length [] = refl
@@ -490,7 +417,7 @@ module _ (cells : List Cell) where
       let f : Frame = record { start = start; after = after; left = m } in
       let same : stack' ≡ stack ++ f ∷ [] = e.1 ∙ ap (λ j. stack ++ (let g : Frame = record { start = start; after = after; left = j } in g) ∷ []) (let q : suc m - 1 ≡ m = omega arith in q) in
       let groups' : List OpenGroup = record { frame = f; body = body; more = more } ∷ groups in
-      let here : drop next cells ≡ cells_of body next (tail_of groups') = subst (λ p. drop p cells ≡ cells_of body p (tail_of groups')) (sym e.0) h1 in (
+      let here : drop next cells ≡ cells_of body next (tail_of groups') = cc in (
         λ k. unroll body (turns_after_pass groups' k),
         (body, groups', record { frames = same ∙ ap (λ fs. fs ++ f ∷ []) frames; here = here; deep = omega arith; legal = k1; outer = (h1, h2, d1, d2, k1, k2, outer); left_is = λ k counts. refl }),
         λ k counts. refl,
@@ -507,7 +434,7 @@ module _ (cells : List Cell) where
 
 -- the innermost of the open groups, and those around it
 pub innermost : (groups : List Frame) → 0 < length groups → (outer : List Frame) × (frame : Frame) × (groups ≡ outer ++ frame ∷ [])
-innermost [] some = absurd (omega (arith, some))
+innermost [] some = absurd (omega arith)
 innermost (frame ∷ []) some = ([], frame, refl)
 innermost (frame ∷ next ∷ more) some =
     let rest = innermost (next ∷ more) (omega arith) in
@@ -515,17 +442,12 @@ innermost (frame ∷ next ∷ more) some =
 
 -- If two lists are equal, so are their last items, and what is before these.
 last_is : (A : Type 0) (xs ys : List A) (x y : A) → xs ++ x ∷ [] ≡ ys ++ y ∷ [] → (xs ≡ ys) × (x ≡ y)
-last_is A [] [] x y h = (refl, cc)
-last_is A [] (b ∷ []) x y h = absurd cc
-last_is A [] (b ∷ c ∷ ys) x y h = absurd cc
-last_is A (a ∷ []) [] x y h = absurd cc
-last_is A (a ∷ b ∷ xs) [] x y h = absurd cc
-last_is A (a ∷ xs) (b ∷ ys) x y h = let t : xs ++ x ∷ [] ≡ ys ++ y ∷ [] = cc in let r = last_is A xs ys x y t in let e : a ≡ b = cc in (ap (λ z. z ∷ xs) e ∙ ap (λ zs. b ∷ zs) r.0, r.1)
+last_is A xs ys x y h = grind (arith, common_steps)
 
 module _ {S E : Type 0} (takes : S → FieldSpec → Result Taken E → S → Type 0) (table : List Row) (cells : List Cell) where
   -- A walk before these nodes is before any equal nodes.
   moved : (place : ℕ) (stack : List Frame) (left : Rest → Rest) (st : IsAtCell cells place stack left) (t : Tree) → st.0 ≡ t → IsAtNodes cells place stack left t st.1
-  moved place stack left st t e = subst (λ x. IsAtNodes cells place stack left x st.1) e st.2
+  moved place stack left st t e = grind arith
 
   -- The walk advances by one cell.
   pub turn_on : (place : ℕ) (stack : List Frame) (left : Rest → Rest) (groups : List OpenGroup) (more : Tree) (before : Tree) (s s' : OperatorModel) (f f' : S) (c c' : ℕ)
@@ -534,9 +456,9 @@ module _ {S E : Type 0} (takes : S → FieldSpec → Result Taken E → S → Ty
       → Turned takes table cells left place stack s f c (Ok (Some (place + 1))) stack s' f' c'
   turn_on place stack left groups more before s s' f f' c c' at next deep cost legal came = (
     λ k. unroll more (turns_after_pass groups k),
-    (more, groups, record { frames = at.frames; here = next; deep = subst (λ d. length groups + d ≤ 32) deep at.deep; legal = legal; outer = at.outer; left_is = λ k counts. refl }),
+    (more, groups, record { frames = at.frames; here = next; deep = rw (← deep) at.deep; legal = legal; outer = at.outer; left_is = λ k counts. refl }),
     came_then takes table (came_none takes table left (λ k. unroll before (turns_after_pass groups k)) s f c at.left_is) came,
-    omega (arith, cost_here cells place before groups at.here, cost_here cells (place + 1) more groups next),
+    omega (arith, cost_here),
   )
 
   pub turn_element : (place : ℕ) (stack : List Frame) (left : Rest → Rest) (d : Cell) (fxy : ℕ) (s s' : OperatorModel) (f f' : S) (c c' : ℕ) (r : Result FieldSpec TurnRefusal) (t : Taken)
@@ -548,7 +470,7 @@ module _ {S E : Type 0} (takes : S → FieldSpec → Result Taken E → S → Ty
       turn_on place stack left st.1 i.0 (element fxy i.0) s s' f f' c c' at i.2 refl refl at.legal.1
       (subst (λ z. HasWalked takes table (λ k. unroll (element fxy i.0) (turns_after_pass st.1 k)) (λ k. unroll i.0 (turns_after_pass st.1 k)) s f c z f' c') (sym answers)
       (came_field takes table (λ k. unroll (element fxy i.0) (turns_after_pass st.1 k)) (λ k. unroll i.0 (turns_after_pass st.1 k)) fxy s f c (element_spec table s fxy) t f' c'
-      (λ rest counts answers. refl) (element_role table s fxy) (subst (λ q. TakesField takes q f (Ok t) f') spec took) tick))
+      (λ rest counts answers. refl) (element_role table s fxy) (rw spec at took) tick))
 
   pub fail_element : (place : ℕ) (stack : List Frame) (left : Rest → Rest) (d : Cell) (fxy : ℕ) (s : OperatorModel) (f f' : S) (c c' : ℕ) (r : Result FieldSpec TurnRefusal) (why : WalkStop E)
       → IsAtCell cells place stack left → get_or cells place d ≡ cell.Element fxy → r ≡ element_spec table s fxy → TakesField takes r f (Err why) f' → c' ≡ ticked c 1
@@ -558,13 +480,13 @@ module _ {S E : Type 0} (takes : S → FieldSpec → Result Taken E → S → Ty
       let at : IsAtNodes cells place stack left (element fxy i.0) st.1 = moved place stack left st _ i.1 in
       came_stops takes table why (came_none takes table left (λ k. unroll (element fxy i.0) (turns_after_pass st.1 k)) s f c at.left_is)
       (stops_field takes table (λ k. unroll (element fxy i.0) (turns_after_pass st.1 k)) (λ k. unroll i.0 (turns_after_pass st.1 k)) fxy s f c (element_spec table s fxy) why f' c'
-      (λ rest counts answers. refl) (subst (λ q. TakesField takes q f (Err why) f') spec took) tick)
+      (λ rest counts answers. refl) (rw spec at took) tick)
 
   pub operator_legal : (place : ℕ) (stack : List Frame) (left : Rest → Rest) (d : Cell) (fxy : ℕ) → IsAtCell cells place stack left → get_or cells place d ≡ cell.Operator fxy
       → is_legal_operator fxy ≡ true
   operator_legal place stack left d fxy st e =
       let i = met cells place stack left d (cell.Operator fxy) st e in
-      (moved place stack left st _ i.1).legal.1.0
+      search (rules, moved)
 
   pub turn_inserted : (place : ℕ) (stack : List Frame) (left : Rest → Rest) (d : Cell) (fxy : ℕ) (s s' : OperatorModel) (f f' : S) (c c' : ℕ) (r : Result FieldSpec TurnRefusal) (t : Taken)
       → IsAtCell cells place stack left → get_or cells place d ≡ cell.Operator fxy → is_inserted_text fxy ≡ true → r ≡ inserted_spec s fxy → TakesField takes r f (Ok t) f' → c' ≡ ticked c 1
@@ -577,7 +499,7 @@ module _ {S E : Type 0} (takes : S → FieldSpec → Result Taken E → S → Ty
       turn_on place stack left st.1 i.0 (operator fxy i.0) s s' f f' c c' at i.2 refl refl at.legal.1.1.1
       (subst (λ z. HasWalked takes table over next s f c z f' c') (sym answers)
       (came_field takes table over next fxy s f c (inserted_spec s fxy) t f' c' (inserted_is takes table over next fxy s x (λ rest counts. refl)) (inserted_role s fxy)
-      (subst (λ q. TakesField takes q f (Ok t) f') spec took) tick))
+      (rw spec at took) tick))
 
   pub fail_inserted : (place : ℕ) (stack : List Frame) (left : Rest → Rest) (d : Cell) (fxy : ℕ) (s : OperatorModel) (f f' : S) (c c' : ℕ) (r : Result FieldSpec TurnRefusal) (why : WalkStop E)
       → IsAtCell cells place stack left → get_or cells place d ≡ cell.Operator fxy → is_inserted_text fxy ≡ true → r ≡ inserted_spec s fxy → TakesField takes r f (Err why) f' → c' ≡ ticked c 1
@@ -589,7 +511,7 @@ module _ {S E : Type 0} (takes : S → FieldSpec → Result Taken E → S → Ty
       let next : Rest → Rest = λ k. unroll i.0 (turns_after_pass st.1 k) in
       came_stops takes table why (came_none takes table left over s f c at.left_is)
       (stops_field takes table over next fxy s f c (inserted_spec s fxy) why f' c' (inserted_is takes table over next fxy s x (λ rest counts. refl))
-      (subst (λ q. TakesField takes q f (Err why) f') spec took) tick)
+      (rw spec at took) tick)
 
   pub turn_operator : (place : ℕ) (stack : List Frame) (left : Rest → Rest) (d : Cell) (fxy : ℕ) (s s' : OperatorModel) (f : S) (c c' : ℕ) → IsAtCell cells place stack left
       → get_or cells place d ≡ cell.Operator fxy → is_inserted_text fxy ≡ false → after_operator s fxy ≡ Ok s' → c' ≡ ticked c 1
@@ -597,8 +519,7 @@ module _ {S E : Type 0} (takes : S → FieldSpec → Result Taken E → S → Ty
   turn_operator place stack left d fxy s s' f c c' st e x answers tick =
       let i = met cells place stack left d (cell.Operator fxy) st e in
       let at : IsAtNodes cells place stack left (operator fxy i.0) st.1 = moved place stack left st _ i.1 in
-      turn_on place stack left st.1 i.0 (operator fxy i.0) s s' f f c c' at i.2 refl refl at.legal.1.1.1
-      (came_operator takes table (λ k. unroll (operator fxy i.0) (turns_after_pass st.1 k)) (λ k. unroll i.0 (turns_after_pass st.1 k)) fxy s s' f c c' x (λ rest counts. refl) answers tick)
+      search (rules, turn_on, came_operator)
 
   pub fail_operator : (place : ℕ) (stack : List Frame) (left : Rest → Rest) (d : Cell) (fxy : ℕ) (s : OperatorModel) (f : S) (c c' : ℕ) (why : TurnRefusal) → IsAtCell cells place stack left
       → get_or cells place d ≡ cell.Operator fxy → is_inserted_text fxy ≡ false → after_operator s fxy ≡ Err why → c' ≡ ticked c 1 → StopsIn takes table left s f c (stop_by why) f c'
@@ -611,7 +532,7 @@ module _ {S E : Type 0} (takes : S → FieldSpec → Result Taken E → S → Ty
   -- the cells after a body and the end of its pass
   past_body : (start after : ℕ) (body m : Tree) (tail : List Cell) → after ≡ start + (size body + 1) → drop start cells ≡ cells_of body start (cell.PassEnd ∷ cells_of m after tail)
       → drop after cells ≡ cells_of m after tail
-  past_body start after body m tail e h = ap (λ j. drop j cells) e ∙ sym (drop-drop (size body + 1) start cells) ∙ ap (drop (size body + 1)) h ∙ drop_body body start (cells_of m after tail)
+  past_body start after body m tail e h = cc (e, drop-drop (size body + 1) start cells, drop_body body start (cells_of m after tail))
 
   stack_length : (place : ℕ) (stack : List Frame) (left : Rest → Rest) (st : IsAtCell cells place stack left) → length stack ≡ length st.1
   stack_length place stack left st = ap length st.2.frames ∙ frames_length cells st.1
@@ -620,14 +541,12 @@ module _ {S E : Type 0} (takes : S → FieldSpec → Result Taken E → S → Ty
       → length stack < 32
   fixed_room place stack left d count after st e =
       let i = met cells place stack left d (cell.Fixed count after) st e in
-      let deep : length st.1 + depth (fixed count i.0 i.1) ≤ 32 = subst (λ x. length st.1 + depth x ≤ 32) i.2 st.2.deep in
-      omega (arith, deep, stack_length place stack left st)
+      omega (arith, rw (i.2) at st.2.deep, stack_length place stack left st)
 
   pub delayed_room : (place : ℕ) (stack : List Frame) (left : Rest → Rest) (d : Cell) (after : ℕ) → IsAtCell cells place stack left → get_or cells place d ≡ cell.Delayed after → length stack < 32
   delayed_room place stack left d after st e =
       let i = met cells place stack left d (cell.Delayed after) st e in
-      let deep : length st.1 + depth (delayed i.0 i.1 i.2) ≤ 32 = subst (λ x. length st.1 + depth x ≤ 32) i.3 st.2.deep in
-      omega (arith, deep, stack_length place stack left st)
+      omega (arith, rw (i.3) at st.2.deep, stack_length place stack left st)
 
   -- The factor of a delayed replication is in the next cell.
   pub factor_next : (place : ℕ) (stack : List Frame) (left : Rest → Rest) (d : Cell) (after : ℕ) → IsAtCell cells place stack left → get_or cells place d ≡ cell.Delayed after
@@ -647,9 +566,9 @@ module _ {S E : Type 0} (takes : S → FieldSpec → Result Taken E → S → Ty
       let m : Tree = i.1 in
       let at : IsAtNodes cells place stack left (fixed count body m) st.1 = moved place stack left st _ i.2 in
       let h1 : drop (place + 1) cells ≡ cells_of body (place + 1) (cell.PassEnd ∷ cells_of m after (tail_of st.1)) =
-      subst (λ a. drop (place + 1) cells ≡ cells_of body (place + 1) (cell.PassEnd ∷ cells_of m a (tail_of st.1))) (sym i.3) i.4 in
+      rw (← i.3) at i.4 in
       let h2 : drop after cells ≡ cells_of m after (tail_of st.1) =
-      past_body (place + 1) after body m (tail_of st.1) (i.3 ∙ (let q : place + 2 + size body ≡ place + 1 + (size body + 1) = omega arith in q)) h1 in
+      past_body (place + 1) after body m (tail_of st.1) (i.3 ∙ (omega arith)) h1 in
       let en = entered cells count body m st.1 (place + 1) after next stack stack' none some at.frames h1 h2 (omega (arith, at.deep)) (omega (arith, at.deep)) at.legal.0 at.legal.1 at.outer in (
         en.0,
         en.1,
@@ -657,7 +576,7 @@ module _ {S E : Type 0} (takes : S → FieldSpec → Result Taken E → S → Ty
             (came_then takes table (came_turn takes table (λ k. unroll (fixed count body m) (turns_after_pass st.1 k)) (λ k. passes count (unroll body) (unroll m (turns_after_pass st.1 k))) s f c c'
             tick (λ rest counts items. refl))
             (came_none takes table (λ k. passes count (unroll body) (unroll m (turns_after_pass st.1 k))) en.0 s f c' en.2)),
-        omega (arith, en.3, cost_here cells place (fixed count body m) st.1 at.here),
+        omega (arith, en.3, cost_here),
       )
 
   pub turn_delayed : (place : ℕ) (stack : List Frame) (left : Rest → Rest) (d d2 : Cell) (after count next fxy : ℕ) (stack' : List Frame) (s s' : OperatorModel) (f f' : S) (c c' c'' : ℕ)
@@ -670,12 +589,11 @@ module _ {S E : Type 0} (takes : S → FieldSpec → Result Taken E → S → Ty
       let body : Tree = i.1 in
       let m : Tree = i.2 in
       let head = drop_head cells (place + 1) _ _ i.5 in
-      let same : i.0 ≡ fxy = let q : ◌≡◌ {A = Cell} (cell.Factor i.0) (cell.Factor fxy) = sym (head.1 d2) ∙ e2 in cc in
-      let at : IsAtNodes cells place stack left (delayed fxy body m) st.1 = moved place stack left st _ (i.3 ∙ ap (λ w. delayed w body m) same) in
+      let at : IsAtNodes cells place stack left (delayed fxy body m) st.1 = moved place stack left st _ (i.3 ∙ ap (λ w. delayed w body m) (grind (arith, common_steps))) in
       let h1 : drop (place + 2) cells ≡ cells_of body (place + 2) (cell.PassEnd ∷ cells_of m after (tail_of st.1)) =
       ap (λ j. drop j cells) (let q : place + 2 ≡ place + 1 + 1 = omega arith in q) ∙ head.2 ∙ ap (λ a. cells_of body (place + 2) (cell.PassEnd ∷ cells_of m a (tail_of st.1))) (sym i.4) in
       let h2 : drop after cells ≡ cells_of m after (tail_of st.1) =
-      past_body (place + 2) after body m (tail_of st.1) (i.4 ∙ (let q : place + 3 + size body ≡ place + 2 + (size body + 1) = omega arith in q)) h1 in
+      past_body (place + 2) after body m (tail_of st.1) (i.4 ∙ (omega arith)) h1 in
       let en = entered cells count body m st.1 (place + 2) after next stack stack' none some at.frames h1 h2 (omega (arith, at.deep)) (omega (arith, at.deep)) at.legal.1.0 at.legal.1.1 at.outer in
       let set : s' ≡ after_field s fxy (taken.Count count) = answers ∙ ap (after_field s fxy) is in (
         en.0,
@@ -695,8 +613,7 @@ module _ {S E : Type 0} (takes : S → FieldSpec → Result Taken E → S → Ty
   fail_delayed place stack left d d2 after fxy s f f' c c' c'' r why st e e2 spec took tick tock =
       let i = met cells place stack left d (cell.Delayed after) st e in
       let head = drop_head cells (place + 1) _ _ i.5 in
-      let same : i.0 ≡ fxy = let q : ◌≡◌ {A = Cell} (cell.Factor i.0) (cell.Factor fxy) = sym (head.1 d2) ∙ e2 in cc in
-      let at : IsAtNodes cells place stack left (delayed fxy i.1 i.2) st.1 = moved place stack left st _ (i.3 ∙ ap (λ w. delayed w i.1 i.2) same) in
+      let at : IsAtNodes cells place stack left (delayed fxy i.1 i.2) st.1 = moved place stack left st _ (i.3 ∙ ap (λ w. delayed w i.1 i.2) (grind (arith, common_steps))) in
       came_stops takes table why (came_none takes table left (λ k. unroll (delayed fxy i.1 i.2) (turns_after_pass st.1 k)) s f c at.left_is)
       (stops_factor takes table fxy i.1 i.2 s f c r why f' c'' spec took (tock ∙ ap (λ j. ticked j 1) tick) (turns_after_pass st.1))
 
@@ -721,7 +638,7 @@ module _ {S E : Type 0} (takes : S → FieldSpec → Result Taken E → S → Ty
       let last = last_is Frame stack1 (frames_of outer) frame g.frame (sym popped ∙ at.frames) in
       let en = entered cells g.frame.left g.body g.more outer g.frame.start g.frame.after next stack1 stack'
       (subst (λ (w : Frame). w.left ≡ 0 → (next ≡ w.after) × (stack' ≡ stack1)) last.1 none)
-      (subst (λ (w : Frame). 0 < w.left → (next ≡ w.start) × (stack' ≡ stack1 ++ record { start = w.start; after = w.after; left = w.left - 1 } ∷ [])) last.1 some)
+      (rw (← last.1) some)
       last.0 at.outer.0 at.outer.1 at.outer.2 at.outer.3 at.outer.4 at.outer.5 at.outer.6 in (
         en.0,
         en.1,
@@ -736,7 +653,7 @@ module _ {S E : Type 0} (takes : S → FieldSpec → Result Taken E → S → Ty
           ap (owed (costs cells 0)) (popped ∙ ap (λ w. stack1 ++ w ∷ []) last.1),
           owed_push (costs cells 0) stack1 g.frame,
           ap (λ x. g.frame.left * (1 + x)) (cost_here cells g.frame.start g.body (g ∷ outer) at.outer.0),
-          cost_here cells g.frame.after g.more outer at.outer.1,
+          cost_here,
         ),
       )
 
@@ -744,8 +661,7 @@ module _ {S E : Type 0} (takes : S → FieldSpec → Result Taken E → S → Ty
       → c' ≡ ticked c 1 → Turned takes table cells left place stack s f c (Ok None) stack s f c'
   turn_finish place stack left d s f c c' st e tick =
       let i = met cells place stack left d cell.Finish st e in
-      let half : IsAtNodes cells place stack left bare st.1 = moved place stack left st _ i.1 in
-      let at : IsAtNodes cells place stack left bare [] = subst (λ x. IsAtNodes cells place stack left bare x) i.0 half in
+      let at : IsAtNodes cells place stack left bare [] = search (rules, moved) in
       (at.left_is, refl, refl, tick)
 
 -- At first, a walk is before the whole template.
@@ -771,5 +687,4 @@ module _ {S E : Type 0} (takes : S → FieldSpec → Result Taken E → S → Ty
 
   -- At first, a walk has made no turn.
   pub came_begun : (template : Tree) (s : OperatorModel) (f : S) (c : ℕ) → s ≡ begin → HasWalked takes table (unroll template) (unroll template) begin f c s f c
-  came_begun template s f c e = subst (λ z. HasWalked takes table (unroll template) (unroll template) begin f c z f c) (sym e)
-      (came_none takes table (unroll template) (unroll template) begin f c (λ rest counts. refl))
+  came_begun template s f c e = grind arith

@@ -1,7 +1,7 @@
 -- If each field that a walk takes is a step of a pass, the walk makes this pass.
-use Rattle.std.proofs.Common.{◌≡◌, ℕ, List, [], ◌∷◌, ◌++◌, Result, Ok, Err, Option, Some, None, zero, suc, ◌+◌, ◌-◌, ◌<◌, length, refl, sym, ◌∙◌, ap, subst, arith, append_assoc, append-nil}
-use Rattle.bufr_walk.specs.Prelude.{Taken, FieldSpec, TurnRefusal, WalkStop, Course, CountedCourse, uncounted, Next, take_next, at_end, refused, astray, TakenField, Takes, oks, answers_of, Walked, ticked, Item, answers_in, stop_by, StopsWalk}
-use Rattle.bufr_walk.specs.Pass.{Passing, Pass, Step, empty_pass, item_then, pass, pass_next, pass_field, EndsPass}
+use Rattle.std.proofs.Common.{◌≡◌, ℕ, List, [], ◌∷◌, ◌++◌, Result, Ok, Err, Option, zero, suc, ◌+◌, ◌-◌, ◌<◌, length, refl, sym, ◌∙◌, ap, subst, arith, append_assoc, append-nil}
+use Rattle.bufr_walk.specs.Prelude.{Taken, FieldSpec, TurnRefusal, WalkStop, Course, CountedCourse, uncounted, Next, take_next, at_end, refused, TakenField, Takes, oks, answers_of, Walked, ticked, Item, answers_in, stop_by, StopsWalk}
+use Rattle.bufr_walk.specs.Pass.{Passing, Pass, Step, empty_pass, pass, pass_next, pass_field, EndsPass}
 use Rattle.bufr_walk.specs.declared.spec.Role.TheVariants as role
 use Rattle.bufr_walk.specs.declared.walker.WalkStop.TheVariants as stops
 use Rattle.bufr_walk.proofs.WalkLemmas.{stop_cases}
@@ -25,11 +25,7 @@ module _ {T C E : Type 0} (how : Passing T C E) where
 
   -- If what comes next ends the pass, the pass has no more items.
   pub at_last : (next : Next) (p : T) (stop : Option E) (go : Step T C → Pass T C E) → EndsPass how next p stop → pass_next how next p go ≡ empty_pass p stop
-  at_last (take_next spec) p None go h = absurd h
-  at_last (take_next spec) p (Some why) go h = ap (λ r. pass_field how spec p r go) h
-  at_last at_end p stop go h = ap (empty_pass p) (sym h)
-  at_last (refused why) p stop go h = ap (empty_pass p) (sym h)
-  at_last astray p stop go h = absurd h
+  at_last next p stop go h = grind arith
 
   module _ (answers : List Taken) (course : Course) (p : T) (items : List (Item C)) (state : T) (most : ℕ) (h : Passes answers course p items state) (lt : length items < most) where
     goes_on : (go : Step T C → Pass T C E) × (pass how most course p ≡ items_before items (pass_next how (course answers) state go))
@@ -57,15 +53,13 @@ module _ {T C E : Type 0} (how : Passing T C E) where
     )
 
   pub passes_none : (course : Course) (p : T) → Passes [] course p [] p
-  passes_none course p most left e = let same : most ≡ left = omega (arith, e) in ap (λ n. pass how n course p) same
+  passes_none course p most left e = let same : most ≡ left = omega arith in rw same
 
   pub passes_one : (answers : List Taken) (course : Course) (p : T) (spec : FieldSpec) (c : C) (t : Taken) (mid : T) (items : List (Item C)) (state : T) → course [] ≡ take_next spec
       → how.step spec p ≡ Ok (record { content = c; returned = t; state = mid }) → Passes answers (λ more. course (t ∷ more)) mid items state
       → Passes (t ∷ answers) course p (item spec c ∷ items) state
-  passes_one answers course p spec c t mid items state n step h zero left e = absurd (omega (arith, e))
-  passes_one answers course p spec c t mid items state n step h (suc most) left e =
-      let go : Step T C → Pass T C E = λ f. pass how most (λ more. course (f.returned ∷ more)) f.state in
-      ap (λ x. pass_next how x p go) n ∙ ap (λ x. pass_field how spec p x go) step ∙ ap (item_then spec c) (h most left (omega (arith, e)))
+  passes_one answers course p spec c t mid items state n step h zero left e = absurd (omega arith)
+  passes_one answers course p spec c t mid items state n step h (suc most) left e = cc (step, h most left (omega (arith, e)))
 
 -- the progress of a walk: the items of its pass so far, and the turns up to what comes next
 pub record Comes {T C E : Type 0} (how : Passing T C E) (gives : FieldSpec → C → Taken) (course : CountedCourse) (p : T) (steps steps' : ℕ) : Type 0 where
