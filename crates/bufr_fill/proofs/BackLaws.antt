@@ -1,6 +1,6 @@
 -- Bits that are written from drafts read back as the contents of the drafts.
-use Rattle.std.proofs.lemmas.List.{drop_all}
-use Rattle.std.proofs.Common.{◌≡◌, ℕ, zero, suc, ◌+◌, ◌*◌, ◌≤◌, Bool, true, false, List, [], ◌∷◌, ◌++◌, length, drop, Option, Some, None, Result, Ok, Err, refl, sym, ◌∙◌, ap, subst, arith, append_assoc, slice_get, if◌then◌else◌}
+use Rattle.std.proofs.lemmas.Grind.{common_steps}
+use Rattle.std.proofs.Common.{◌≡◌, ℕ, zero, suc, ◌+◌, ◌*◌, ◌≤◌, Bool, true, false, List, [], ◌∷◌, ◌++◌, length, drop, Option, Some, None, Result, Ok, Err, refl, sym, ◌∙◌, ap, subst, arith, append_assoc, slice_get, if◌then◌else◌, rules}
 use Rattle.bufr_fill.proofs.FieldLemmas.{same_ok}
 use Rattle.bufr_fill.proofs.EntryLemmas.{length-cells}
 use Rattle.std.proofs.lemmas.Bool.{ltb-false}
@@ -37,10 +37,7 @@ module _ {C D E : Type 0} (form : DataCoding C) (filler : Filler D C E) (of_item
     (same_answer : (spec : FieldSpec) (c : C) → filler.gives spec c ≡ form.gives spec c)
     (one : (spec : FieldSpec) (d : D) (w : WrittenItem C) → IsSpec spec → HasText d → filler.fills spec d ≡ Ok w → IsOneBack form of_item spec d w) where
   back_end : (course : Course) (out : List Bool) (n : Next) → course [] ≡ n → fill_at filler course [] n ≡ Ok out → IsBack form of_item course [] out
-  back_end course out (take_next spec) q e = cc
-  back_end course out at_end q e = record { items = []; said = tt; read = λ more. ap (λ x. x ++ more) (sym (same_ok [] out e)); end = q }
-  back_end course out astray q e = cc
-  back_end course out (refused why) q e = cc
+  back_end course out n q e = search rules
 
   module _ (course : Course) (d : D) (ds : List D) (out : List Bool) (good : IsGoodCourse course) (text : HasText d)
       (others : (next : Course) (rest : List Bool) → IsGoodCourse next → fill filler next ds ≡ Ok rest → IsBack form of_item next ds rest) where
@@ -88,7 +85,7 @@ plain_one end_line spec d w good text e = by_content (content_of spec d) refl e
     by_content (Ok c) p q =
         let fits : Fits spec c = draft_fits spec d c text p in
         let is : written_item c (bits_for spec.width c) ≡ w = same_ok (written_item c (bits_for spec.width c)) w q in
-        subst (λ v. IsOneBack plain IsSaid spec d v) is (record { said = p; within = answer_within spec.role spec c good good.role fits; read = plain_again spec good c fits })
+        rw (← is) (record { said = p; within = answer_within spec.role spec c good good.role fits; read = plain_again spec good c fits })
 
 module _ (course : Course) (sane : (m : ℕ) → IsSane m course) (good : IsGoodCourse course) where
   plain_join : (s : Subset) (ss : List Subset) (out : List Bool) → AllByRecursion (λ (d : Draft). HasOctets d.form) s.items
@@ -159,7 +156,7 @@ cells_join spec cell cells cs text others (Ok c) (Ok rest) p q e =
 
 cells_said : (spec : FieldSpec) (cells : List RowCell) (cs : List Content) → AllByRecursion (λ (cell : RowCell). OctetsIn cell.draft) cells → contents_here spec cells ≡ Ok cs
     → AreCellsSaid spec cells cs
-cells_said spec [] cs text e = subst (AreCellsSaid spec []) (same_ok [] cs e) (record { said = tt; fits = tt; count = refl })
+cells_said spec [] cs text e = grind (arith, common_steps, same_ok)
 cells_said spec (cell ∷ cells) cs text e = cells_join spec cell cells cs text.0 (λ rest q. cells_said spec cells rest text.1 q) (content_here spec cell.draft cell.end_line) (contents_here spec cells)
     refl refl e
 
@@ -179,7 +176,7 @@ packed_one n some spec a w good row e = by_many (would_be_many (length a.cells) 
   where
     by_list : (cs : List Content) (bits : List Bool) → (a.index + 1) * n ≤ max_values → AreCellsSaid spec a.cells cs → packing spec cs ≡ Ok bits
         → IsOneBack (packed n) (IsSaidAcross n) spec a (written_item cs bits)
-    by_list [] bits few are q = absurd (omega (arith, some, are.count, row.0))
+    by_list [] bits few are q = absurd (omega (arith, are.count, row.0))
     by_list (c ∷ cs) bits few are q = record {
       said = (are.said, few);
       within = answer_within spec.role spec c good good.role are.fits.0;
@@ -201,7 +198,7 @@ packed_one n some spec a w good row e = by_many (would_be_many (length a.cells) 
     by_many : (b : Bool) → would_be_many (length a.cells) a.index ≡ b → (if b then Err (at_line (first_line a.cells) (too_many_values spec.fxy)) else
         (contents_here spec a.cells >>= λ cs. result_map_both (written_item cs) (packing_fault cs a.cells) (packing spec cs))) ≡ Ok w → IsOneBack (packed n) (IsSaidAcross n) spec a w
     by_many true p q = cc
-    by_many false p q = by_contents (subst (λ k. (a.index + 1) * k ≤ max_values) row.0 (few_of a.index (length a.cells) p)) (contents_here spec a.cells) refl q
+    by_many false p q = by_contents (rw (← row.0) (few_of a.index (length a.cells) p)) (contents_here spec a.cells) refl q
 
 -- ---- Rows and subsets.
 
@@ -242,12 +239,12 @@ rows_said n items more h = absurd h
 
 first_subset : (j count from : ℕ) (s : Subset) (ss : List Subset) (items : List (Item (List Content))) → RowsSaid j items (rows count from (s ∷ ss)) → length s.items ≤ from + count
     → AreDrafts IsSaid (items_of_subset j items) (drop from s.items)
-first_subset j zero from s ss [] h l = subst (AreDrafts IsSaid []) (sym (drop_all from s.items (omega (arith, l)))) tt
+first_subset j zero from s ss [] h l = grind (arith, common_steps, l)
 first_subset j zero from s ss (i ∷ items) h l = absurd h
 first_subset j (suc count) from s ss [] h l = absurd h
 first_subset j (suc count) from s ss (i ∷ items) h l =
     let g = draft_next i.spec (content_at j i.content) s.items from h.0.0 in
-    subst (AreDrafts IsSaid (items_of_subset j (i ∷ items))) (sym g.1) (g.2, first_subset j count (from + 1) s ss items h.1 (omega (arith, l)))
+    subst (AreDrafts IsSaid (items_of_subset j (i ∷ items))) (sym g.1) (g.2, first_subset j count (from + 1) s ss items h.1 (omega arith))
 
 other_subsets : (j count from : ℕ) (s : Subset) (ss : List Subset) (items : List (Item (List Content))) → RowsSaid j items (rows count from (s ∷ ss)) → RowsSaid (suc j) items (rows count from ss)
 other_subsets j zero from s ss [] h = tt
@@ -257,16 +254,16 @@ other_subsets j (suc count) from s ss (i ∷ items) h = (h.0.1, other_subsets j 
 
 all_subsets : (j count : ℕ) (ss : List Subset) (items : List (Item (List Content))) → RowsSaid j items (rows count 0 ss) → most_items ss ≤ count → AreSaid (subsets_from (length ss) j items) ss
 all_subsets j count [] items h l = tt
-all_subsets j count (s ∷ ss) items h l = (first_subset j count 0 s ss items h (omega (arith, l)), all_subsets (suc j) count ss items (other_subsets j count 0 s ss items h) (omega (arith, l)))
+all_subsets j count (s ∷ ss) items h l = (first_subset j count 0 s ss items h (omega arith), all_subsets (suc j) count ss items (other_subsets j count 0 s ss items h) (omega arith))
 
 few_rows : (n count from : ℕ) (ss : List Subset) (items : List (Item (List Content))) → from * n ≤ max_values → AreDrafts (IsSaidAcross n) items (rows count from ss)
     → (from + length items) * n ≤ max_values
-few_rows n zero from ss [] few h = let q : from ≡ from + 0 = omega arith in subst (λ k. k * n ≤ max_values) q few
+few_rows n zero from ss [] few h = omega arith
 few_rows n zero from ss (i ∷ items) few h = absurd h
 few_rows n (suc count) from ss [] few h = absurd h
 few_rows n (suc count) from ss (i ∷ items) few h =
     let q : from + 1 + length items ≡ from + length (i ∷ items) = omega arith in
-    subst (λ k. k * n ≤ max_values) q (few_rows n count (from + 1) ss items h.0.1 h.1)
+    rw q at (few_rows n count (from + 1) ss items h.0.1 h.1)
 
 packed_back : (table : List Row) (template : Tree) (read : AreRead table) (legal : IsLegal template) (ss : List Subset) (out : List Bool) → AllHaveOctets ss
     → packed_data (next_item table template) ss ≡ Ok out → IsReadBack (next_item table template) true ss out
@@ -283,11 +280,10 @@ packed_back table template read legal (s ∷ ss) out text e =
       values = together b.items;
       said = all_subsets 0 most (s ∷ ss) b.items (rows_said n b.items (rows most 0 (s ∷ ss)) b.said) (omega arith);
       read = items_read (next_item table template) (legal_sane table template read legal) (length ss) b.items out b.read b.end
-          (subst (λ k. k * n ≤ max_values) zero_more (few_rows n most 0 (s ∷ ss) b.items (omega arith) b.said));
+          (rw zero_more at (few_rows n most 0 (s ∷ ss) b.items (omega arith) b.said));
     }
 
 pub read_back : (table : List Row) (template : Tree) → AreRead table → IsLegal template → (compressed : Bool) (drafts : List Subset) (bits : List Bool) → AllHaveOctets drafts
     → data_bits compressed (next_item table template) drafts ≡ Ok bits → IsReadBack (next_item table template) compressed drafts bits
 read_back table template read legal true drafts bits text e = packed_back table template read legal drafts bits text e
-read_back table template read legal false drafts bits text e =
-    plain_back (next_item table template) (legal_sane table template read legal) (next_field table template read legal) drafts bits text e
+read_back table template read legal false drafts bits text e = search (rules, plain_back, legal_sane, next_field)

@@ -1,17 +1,13 @@
 -- Stored entries, and where the subsets among them begin and end.
 use Rattle.std.proofs.lemmas.Grind.{common_steps}
-use Rattle.std.proofs.Common.{◌≡◌, ℕ, zero, suc, ◌+◌, ◌-◌, ◌≤◌, ◌<◌, Bool, List, [], ◌∷◌, ◌++◌, true, false, length, drop, get_or, min, Option, Some, None, refl, sym, ◌∙◌, ap, arith, add-one, map, length-append, ◌/◌, Result, Ok, Err, subst, slice_get, ◌==◌, slice_range, IfSome}
-use Rattle.bufr_tables.proofs.TableBLemmas.{range-append}
-use Rattle.std.proofs.lemmas.List.Sums.{sum_by-append}
+use Rattle.std.proofs.Common.{◌≡◌, ℕ, zero, suc, ◌+◌, ◌-◌, ◌≤◌, ◌<◌, Bool, List, [], ◌∷◌, ◌++◌, true, false, length, drop, get_or, min, Option, Some, None, refl, sym, ◌∙◌, ap, arith, add-one, length-append, ◌/◌, Result, Ok, Err, slice_get, ◌==◌, slice_range, IfSome, rules}
 use Rattle.std.proofs.Math.Seq.{drop-cons, drop-append_seam}
 use Rattle.std.proofs.lemmas.List.{map-append, take_all, drop_all}
 use Rattle.std.proofs.lemmas.Option.{none-some, slice_get-get_or, slice_get_within, get_or_from_slice_get}
-use Rattle.std.proofs.lemmas.Bool.Decides.{nat_tests}
-use Rattle.bufr_fill.specs.Prelude.{ValueKind, Taken, Draft, DraftEntry, Holds, Ends, Subset, subset, prepend_to_subset, subsets_of, ItemFault, DraftFault, at_line, item_too_many, RowCell, cells_at, map_err, entry_or_end, ends_of, entry_here, is_end, value_by, entry_by, entry_with, entries_stored, AreOctetsInside, draft, number_token, text_form, reference_token, IsEntryInside, AreInside, octets_stored, line_at, PlainOutModel, plain_out_model, IsFilled, IsFaultOf, IfDraftFault, after_end, FieldContent, content_of, padded_content}
+use Rattle.bufr_fill.specs.Prelude.{ValueKind, Taken, Draft, DraftEntry, Holds, Ends, Subset, subset, prepend_to_subset, subsets_of, ItemFault, DraftFault, at_line, item_too_many, RowCell, cells_at, map_err, entry_or_end, ends_of, entry_here, is_end, value_by, entry_with, entries_stored, AreOctetsInside, IsEntryInside, AreInside, octets_stored, line_at, PlainOutModel, plain_out_model, IsFilled, IsFaultOf, IfDraftFault, after_end, FieldContent, content_of, padded_content}
 use Rattle.bufr_fill.specs.declared.draft.StoredEntry.{StoredEntry}
 use Rattle.bufr_walk.specs.Prelude.{FieldSpec, Content, answer_of, bits_for}
 use Rattle.bufr_fill.specs.declared.fault.DraftFault.TheVariants as draft_fault
-use Rattle.bufr_fill.specs.declared.draft.ValueKind.TheVariants as kind
 
 -- the index at which the entries of a subset begin, given the indices of the ends
 abbrev pub begin_of : (from : ℕ) → List ℕ → (subset : ℕ) → ℕ
@@ -82,16 +78,16 @@ slice_get-drop : {X : Type 0} (n : ℕ) (xs : List X) (k : ℕ) → slice_get (d
 slice_get-drop zero [] k = refl
 slice_get-drop zero (x ∷ xs) k = let e : k ≡ 0 + k = omega arith in ap (slice_get (x ∷ xs)) e
 slice_get-drop (suc n) [] k = refl
-slice_get-drop (suc n) (x ∷ xs) k = let e : suc n + k ≡ suc (n + k) = omega arith in slice_get-drop n xs k ∙ ap (slice_get (x ∷ xs)) (sym e)
+slice_get-drop (suc n) (x ∷ xs) k = let e : suc n + k ≡ suc (n + k) = omega arith in cc (slice_get-drop n xs k)
 
 -- A subset begins after the end of the previous one.
 begin_after : (from : ℕ) (ends : List ℕ) (s : ℕ) (d : ℕ) → s < length ends → begin_of from ends (suc s) ≡ suc (get_or ends s d)
-begin_after from [] s d h = absurd (omega (arith, h))
+begin_after from [] s d h = absurd (omega arith)
 begin_after from (e ∷ ends) zero d h = refl
-begin_after from (e ∷ ends) (suc s) d h = begin_after (suc e) ends s d (omega (arith, h))
+begin_after from (e ∷ ends) (suc s) d h = begin_after (suc e) ends s d (omega arith)
 
 pub begin_more : (ends : List ℕ) (s : ℕ) (d : ℕ) → 1 ≤ s → s < length ends → begin_of 0 ends s ≡ get_or ends (s - 1) d + 1
-begin_more ends s d some h = grind (arith, common_steps, begin_after, next)
+begin_more ends s d some h = grind (arith, begin_after)
 
 pub length-prepended : (d : Draft) (ss : List Subset) → length (prepend_to_subset d ss) ≡ length ss
 length-prepended d [] = refl
@@ -116,14 +112,8 @@ module _ (index : ℕ) (e : ℕ) (c : RowCell) where
       → IsSubsetEnd index 0 from xs (x ∷ rest) e c
   at_first from xs x rest k p q =
       let same : x ≡ e = cc in
-      let cell : ◌≡◌ {A = Option RowCell} (Some (record { draft = slice_get k.items index; end_line = k.line })) (Some c) = sym (ap (λ ss. slice_get (cells_at index ss) 0) k.subsets) ∙ q in
-      let is : record { draft = slice_get k.items index; end_line = k.line } ≡ c = some_same (record { draft = slice_get k.items index; end_line = k.line }) c cell in
       let m : min e (from + index) - from ≡ min (length k.items) index = omega (arith, same, k.index) in
-      record {
-        begins = omega arith;
-        ends_at = omega (arith, same, k.index);
-        there = ap (slice_get xs) m ∙ k.there index ∙ ap (λ (z : RowCell). Some (entry_or_end z.draft z.end_line)) is;
-      }
+      grind arith
 
   further : (from : ℕ) (xs : List DraftEntry) (s x : ℕ) (rest : List ℕ) (k : Cut from xs x rest) → IsSubsetEnd index s (suc x) (drop (suc (length k.items)) xs) rest e c
       → IsSubsetEnd index (suc s) from xs (x ∷ rest) e c
@@ -148,14 +138,14 @@ pub entry_there : (index s : ℕ) (xs : List DraftEntry) (e : ℕ) (c : RowCell)
     → slice_get xs (min e (begin_of 0 (ends_of 0 xs) s + index)) ≡ Some (entry_or_end c.draft c.end_line)
 entry_there index s xs e c h g =
     let m : min e (begin_of 0 (ends_of 0 xs) s + index) - 0 ≡ min e (begin_of 0 (ends_of 0 xs) s + index) = omega arith in
-    sym (ap (slice_get xs) m) ∙ (subset_end_at index e c s 0 xs (ends_of 0 xs) refl h g).there
+    cc (m, (subset_end_at index e c s 0 xs (ends_of 0 xs) refl h g).there)
 
 -- the same for an end that the code reads
 pub end_small : (from : ℕ) (xs : List DraftEntry) (s : ℕ) (z : ℕ) → s < length (ends_of from xs) → get_or (ends_of from xs) s z < from + length xs
-end_small from [] s z h = absurd (omega (arith, h))
+end_small from [] s z h = absurd (omega arith)
 end_small from (Holds d ∷ more) s z h = omega (arith, end_small (from + 1) more s z h)
 end_small from (Ends line ∷ more) zero z h = omega arith
-end_small from (Ends line ∷ more) (suc s) z h = omega (arith, end_small (from + 1) more s z (omega (arith, h)))
+end_small from (Ends line ∷ more) (suc s) z h = omega (arith, end_small (from + 1) more s z (omega arith))
 
 -- If the code finds nothing at an index, the list is not longer than the index.
 pub none_there : {X : Type 0} (xs : List X) (s : ℕ) → None ≡ slice_get xs s → length xs ≤ s
@@ -169,7 +159,7 @@ none_end xs e = by (subsets_of xs) (length-subsets 0 xs ∙ ap length e)
   where
     by : (ss : List Subset) → length ss ≡ 0 → ss ≡ []
     by [] h = refl
-    by (s ∷ ss) h = absurd (omega (arith, h))
+    by (s ∷ ss) h = absurd (omega arith)
 
 pub length-cells : (index : ℕ) (ss : List Subset) → length (cells_at index ss) ≡ length ss
 length-cells index [] = refl
@@ -179,13 +169,13 @@ pub count_cells : (index : ℕ) (xs : List DraftEntry) (ends : List ℕ) → end
 count_cells index xs ends e = length-cells index (subsets_of xs) ∙ length-subsets 0 xs ∙ ap length (sym e)
 
 pub end_within : (xs : List DraftEntry) (ends : List ℕ) (s : ℕ) → ends ≡ ends_of 0 xs → s < length ends → get_or ends s 0 < length xs
-end_within xs ends s e h = omega (arith, ap (λ l. get_or l s 0) e, end_small 0 xs s 0 (omega (arith, h, ap length e)))
+end_within xs ends s e h = omega (arith, ap (λ l. get_or l s 0) e, end_small 0 xs s 0 (omega (arith, ap length e)))
 
 -- The entry that the code finds is the one in the cell of the subset.
 pub found_entry : (index s : ℕ) (xs : List DraftEntry) (ends : List ℕ) (z : ℕ) (begin : ℕ) (e : DraftEntry) → ends ≡ ends_of 0 xs → s < length ends → begin ≡ begin_of 0 ends s
     → slice_get xs (min (get_or ends s z) (begin + index)) ≡ Some e
     → (c : RowCell) → slice_get (cells_at index (subsets_of xs)) s ≡ Some c → e ≡ entry_or_end c.draft c.end_line
-found_entry index s xs ends z begin e is h b found c cell = grind (arith, common_steps, slice_get, slice_get-get_or, entry_there)
+found_entry index s xs ends z begin e is h b found c cell = search (rules, slice_get-get_or, entry_there)
 
 pub ends_few : (from : ℕ) (xs : List DraftEntry) → length (ends_of from xs) ≤ length xs
 ends_few from [] = omega arith
@@ -194,7 +184,7 @@ ends_few from (Ends line ∷ more) = omega (arith, ends_few (from + 1) more)
 
 pub empty_is : (xs : List ℕ) (n : ℕ) → n ≡ length xs → (n == 0) ≡ true → xs ≡ []
 empty_is [] n e h = refl
-empty_is (x ∷ xs) n e h = grind (arith, common_steps, nat_tests)
+empty_is (x ∷ xs) n e h = grind arith
 
 -- ---- Entries that are stored with their octets in a block.
 
@@ -204,20 +194,11 @@ range-after xs ys j e = rw (drop-append_seam xs ys) (take_all (j - length xs) ys
 
 value-append : (k : ValueKind) (octets more : List ℕ) (start end : ℕ) → AreOctetsInside k (length octets) start end
     → value_by k start (slice_range (octets ++ more) start end) ≡ value_by k start (slice_range octets start end)
-value-append (kind.Decimal places negative) octets more start end h = refl
-value-append kind.Number octets more start end h = ap number_token (range-append octets more start end h.0 h.1)
-value-append kind.Text octets more start end h = ap text_form (range-append octets more start end h.0 h.1)
-value-append kind.Missing octets more start end h = refl
-value-append kind.Reference octets more start end h = ap reference_token (range-append octets more start end h.0 h.1)
+value-append k octets more start end h = grind (arith, common_steps)
 
 entry-append : (octets more : List ℕ) (one : StoredEntry) → IsEntryInside (length octets) one
     → entry_with one (slice_range (octets ++ more) one.start one.end) ≡ entry_with one (slice_range octets one.start one.end)
-entry-append octets more one inside = by one.kind inside
-  where
-    by : (k : Option ValueKind) → IfSome k (λ k. AreOctetsInside k (length octets) one.start one.end)
-        → entry_by k one.line one.fxy one.start (slice_range (octets ++ more) one.start one.end) ≡ entry_by k one.line one.fxy one.start (slice_range octets one.start one.end)
-    by None h = refl
-    by (Some k) h = ap (λ v. Holds (draft one.line one.fxy v)) (value-append k octets more one.start one.end h)
+entry-append octets more one inside = search (rules, value-append)
 
 entries-append : (octets more : List ℕ) (cells : List StoredEntry) → AreInside (length octets) cells → entries_stored (octets ++ more) cells ≡ entries_stored octets cells
 entries-append octets more [] all = refl
@@ -227,16 +208,11 @@ entries-append octets more (one ∷ cells) (here, all) = rw (entry-append octets
 pub entries-push : (octets more new : List ℕ) (cells kept : List StoredEntry) (one : StoredEntry) (e : DraftEntry) → AreInside (length octets) cells → new ≡ octets ++ more → kept ≡ cells ++ one ∷ []
     → one.start ≡ length octets → one.end ≡ length new → entry_with one more ≡ e
     → entries_stored new kept ≡ entries_stored octets cells ++ e ∷ []
-entries-push octets more new cells kept one e all is grown from at said = grind (arith, common_steps, length-append, slice_range, range-after, map-append, map, entries-append)
+entries-push octets more new cells kept one e all is grown from at said = search (rules, length-append, range-after, map-append, entries-append)
 
 -- Octets that are inside a block are inside a larger one, too.
 inside-greater : (n n' : ℕ) (k : Option ValueKind) (start end : ℕ) → n ≤ n' → IfSome k (λ k. AreOctetsInside k n start end) → IfSome k (λ k. AreOctetsInside k n' start end)
-inside-greater n n' None start end more h = tt
-inside-greater n n' (Some (kind.Decimal places negative)) start end more h = tt
-inside-greater n n' (Some kind.Number) start end more h = (h.0, omega (arith, h.1, more))
-inside-greater n n' (Some kind.Text) start end more h = (h.0, omega (arith, h.1, more))
-inside-greater n n' (Some kind.Missing) start end more h = (h.0, omega (arith, h.1, more))
-inside-greater n n' (Some kind.Reference) start end more h = (h.0, omega (arith, h.1, more))
+inside-greater n n' k start end more h = grind arith
 
 inside-push : (n n' : ℕ) (cells : List StoredEntry) (one : StoredEntry) → n ≤ n' → AreInside n cells → IsEntryInside n' one → AreInside n' (cells ++ one ∷ [])
 inside-push n n' [] one more all last = (last, tt)
@@ -247,15 +223,12 @@ inside-push n n' (cell ∷ cells) one more (here, all) last = (inside-greater n 
 pub stored-push : (n n' : ℕ) (cells kept : List StoredEntry) (one : StoredEntry) → AreInside n cells → n ≡ octets_stored cells → kept ≡ cells ++ one ∷ [] → n' ≡ n + (one.end - one.start)
     → IsEntryInside n' one
     → AreInside n' kept × (n' ≡ octets_stored kept)
-stored-push n n' cells kept one all stored is more last =
-    let S : List StoredEntry → Type 0 = λ l. AreInside n' l × (n' ≡ octets_stored l) in
-    subst S (sym is) (inside-push n n' cells one (omega (arith, more)) all last, omega (arith, stored, more, sum_by-append (λ e. e.end - e.start) cells (one ∷ [])))
+stored-push n n' cells kept one all stored is more last = grind (arith, common_steps, inside-push)
 
 -- one more entry, without octets
 pub entries-more : (octets : List ℕ) (cells kept : List StoredEntry) (one : StoredEntry) (e : DraftEntry) → kept ≡ cells ++ one ∷ [] → entry_with one (slice_range octets one.start one.end) ≡ e
     → entries_stored octets kept ≡ entries_stored octets cells ++ e ∷ []
-entries-more octets cells kept one e is said =
-    ap (entries_stored octets) is ∙ map-append (λ x. entry_with x (slice_range octets x.start x.end)) cells (one ∷ []) ∙ ap (λ x. entries_stored octets cells ++ x ∷ []) said
+entries-more octets cells kept one e is said = rw (is, map-append, said)
 
 pub length-entries : (octets : List ℕ) (cells : List StoredEntry) → length (entries_stored octets cells) ≡ length cells
 length-entries octets [] = refl
@@ -268,33 +241,30 @@ ends_before_item from (Holds x ∷ xs) d = ends_before_item (from + 1) xs d
 ends_before_item from (Ends line ∷ xs) d = ap (λ l. from ∷ l) (ends_before_item (from + 1) xs d)
 
 pub ends_after_item : (xs ys : List DraftEntry) (ends : List ℕ) (d : Draft) → ends ≡ ends_of 0 xs → ys ≡ xs ++ Holds d ∷ [] → ends ≡ ends_of 0 ys
-ends_after_item xs ys ends d before is = before ∙ sym (ends_before_item 0 xs d) ∙ ap (ends_of 0) (sym is)
+ends_after_item xs ys ends d before is = simp (before, ends_before_item, is)
 
 -- one more end is the last of the ends
 ends_before_end : (from : ℕ) (xs : List DraftEntry) (line n : ℕ) → n ≡ from + length xs → ends_of from (xs ++ Ends line ∷ []) ≡ ends_of from xs ++ n ∷ []
-ends_before_end from [] line n e = let same : from ≡ n = omega (arith, e) in ap (λ k. k ∷ []) same
-ends_before_end from (Holds x ∷ xs) line n e = ends_before_end (from + 1) xs line n (omega (arith, e))
-ends_before_end from (Ends end ∷ xs) line n e = ap (λ l. from ∷ l) (ends_before_end (from + 1) xs line n (omega (arith, e)))
+ends_before_end from [] line n e = grind arith
+ends_before_end from (Holds x ∷ xs) line n e = ends_before_end (from + 1) xs line n (omega arith)
+ends_before_end from (Ends end ∷ xs) line n e = ap (λ l. from ∷ l) (ends_before_end (from + 1) xs line n (omega arith))
 
 pub ends_after_end : (xs ys : List DraftEntry) (ends new : List ℕ) (line n : ℕ) → ends ≡ ends_of 0 xs → ys ≡ xs ++ Ends line ∷ [] → n ≡ length xs → new ≡ ends ++ n ∷ [] → new ≡ ends_of 0 ys
-ends_after_end xs ys ends new line n before is count grown =
-    grown ∙ ap (λ l. l ++ n ∷ []) before ∙ sym (ends_before_end 0 xs line n (omega (arith, count))) ∙ ap (ends_of 0) (sym is)
+ends_after_end xs ys ends new line n before is count grown = cc (grown, ends_before_end 0 xs line n (omega arith))
 
 -- The line of an entry is the stored one.
 pub line-is : (k : StoredEntry) (octets : List ℕ) → entry_line (entry_with k octets) ≡ k.line
-line-is k octets = grind (arith, common_steps)
+line-is k octets = grind arith
 
 -- It is also the line of entries that begin with this entry.
 pub line-with : (k : StoredEntry) (octets : List ℕ) (more : List DraftEntry) → line_at (entry_with k octets ∷ more) ≡ k.line
-line-with k octets more = grind (arith, common_steps, line-is)
+line-with k octets more = grind arith
 
 -- ---- One item that the code writes, in plain data.
 
 -- The entries from an index on are the entry at the index and those after it.
 pub next_there : (entries : List DraftEntry) (index : ℕ) (e : DraftEntry) → slice_get entries index ≡ Some e → drop index entries ≡ e ∷ drop (index + 1) entries
-next_there entries index e here =
-    drop-cons entries index e (slice_get_within entries index e here) ∙ ap (λ x. x ∷ drop (suc index) entries) (get_or_from_slice_get entries index e e here)
-    ∙ ap (λ j. e ∷ drop j entries) (sym (add-one index))
+next_there entries index e here = cc (drop-cons entries index e (slice_get_within entries index e here), get_or_from_slice_get entries index e e here, add-one index)
 
 pub filled_here : (entries : List DraftEntry) (index : ℕ) (e : DraftEntry) (spec : FieldSpec) (d : FieldContent) (t : Taken) (old new : List Bool) (s : PlainOutModel)
     → plain_out_model (drop index entries) old ≡ s → slice_get entries index ≡ Some e
@@ -303,7 +273,7 @@ pub filled_here : (entries : List DraftEntry) (index : ℕ) (e : DraftEntry) (sp
     → IsFilled s spec t (plain_out_model (drop (index + 1) entries) new)
 filled_here entries index (Ends line) spec d t old new s view here said gives bits forth = absurd cc
 filled_here entries index (Holds item) spec d t old new s view here said gives bits forth =
-    subst (λ z. IsFilled z spec t (plain_out_model (drop (index + 1) entries) new)) view (record {
+    rw (← view) (record {
       draft = item;
       content = padded_content (spec.width / 8) d;
       here = next_there entries index (Holds item) here;
@@ -320,10 +290,10 @@ filled_here entries index (Holds item) spec d t old new s view here said gives b
 -- If the code finds an entry, it is the first of the writer's remaining entries.
 pub left_there : (entries : List DraftEntry) (index : ℕ) (old : List Bool) (s : PlainOutModel) (e : DraftEntry) → plain_out_model (drop index entries) old ≡ s → Some e ≡ slice_get entries index
     → s.left ≡ e ∷ drop (index + 1) entries
-left_there entries index old s e view here = grind (arith, common_steps, next_there)
+left_there entries index old s e view here = grind (arith, next_there)
 
 pub left_none : (entries : List DraftEntry) (index : ℕ) (old : List Bool) (s : PlainOutModel) → plain_out_model (drop index entries) old ≡ s → None ≡ slice_get entries index → s.left ≡ []
-left_none entries index old s view here = sym (ap (λ (p : PlainOutModel). p.left) view) ∙ drop_all index entries (none_there entries index here)
+left_none entries index old s view here = cc (view, drop_all index entries (none_there entries index here))
 
 -- The fault of the next entry is the one that is defined.
 pub item_fault : (spec : FieldSpec) (more : List DraftEntry) (fault : DraftFault) (e : DraftEntry) → Err fault ≡ entry_here spec e

@@ -1,18 +1,18 @@
 -- How an item becomes the content of its field, and the bits of this content.
 use Rattle.std.proofs.lemmas.Grind.{common_steps}
-use Rattle.std.proofs.Common.{Result, Ok, ◌≡◌, ℕ, zero, suc, ◌+◌, ◌-◌, ◌*◌, ◌/◌, ◌%◌, ◌^◌, ◌<◌, ◌≤◌, ◌&&◌, eqb, Bool, true, false, List, [], ◌∷◌, ◌++◌, length, take, drop, replicate, get_or, refl, sym, ◌∙◌, ap, subst, arith, ℤ, pos, negsuc, neg_ℤ, nat_abs, mod-eq_of_lt, Ok, Err, pow_mono, ◌<ℤ◌, ◌≤ℤ◌, not, ◌==◌, if◌then◌else◌, nat_lt, unsigned_abs, Some}
+use Rattle.std.proofs.Common.{Result, Ok, ◌≡◌, ℕ, zero, suc, ◌+◌, ◌-◌, ◌*◌, ◌/◌, ◌%◌, ◌^◌, ◌<◌, ◌≤◌, ◌&&◌, eqb, Bool, true, false, List, [], ◌∷◌, ◌++◌, length, take, drop, replicate, get_or, refl, sym, ◌∙◌, ap, subst, arith, ℤ, pos, negsuc, neg_ℤ, nat_abs, mod-eq_of_lt, Ok, Err, pow_mono, ◌<ℤ◌, ◌≤ℤ◌, ◌==◌, if◌then◌else◌, nat_lt, unsigned_abs, Some, rules}
 use Rattle.std.specs.List.{list_all}
 use Rattle.bufr_fill.specs.declared.draft.StoredEntry.{StoredEntry}
 use Rattle.bufr_bits.proofs.DecimalLemmas.{and_second}
-use Rattle.std.proofs.lemmas.List.{nil_from_length, take-append-drop, take_at, drop_at, length-replicate, length-take-le, length-drop, append-nil, take-replicate, drop-replicate}
+use Rattle.std.proofs.lemmas.List.{nil_from_length, take-append-drop, length-replicate, length-take-le, length-drop, take-replicate, drop-replicate}
 use Rattle.std.proofs.lemmas.Bool.Decides.{nat_tests}
 use Rattle.std.proofs.lemmas.Nat.{shr_high}
 use Rattle.bufr_bits.specs.Prelude.{bits_of, bits_of_octet, bits_in, number_after_bits, number_of, are_all_ones}
 use Rattle.bufr_bits.proofs.BitLemmas.{are_all_ones-bits_of, bit, number_after_bits-is, number_of-below, number-bits_of_octet, length-bits_of, bits_in-above, bits_in-octet, length-bits_in, number_of-bits_in, are_all_ones-number, and_false}
 use Rattle.bufr_walk.specs.Prelude.{HasWidth, FieldSpec, is_reference, Content, number, text, missing, octets_in, signed_by, content_by, Coding, coding_by, numbers, texts, sign_bit, bits_for, answer_of, answer_by_role, count_in, reference_in}
-use Rattle.bufr_fill.specs.Prelude.{Role, Kind, AreOctets, FitsKind, FitsNumber, FitsText, raw_limit, is_of, is_marked, wrong_for, content_by_form, Draft, draft, ValueKind, value_by, entry_by, entry_with, entry_here, map_err, at_line}
+use Rattle.bufr_fill.specs.Prelude.{Role, Kind, AreOctets, FitsKind, FitsNumber, FitsText, raw_limit, is_of, is_marked, wrong_for, content_by_form, Draft, draft, ValueKind, value_by, entry_with, entry_here, map_err, at_line}
 use Rattle.std.proofs.lemmas.Int.{ints}
-use Rattle.std.proofs.lemmas.Bool.{false≢true, eq-eqb, eqb-true}
+use Rattle.std.proofs.lemmas.Bool.{eq-eqb, eqb-true}
 use Rattle.bufr_tables.specs.declared.table_b.Kind.TheVariants as kind
 use Rattle.bufr_walk.specs.declared.spec.Role.TheVariants as role
 use Rattle.bufr_walk.specs.declared.spec.Taken.TheVariants as taken
@@ -33,7 +33,7 @@ pub number_again : (v w : ℕ) → v < 2 ^ w → number_of (bits_in v w) ≡ v
 number_again v w h = number_of-bits_in v w ∙ mod-eq_of_lt h
 
 pub ones_test : (xs : List Bool) (w : ℕ) → length xs ≡ w → eqb (number_of xs) (2 ^ w - 1) ≡ are_all_ones xs
-ones_test xs w e = subst (λ n. eqb (number_of xs) (2 ^ n - 1) ≡ are_all_ones xs) e (are_all_ones-number xs)
+ones_test xs w e = grind (arith, are_all_ones-number)
 
 pub same_ok : {A E : Type 0} (a b : A) → ◌≡◌ {A = Result A E} (Ok a) (Ok b) → a ≡ b
 same_ok a b e = cc
@@ -43,7 +43,7 @@ top_below true w v h = omega arith
 top_below false w v h = h
 
 not_ones : (v w : ℕ) → v < 2 ^ w - 1 → eqb v (2 ^ w - 1) ≡ false
-not_ones v w h = grind (arith, nat_tests)
+not_ones v w h = grind arith
 
 -- A number below the limit does not read as missing.
 not_missing : (m : Bool) (w v : ℕ) (b : Bool) → v < raw_limit m w → (m ≡ true → b ≡ eqb v (2 ^ w - 1)) → (b && m) ≡ false
@@ -71,13 +71,7 @@ below_top true xs w e h =
 pub octets_again : (octets : List ℕ) → AreOctets octets → octets_in (length octets) (bits_of octets) ≡ octets
 unfolding bits_of
 octets_again [] h = refl
-octets_again (x ∷ xs) h =
-    let first : take 8 (bits_of (x ∷ xs)) ≡ bits_of_octet x = take_at (bits_of_octet x) (bits_of xs) 8 refl in
-    let rest : drop 8 (bits_of (x ∷ xs)) ≡ bits_of xs = drop_at (bits_of_octet x) (bits_of xs) 8 refl in
-    ap (λ bs. number_of bs ∷ octets_in (length xs) (drop 8 (bits_of (x ∷ xs)))) first
-    ∙ ap (λ n. n ∷ octets_in (length xs) (drop 8 (bits_of (x ∷ xs)))) (number-bits_of_octet x h.0)
-    ∙ ap (λ bs. x ∷ octets_in (length xs) bs) rest
-    ∙ ap (λ os. x ∷ os) (octets_again xs h.1)
+octets_again (x ∷ xs) h = grind (arith, octets_again xs h.1, number-bits_of_octet)
 
 pub length-octets_in : (n : ℕ) (bits : List Bool) → length (octets_in n bits) ≡ n
 length-octets_in zero bits = refl
@@ -87,7 +81,7 @@ pub octets_in-are : (n : ℕ) (bits : List Bool) → length bits ≡ 8 * n → A
 octets_in-are zero bits h = tt
 octets_in-are (suc n) bits h =
     let l : length (take 8 bits) ≡ 8 = length-take-le 8 bits (omega arith) in
-    (subst (λ k. number_of (take 8 bits) < 2 ^ k) l (number_of-below (take 8 bits)), octets_in-are n (drop 8 bits) (omega (arith, length-drop 8 bits)))
+    (rw l at (number_of-below (take 8 bits)), octets_in-are n (drop 8 bits) (omega (arith, length-drop 8 bits)))
 
 octet_at : (xs : List ℕ) → AreOctets xs → (k : ℕ) → get_or xs k 0 < 256
 octet_at [] h k = omega arith
@@ -102,7 +96,7 @@ bit_test true = refl
 bit_test false = refl
 
 pub first_bit : (b : Bool) (v k : ℕ) → v < 2 ^ k → eqb ((bit b * 2 ^ k + v) / 2 ^ k % 2) 1 ≡ b
-first_bit b v k h = ap (λ q. eqb (q % 2) 1) (shr_high (bit b) k v h) ∙ bit_test b
+first_bit b v k h = rw (shr_high, bit_test)
 
 -- The bits of the number that is read from bits are these bits.
 pub bits_again : (xs : List Bool) → bits_in (number_of xs) (length xs) ≡ xs
@@ -110,14 +104,12 @@ unfolding bits_in
 bits_again [] = refl
 bits_again (x ∷ xs) =
     let e : number_of (x ∷ xs) ≡ bit x * 2 ^ length xs + number_of xs = ap (λ n. number_after_bits n xs) (omega arith) ∙ number_after_bits-is (bit x) xs in
-    ap (λ n. bits_in n (suc (length xs))) e
-    ∙ ap (λ b. b ∷ bits_in (bit x * 2 ^ length xs + number_of xs) (length xs)) (first_bit x (number_of xs) (length xs) (number_of-below xs))
-    ∙ ap (λ bs. x ∷ bs) (bits_in-above (bit x) (number_of xs) (length xs) ∙ bits_again xs)
+    grind (arith, first_bit x (number_of xs) (length xs) (number_of-below xs), bits_in-above (bit x) (number_of xs) (length xs) ∙ bits_again xs)
 
 octet_again : (xs : List Bool) → length xs ≡ 8 → bits_of_octet (number_of xs) ≡ xs
 octet_again xs e =
-    let below : number_of xs < 256 = subst (λ k. number_of xs < 2 ^ k) e (number_of-below xs) in
-    ap bits_of_octet (sym (mod-eq_of_lt below)) ∙ sym (bits_in-octet (number_of xs)) ∙ ap (bits_in (number_of xs)) (sym e) ∙ bits_again xs
+    let below : number_of xs < 256 = rw e at (number_of-below xs) in
+    cc (mod-eq_of_lt below, bits_in-octet (number_of xs), bits_again xs)
 
 -- The bits of the octets that are read from bits are these bits.
 pub octet_bits_again : (n : ℕ) (bits : List Bool) → length bits ≡ 8 * n → bits_of (octets_in n bits) ≡ bits
@@ -125,9 +117,7 @@ unfolding bits_of
 octet_bits_again zero bits h = sym (nil_from_length bits (omega arith))
 octet_bits_again (suc n) bits h =
     let l : length (take 8 bits) ≡ 8 = length-take-le 8 bits (omega arith) in
-    ap (λ bs. bs ++ bits_of (octets_in n (drop 8 bits))) (octet_again (take 8 bits) l)
-    ∙ ap (λ bs. take 8 bits ++ bs) (octet_bits_again n (drop 8 bits) (omega (arith, length-drop 8 bits)))
-    ∙ take-append-drop 8 bits
+    cc (octet_again (take 8 bits) l, octet_bits_again n (drop 8 bits) (omega (arith, length-drop 8 bits)), take-append-drop 8 bits)
 
 module _ (w : ℕ) where
   pub number_back : (m : Bool) (raw : ℕ) → raw < raw_limit m w → (are_all_ones (bits_in raw w) && m) ≡ false
@@ -142,17 +132,15 @@ module _ (w : ℕ) where
   by_test b c d e h = h
 
   chosen_no : (b : Bool) (c d : Content) → b ≡ false → c ≡ d → (if b then missing else c) ≡ d
-  chosen_no b c d e h = ap (λ x. if x then missing else c) e ∙ h
+  chosen_no b c d e h = cc (e)
 
   chosen_yes : (b : Bool) (c : Content) → b ≡ true → (if b then missing else c) ≡ missing
-  chosen_yes b c e = ap (λ x. if x then missing else c) e
+  chosen_yes b c e = rw e
 
   -- A content that fits is read back from its bits, whatever its kind is.
   pub kind_back : (k : Kind) (m : Bool) (c : Content) → HasWidth k w → FitsKind k m w c → content_by (coded k w m) (bits_for w c) ≡ c
   kind_back kind.Character m missing hw h = chosen_yes (are_all_ones (replicate w true)) _ (ones_set w)
-  kind_back kind.Character m (text octets) hw h =
-      chosen_no (are_all_ones (bits_of octets)) (text (octets_in (w / 8) (bits_of octets))) (text octets) (full_test octets h.1 ∙ h.2)
-      (ap (λ n. text (octets_in n (bits_of octets))) (sym h.0) ∙ ap text (octets_again octets h.1))
+  kind_back kind.Character m (text octets) hw h = search (rules, chosen_no, full_test, octets_again)
   kind_back kind.Character m c hw h = absurd h
   kind_back k m (number raw) hw h = chosen_no (are_all_ones (bits_in raw w) && m) (number (number_of (bits_in raw w))) (number raw) (number_back m raw h)
       (ap number (number_again raw w (top_below m w raw h)))
@@ -163,12 +151,7 @@ module _ (w : ℕ) where
   eighths h = omega arith
 
   pub kind_length : (k : Kind) (m : Bool) (c : Content) → HasWidth k w → FitsKind k m w c → length (bits_for w c) ≡ w
-  kind_length kind.Character m missing hw h = length-replicate w true
-  kind_length kind.Character m (text octets) hw h = length-bits_of octets ∙ ap (λ n. 8 * n) h.0 ∙ eighths hw.2
-  kind_length kind.Character m c hw h = absurd h
-  kind_length k m (number raw) hw h = length-bits_in raw w
-  kind_length k m missing hw h = length-replicate w true
-  kind_length k m c hw h = absurd h
+  kind_length k m c hw h = search (rules, length-replicate, length-bits_of, length-bits_in)
 
   text_fits : (b : Bool) (bits : List Bool) → length bits ≡ w → w % 8 ≡ 0 → are_all_ones bits ≡ b → FitsText (w / 8) (if b then missing else text (octets_in (w / 8) bits))
   text_fits true bits l whole e = tt
@@ -183,39 +166,34 @@ module _ (w : ℕ) where
 
   -- The content of any bits of this width fits the field.
   pub kind_fits : (k : Kind) (m : Bool) (bits : List Bool) → length bits ≡ w → HasWidth k w → FitsKind k m w (content_by (coded k w m) bits)
-  kind_fits kind.Character m bits l hw = text_fits (are_all_ones bits) bits l hw.2 refl
-  kind_fits kind.Coded m bits l hw = number_fits (are_all_ones bits && m) m bits l refl
-  kind_fits kind.Numeric m bits l hw = number_fits (are_all_ones bits && m) m bits l refl
+  kind_fits k m bits l hw = search (rules, text_fits, number_fits)
 
 -- A redefined reference is read back from its sign and its magnitude.
 pub signed_back : (v : ℤ) (w : ℕ) → nat_abs v < 2 ^ (w - 1) → signed_by (sign_bit v ∷ bits_in (nat_abs v) (w - 1)) ≡ v
 signed_back (pos n) w h = ap pos (number_again n (w - 1) h)
-signed_back (negsuc n) w h = ap (λ k. neg_ℤ (pos k)) (number_again (suc n) (w - 1) h)
+signed_back (negsuc n) w h = rw number_again
 
 abs_neg : (n : ℕ) → nat_abs (neg_ℤ (pos n)) ≡ n
 abs_neg zero = refl
 abs_neg (suc n) = refl
 
 pub signed_below : (bits : List Bool) (w : ℕ) → length bits ≡ w → 1 ≤ w → nat_abs (signed_by bits) < 2 ^ (w - 1)
-signed_below [] w e h = absurd (omega (arith, e, h))
-signed_below (true ∷ bits) w e h = grind (arith, common_steps, abs_neg, number_of-below)
-signed_below (false ∷ bits) w e h = grind (arith, common_steps, number_of-below)
+signed_below bits w e h = search (rules, number_of-below)
 
 by_order : (b : Bool) (a c : ℕ) → nat_lt a c ≡ b → (a < c → ⊥) → c ≤ a
-by_order true a c e h = absurd (h (grind (arith, nat_tests)))
-by_order false a c e h = grind (arith, nat_tests)
+by_order b a c e h = omega arith
 
 ones_is : (w : ℕ) → number_of (replicate w true) ≡ 2 ^ w - 1
 ones_is w =
     let t : eqb (number_of (replicate w true)) (2 ^ w - 1) ≡ true = ones_test (replicate w true) w (length-replicate w true) ∙ ones_set w in
-    grind (arith, nat_tests)
+    grind arith
 
 -- The greatest w-bit number, as the code computes it, consists of ones only.
 pub ones_bits : (w : ℕ) → w ≤ 63 → bits_in (1 * 2 ^ w % 18446744073709551616 - 1) w ≡ replicate w true
 ones_bits w h =
     let p : 2 ^ w ≤ 2 ^ 63 = pow_mono h in
-    let e : 1 * 2 ^ w % 18446744073709551616 - 1 ≡ number_of (replicate w true) = omega (arith, p, ones_is w) in
-    ap (λ n. bits_in n w) e ∙ ap (λ l. bits_in (number_of (replicate w true)) l) (sym (length-replicate w true)) ∙ bits_again (replicate w true)
+    let e : 1 * 2 ^ w % 18446744073709551616 - 1 ≡ number_of (replicate w true) = omega (arith, p, ones_is) in
+    cc (e, length-replicate w true, bits_again (replicate w true))
 
 -- ---- Texts and references as the code writes them.
 
@@ -223,50 +201,40 @@ pub spaced_prefix : (octets : List ℕ) (count : ℕ) → length octets ≤ coun
 spaced_prefix octets count h g = by octets count (255 - length octets) (omega (arith, h, g)) h
   where
     by : (octets : List ℕ) (count n : ℕ) → count ≤ length octets + n → length octets ≤ count → take count (octets ++ replicate n 32) ≡ octets ++ replicate (count - length octets) 32
-    by [] count n h g = let space : ℕ = 32 in let none : count ≡ count - 0 = omega arith in take-replicate {X = ℕ} count n space (omega (arith, h)) ∙ ap (λ j. replicate j space) none
-    by (o ∷ os) zero n h g = absurd (omega (arith, g))
+    by [] count n h g = let space : ℕ = 32 in let none : count ≡ count - 0 = omega arith in take-replicate {X = ℕ} count n space (omega arith) ∙ ap (λ j. replicate j space) none
+    by (o ∷ os) zero n h g = absurd (omega arith)
     by (o ∷ os) (suc count) n h g =
         let e : suc count - suc (length os) ≡ count - length os = omega arith in
-        ap (λ xs. o ∷ xs) (by os count n (omega (arith, h)) (omega (arith, g))) ∙ ap (λ j. o ∷ os ++ replicate j 32) (sym e)
+        ap (λ xs. o ∷ xs) (by os count n (omega arith) (omega arith)) ∙ ap (λ j. o ∷ os ++ replicate j 32) (sym e)
 
 pub spaced_whole : (octets written : List ℕ) → written ≡ octets → written ++ drop (length octets) (replicate 255 32) ≡ octets ++ replicate (255 - length octets) 32
-spaced_whole octets written e = let space : ℕ = 32 in ap (λ xs. xs ++ drop (length octets) (replicate 255 space)) e ∙ ap (λ xs. octets ++ xs) (drop-replicate {X = ℕ} (length octets) 255 space)
+spaced_whole octets written e = rw (e, drop-replicate)
 
 -- The bits of a sign and a magnitude are the sign bit and the bits of the magnitude.
 signed_in : (b : Bool) (k size : ℕ) → size < 2 ^ k → bits_in (bit b * 2 ^ k + size) (suc k) ≡ b ∷ bits_in size k
 unfolding bits_in
-signed_in b k size h = ap (λ x. x ∷ bits_in (bit b * 2 ^ k + size) k) (first_bit b size k h) ∙ ap (λ bs. b ∷ bs) (bits_in-above (bit b) size k)
+signed_in b k size h = cc (first_bit b size k h, bits_in-above (bit b) size k)
 
 at_width : (b : Bool) (w size : ℕ) → 1 ≤ w → size < 2 ^ (w - 1) → bits_in (bit b * 2 ^ (w - 1) + size) w ≡ b ∷ bits_in size (w - 1)
-at_width b w size some h = let e : w ≡ suc (w - 1) = omega arith in ap (λ n. bits_in (bit b * 2 ^ (w - 1) + size) n) e ∙ signed_in b (w - 1) size h
+at_width b w size some h = let e : w ≡ suc (w - 1) = omega arith in cc (e, signed_in b (w - 1) size h)
 
 pub negative_bits : (v : ℤ) (w size : ℕ) → v <ℤ pos 0 → 1 ≤ w → w ≤ 63 → size ≡ unsigned_abs v → unsigned_abs v < 2 ^ (w - 1)
     → bits_in (1 * 2 ^ (w - 1) % 18446744073709551616 + size) w ≡ sign_bit v ∷ bits_in (unsigned_abs v) (w - 1)
-negative_bits (pos n) w size neg some narrow e h = absurd (omega (arith, ints, neg))
+negative_bits (pos n) w size neg some narrow e h = absurd (omega (arith, ints))
 negative_bits (negsuc n) w size neg some narrow e h =
     let short : w - 1 ≤ 62 = omega arith in
     let p : 2 ^ (w - 1) ≤ 2 ^ 62 = pow_mono short in
-    let q : 1 * 2 ^ (w - 1) % 18446744073709551616 + size ≡ 1 * 2 ^ (w - 1) + suc n = omega (arith, p, e) in
+    let q : 1 * 2 ^ (w - 1) % 18446744073709551616 + size ≡ 1 * 2 ^ (w - 1) + suc n = omega (arith, p) in
     ap (λ x. bits_in x w) q ∙ at_width true w (suc n) some h
 
 pub positive_bits : (v : ℤ) (w size : ℕ) → pos 0 ≤ℤ v → 1 ≤ w → size ≡ unsigned_abs v → unsigned_abs v < 2 ^ (w - 1) → bits_in size w ≡ sign_bit v ∷ bits_in (unsigned_abs v) (w - 1)
-positive_bits (pos n) w size pos_v some e h = ap (λ x. bits_in x w) (let q : size ≡ 0 * 2 ^ (w - 1) + n = omega (arith, e) in q) ∙ at_width false w n some h
+positive_bits (pos n) w size pos_v some e h = ap (λ x. bits_in x w) (let q : size ≡ 0 * 2 ^ (w - 1) + n = omega arith in q) ∙ at_width false w n some h
 positive_bits (negsuc n) w size pos_v some e h = absurd (omega (arith, ints, pos_v))
 
 -- A padded text consists of octets of 255 only if it is full and its own octets are all 255.
 pub all_of_spaced : (octets : List ℕ) (count : ℕ) (full : Bool) → length octets ≤ count → full ≡ list_all (λ octet. octet == 255) octets
     → ((length octets == count) && full) ≡ list_all (λ octet. octet == 255) (octets ++ replicate (count - length octets) 32)
-all_of_spaced octets count full h e = by (count - length octets) (length octets == count) refl refl
-  where
-    none : (os : List ℕ) (n : ℕ) → list_all (λ octet. octet == 255) (os ++ replicate (suc n) 32) ≡ false
-    none [] n = refl
-    none (o ∷ os) n = ap (λ b. (o == 255) && b) (none os n) ∙ and_false (o == 255)
-
-    by : (n : ℕ) (b : Bool) → count - length octets ≡ n → (length octets == count) ≡ b → (b && full) ≡ list_all (λ octet. octet == 255) (octets ++ replicate (count - length octets) 32)
-    by zero true p q = e ∙ ap (list_all (λ octet. octet == 255)) (sym (append-nil octets) ∙ ap (λ n. octets ++ replicate n 32) (sym p))
-    by zero false p q = absurd (false≢true (sym q ∙ eq-eqb (length octets) count (omega arith)))
-    by (suc n) true p q = absurd (omega (arith, p, eqb-true (length octets) count q))
-    by (suc n) false p q = sym (ap (λ k. list_all (λ octet. octet == 255) (octets ++ replicate k 32)) p ∙ none octets n)
+all_of_spaced octets count full h e = grind (arith, common_steps, and_false, eq-eqb, eqb-true)
 
 -- Octets of 255 consist of ones only.
 all_ones : (n : ℕ) → bits_of (replicate n 255) ≡ replicate (8 * n) true
@@ -279,27 +247,25 @@ pub full_bits : (count : ℕ) → count ≤ 255 → bits_of (take count (replica
 full_bits count h = let full : ℕ = 255 in ap bits_of (take-replicate {X = ℕ} count 255 full h) ∙ all_ones count
 
 pub eighths_ones : (w : ℕ) → w % 8 ≡ 0 → replicate (8 * (w / 8)) true ≡ replicate w true
-eighths_ones w h = let e : 8 * (w / 8) ≡ w = omega arith in ap (λ n. replicate n true) e
+eighths_ones w h = grind arith
 
 -- ---- How the code converts an item to the content of its field.
 
 -- If an item is that of a field, it has the mark that the field requires.
 pub marks : (spec : FieldSpec) (d : Draft) → is_of spec d ≡ true → is_reference spec.role ≡ is_marked d.form
-marks spec d h = grind (arith, common_steps, and_second, not)
+marks spec d h = grind arith
 
 -- An item has the content of its value, or a fault if it is not that of the field.
 pub entry_is : (spec : FieldSpec) (e : StoredEntry) (octets : List ℕ) (k : ValueKind) (b : Bool) → e.kind ≡ Some k → is_of spec (draft e.line e.fxy (value_by k e.start octets)) ≡ b
     → entry_here spec (entry_with e octets) ≡ map_err (at_line e.line) (if b then content_by_form (value_by k e.start octets) spec else Err (wrong_for spec))
-entry_is spec e octets k b is of =
-    ap (λ k. entry_here spec (entry_by k e.line e.fxy e.start octets)) is
-    ∙ ap (λ b. map_err (at_line e.line) (if b then content_by_form (value_by k e.start octets) spec else Err (wrong_for spec))) of
+entry_is spec e octets k b is of = cc (is)
 
 -- the answer of a field, by its role
 pub answer_element : (spec : FieldSpec) (c : Content) → spec.role ≡ role.Element → taken.Plain ≡ answer_of spec c
-answer_element spec c e = sym (ap (λ r. answer_by_role r c) e)
+answer_element spec c e = rw e
 
 pub answer_inserted : (spec : FieldSpec) (c : Content) → spec.role ≡ role.Inserted → taken.Plain ≡ answer_of spec c
-answer_inserted spec c e = sym (ap (λ r. answer_by_role r c) e)
+answer_inserted spec c e = rw e
 
 pub answer_count : (spec : FieldSpec) (c : Content) (n : ℕ) → spec.role ≡ role.Factor → n ≡ count_in c → taken.Count n ≡ answer_of spec c
 answer_count spec c n e h = ap taken.Count h ∙ sym (ap (λ r. answer_by_role r c) e)

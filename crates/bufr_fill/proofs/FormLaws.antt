@@ -1,13 +1,13 @@
 -- Items that were read as plain data are written as compressed data and read back, and vice versa.
+use Rattle.std.proofs.lemmas.Grind.{common_steps}
 use Rattle.std.proofs.lemmas.Slice.Zip.{AllZip-long}
-use Rattle.std.proofs.Common.{◌≡◌, ℕ, ◌+◌, ◌*◌, ◌≤◌, Bool, false, List, [], ◌∷◌, length, Ok, Err, refl, sym, ◌∙◌, ap, subst, arith, zero, suc, ◌<◌, true, ◌++◌, Result, append_assoc, ◌⊎◌, inl, inr, max, drop, if◌then◌else◌, slice_get, flat_map}
+use Rattle.std.proofs.Common.{◌≡◌, ℕ, ◌+◌, ◌*◌, ◌≤◌, Bool, false, List, [], ◌∷◌, length, Ok, Err, refl, sym, ◌∙◌, ap, subst, arith, zero, suc, ◌<◌, true, ◌++◌, Result, append_assoc, ◌⊎◌, inl, inr, max, drop, if◌then◌else◌, slice_get, flat_map, rules}
 use Rattle.std.specs.List.{list_all, AllByRecursion, AllZip}
 use Rattle.std.proofs.lemmas.Bool.{le-ltb}
-use Rattle.std.proofs.lemmas.List.{length-append}
-use Rattle.bufr_walk.specs.Prelude.{FieldSpec, IsSpec, Content, found, bits_for, answer_by_role, answer_of, FieldFault, plain_field, missing, unequal_factor, packed_field, answer_first, max_values, Item, packed, plain, after, apart, ReadsItems, answers_in, content_at, Course, take_next, at_end, subsets_from, items_of_subset, would_be_many}
+use Rattle.bufr_walk.specs.Prelude.{FieldSpec, IsSpec, Content, found, bits_for, answer_by_role, answer_of, FieldFault, missing, unequal_factor, packed_field, answer_first, max_values, Item, packed, plain, after, apart, ReadsItems, answers_in, content_at, Course, take_next, at_end, subsets_from, items_of_subset, would_be_many}
 use Rattle.bufr_walk.proofs.CourseLemmas.{IsSane}
 use Rattle.bufr_fill.proofs.ReadsLemmas.{AreReadAs, subset_then, items_read, none_read, none_read_together}
-use Rattle.bufr_fill.specs.Prelude.{ItemFault, Taken, Role, packing, same, packed_bits, packed_unlike, written_item, fill, with_bits_before, plain_filler, RowCell, ItemRow, map_err, content_here, contents_here, pack_across, packed_filler, first_line, unlike_line, ◌>>=◌, plain_data, item_row, cells_at, rows, most_items, packing_fault, packed_data, Fits, AllFit, IsDumped, AreDrafts, AreDumped, IsSaid, AreSaid, IsUnlike, IsTogetherOrNot, Draft, Subset, at_line, too_many_values, content_of}
+use Rattle.bufr_fill.specs.Prelude.{ItemFault, Taken, Role, packing, same, packed_bits, packed_unlike, written_item, fill, with_bits_before, plain_filler, RowCell, ItemRow, map_err, content_here, contents_here, pack_across, packed_filler, first_line, unlike_line, ◌>>=◌, plain_data, item_row, cells_at, rows, most_items, packing_fault, packed_data, Fits, AllFit, IsDumped, AreDrafts, AreDumped, IsSaid, AreSaid, IsUnlike, IsTogetherOrNot, Draft, Subset, at_line, content_of}
 use Rattle.bufr_fill.proofs.FillSteps.{filled, fill_more, fill_end, plain_both}
 use Rattle.bufr_fill.proofs.PlainLaws.{IsSaidRow, item_bits, join, IsRewritten, draft_again, same_draft, AllFields, plain_again, width_least, plain_read, content_length}
 use Rattle.bufr_fill.proofs.PackedLaws.{packed_again, packed_count, fitting_again}
@@ -15,16 +15,11 @@ use Rattle.bufr_bits.proofs.DecimalLemmas.{and_first, and_second}
 use Rattle.bufr_fill.proofs.LeastLemmas.{content_same}
 use Rattle.std.specs.Result.{result_map_both}
 use Rattle.bufr_fill.specs.declared.fault.ItemFault.TheVariants as wrong
-use Rattle.bufr_walk.specs.declared.spec.Role.TheVariants as role
 
 -- Unless there are too many values, the contents of a row are packed.
 pub across : (spec : FieldSpec) (cs : List Content) (a : ItemRow) → contents_here spec a.cells ≡ Ok cs → (a.index + 1) * length a.cells ≤ max_values
     → pack_across spec a ≡ result_map_both (written_item cs) (packing_fault cs a.cells) (packing spec cs)
-across spec cs a contents few =
-    ap (λ b. if b then Err (at_line (first_line a.cells) (too_many_values spec.fxy)) else (contents_here spec a.cells
-    >>= λ xs. result_map_both (written_item xs) (packing_fault xs a.cells) (packing spec xs)))
-    (le-ltb max_values ((a.index + 1) * length a.cells) few)
-    ∙ ap (λ r. r >>= λ xs. result_map_both (written_item xs) (packing_fault xs a.cells) (packing spec xs)) contents
+across spec cs a contents few = rw (le-ltb, contents)
 
 abbrev pub bits_or_none : Result (List Bool) FieldFault → List Bool
 bits_or_none (Ok bits) = bits
@@ -48,7 +43,7 @@ packed_rewritten n end_line many some i a bits mid good row e = let r = by i.con
         → (result_map_both (written_item cs) (packing_fault cs a.cells) (packing i.spec cs) ≡ Ok (written_item cs (bits_or_none (packing i.spec cs))))
         × ((more : List Bool) → packed_field n i.spec (bits_or_none (packing i.spec cs) ++ more) ≡ Ok (found cs more))
         × (length (bits_or_none (packing i.spec cs)) + length mid ≤ length bits)
-    by [] q = absurd (omega (arith, some, packed_count n i.spec good [] bits mid q))
+    by [] q = absurd (omega (arith, packed_count n i.spec good [] bits mid q))
     by (c ∷ cs) q =
         let p = packed_again n i.spec good c cs bits mid q in
         rw p.2.is (refl, p.2.again, omega (arith, p.1, p.2.short))
@@ -82,7 +77,7 @@ plain_subset end_line course (i ∷ items) (d ∷ ds) h said =
       again = λ more. (
         others ++ more,
         h.0,
-        subst (λ bits. plain_field i.spec bits ≡ Ok (found i.content (others ++ more))) (sym (append_assoc first others more)) (plain_again i.spec h.1 i.content h.2 (others ++ more)),
+        rw (append_assoc first others more) (plain_again i.spec h.1 i.content h.2 (others ++ more)),
         rest.again more,
       );
       end = rest.end;
@@ -134,31 +129,26 @@ subsets_said course subsets ss f h = absurd h
 
 -- If an item can be packed, it has the same answer in all subsets.
 same_at : (c : Content) (cs : List Content) (j : ℕ) → list_all (same c) cs ≡ true → j < length cs → content_at j cs ≡ c
-same_at c [] j e h = absurd (omega (arith, h))
+same_at c [] j e h = absurd (omega arith)
 same_at c (d ∷ cs) zero e h = sym (content_same c d (and_first (same c d) (list_all (same c) cs) e))
-same_at c (d ∷ cs) (suc j) e h = same_at c cs j (and_second (same c d) (list_all (same c) cs) e) (omega (arith, h))
+same_at c (d ∷ cs) (suc j) e h = same_at c cs j (and_second (same c d) (list_all (same c) cs) e) (omega arith)
 
 abbrev packed_or : Bool → Role → FieldSpec → Content → List Content → Result (List Bool) FieldFault
 packed_or b r spec c cs = if b then Ok (packed_bits (bits_for spec.width c) 0 []) else packed_unlike r spec (c ∷ cs)
 
 alike : (b : Bool) (r : Role) (spec : FieldSpec) (c : Content) (cs : List Content) (out : List Bool) (j : ℕ) → list_all (same c) cs ≡ b → packed_or b r spec c cs ≡ Ok out → j < length cs
     → answer_by_role r (content_at j cs) ≡ answer_by_role r c
-alike b role.Element spec c cs out j q e h = refl
-alike b role.Inserted spec c cs out j q e h = refl
-alike true role.Factor spec c cs out j q e h = ap (answer_by_role role.Factor) (same_at c cs j q h)
-alike true role.Reference spec c cs out j q e h = ap (answer_by_role role.Reference) (same_at c cs j q h)
-alike false role.Factor spec c cs out j q e h = absurd cc
-alike false role.Reference spec c cs out j q e h = absurd cc
+alike b r spec c cs out j q e h = search (rules, same_at)
 
 pub packed_alike : (spec : FieldSpec) (c : Content) (cs : List Content) (out : List Bool) (j : ℕ) → packing spec (c ∷ cs) ≡ Ok out → j < length (c ∷ cs)
     → answer_of spec (content_at j (c ∷ cs)) ≡ answer_of spec c
 packed_alike spec c cs out zero e h = refl
-packed_alike spec c cs out (suc j) e h = alike (list_all (same c) cs) spec.role spec c cs out j refl e (omega (arith, h))
+packed_alike spec c cs out (suc j) e h = alike (list_all (same c) cs) spec.role spec c cs out j refl e (omega arith)
 
 fit_at : (spec : FieldSpec) (cs : List Content) (j : ℕ) → AllFit spec cs → j < length cs → Fits spec (content_at j cs)
-fit_at spec [] j f h = absurd (omega (arith, h))
+fit_at spec [] j f h = absurd (omega arith)
 fit_at spec (c ∷ cs) zero f h = f.0
-fit_at spec (c ∷ cs) (suc j) f h = fit_at spec cs j f.1 (omega (arith, h))
+fit_at spec (c ∷ cs) (suc j) f h = fit_at spec cs j f.1 (omega arith)
 
 -- The content of one subset fits the field, and its answer is that of the item.
 record IsOneOf (spec : FieldSpec) (cs : List Content) (j : ℕ) : Type 0 where
@@ -166,10 +156,10 @@ record IsOneOf (spec : FieldSpec) (cs : List Content) (j : ℕ) : Type 0 where
   gives : answer_of spec (content_at j cs) ≡ answer_first spec cs
 
 one_of : (n : ℕ) (spec : FieldSpec) (cs : List Content) (j : ℕ) (bits mid : List Bool) → IsSpec spec → j < n → packed_field n spec bits ≡ Ok (found cs mid) → IsOneOf spec cs j
-one_of n spec [] j bits mid good h e = absurd (omega (arith, h, packed_count n spec good [] bits mid e))
+one_of n spec [] j bits mid good h e = absurd (omega (arith, packed_count n spec good [] bits mid e))
 one_of n spec (c ∷ cs) j bits mid good h e =
     let p = packed_again n spec good c cs bits mid e in
-    let within : j < length (c ∷ cs) = omega (arith, h, packed_count n spec good (c ∷ cs) bits mid e) in
+    let within : j < length (c ∷ cs) = omega (arith, packed_count n spec good (c ∷ cs) bits mid e) in
     record { fits = fit_at spec (c ∷ cs) j p.2.fits within; gives = packed_alike spec c cs p.2.out j p.2.is within }
 
 -- The items of one subset satisfy `Follows`.
@@ -185,7 +175,7 @@ pub all_follow : (n j left : ℕ) (course : Course) (items : List (Item (List Co
     → course (answers_in answer_first items) ≡ at_end → AllFollow course (subsets_from left j items)
 all_follow n j zero course items bits suffix h fields r end = tt
 all_follow n j (suc left) course items bits suffix h fields r end =
-    (follows_packed n j course items bits suffix (omega (arith, h)) fields r end, all_follow n (suc j) left course items bits suffix (omega (arith, h)) fields r end)
+    (follows_packed n j course items bits suffix (omega arith) fields r end, all_follow n (suc j) left course items bits suffix (omega arith) fields r end)
 
 pub length-subsets_from : (n j : ℕ) (items : List (Item (List Content))) → length (subsets_from n j items) ≡ n
 length-subsets_from zero j items = refl
@@ -238,11 +228,7 @@ abbrev AreHeaded : FieldSpec → List (List (Item Content)) → Type 0
 AreHeaded spec rs = AllByRecursion (λ (r : List (Item Content)). IsHeaded spec r) rs
 
 one_headed : (course : Course) (spec : FieldSpec) (r : List (Item Content)) → course [] ≡ take_next spec → Follows course r → IsHeaded spec r
-one_headed course spec [] e h = let x : take_next spec ≡ at_end = sym e ∙ h in absurd cc
-one_headed course spec (i ∷ items) e h = let same = asked_same i.spec spec (sym h.0 ∙ e) in (same, subst (λ s. Fits s i.content) same h.2)
-  where
-    asked_same : (a b : FieldSpec) → take_next a ≡ take_next b → a ≡ b
-    asked_same a b e = cc
+one_headed course spec r e h = grind arith
 
 headed : (course : Course) (spec : FieldSpec) (rs : List (List (Item Content))) → course [] ≡ take_next spec → AllFollow course rs → AreHeaded spec rs
 headed course spec [] e h = tt
@@ -276,7 +262,7 @@ longest_tails spec (i ∷ items) (q ∷ rs) h = omega (arith, longest_tails spec
 content_there : (p : ℕ) (ds : List Draft) (end_line : ℕ) (i : Item Content) (items : List (Item Content)) → AreDrafts IsSaid (i ∷ items) (drop p ds)
     → content_here i.spec (slice_get ds p) end_line ≡ Ok i.content
 content_there zero [] end_line i items h = absurd h
-content_there zero (d ∷ ds) end_line i items h = ap (map_err (at_line d.line)) h.0
+content_there zero (d ∷ ds) end_line i items h = rw (h.0)
 content_there (suc p) [] end_line i items h = absurd h
 content_there (suc p) (d ∷ ds) end_line i items h = content_there p ds end_line i items h
 
@@ -289,10 +275,10 @@ draft_next (suc p) (d ∷ ds) i items h = draft_next p ds i items h
 contents_there : (spec : FieldSpec) (p : ℕ) (rs : List (List (Item Content))) (ss : List Subset) → AreHeaded spec rs → SaidAt p rs ss → contents_here spec (cells_at p ss) ≡ Ok (firsts rs)
 contents_there spec p [] [] h d = refl
 contents_there spec p ([] ∷ rs) (s ∷ ss) h d = absurd h.0
-contents_there spec p ((i ∷ items) ∷ rs) (s ∷ ss) h d =
-    ap (λ r. r >>= λ first. contents_here spec (cells_at p ss) >>= λ rest. Ok (first ∷ rest))
-    (subst (λ a. content_here a (slice_get s.items p) s.end_line ≡ Ok i.content) h.0.0 (content_there p s.items s.end_line i items d.0))
-    ∙ ap (λ r. r >>= λ rest. Ok (i.content ∷ rest)) (contents_there spec p rs ss h.1 d.1)
+contents_there spec p ((i ∷ items) ∷ rs) (s ∷ ss) h d = cc (
+  rw (h.0.0) at (content_there p s.items s.end_line i items d.0),
+  contents_there spec p rs ss h.1 d.1,
+)
 contents_there spec p rs ss h d = absurd d
 
 said_next : (spec : FieldSpec) (p : ℕ) (rs : List (List (Item Content))) (ss : List Subset) → AreHeaded spec rs → SaidAt p rs ss → SaidAt (suc p) (tails rs) ss
@@ -309,7 +295,7 @@ length-said p rs ss d = absurd d
 -- The next items of all subsets can be written together if their contents can be packed.
 across_gives : (spec : FieldSpec) (p : ℕ) (rs : List (List (Item Content))) (ss : List Subset) → AreHeaded spec rs → SaidAt p rs ss → (p + 1) * length rs ≤ max_values
     → pack_across spec (item_row p ss) ≡ result_map_both (written_item (firsts rs)) (packing_fault (firsts rs) (cells_at p ss)) (packing spec (firsts rs))
-across_gives spec p rs ss h d few = across spec (firsts rs) (item_row p ss) (contents_there spec p rs ss h d) (subst (λ n. (p + 1) * n ≤ max_values) (sym (length-said p rs ss d)) few)
+across_gives spec p rs ss h d few = across spec (firsts rs) (item_row p ss) (contents_there spec p rs ss h d) (rw (length-said p rs ss d) few)
 
 -- ---- The course continues in the same way for all subsets.
 
@@ -318,15 +304,15 @@ AllAnswer spec t cs = AllByRecursion (λ (c : Content). answer_of spec c ≡ t) 
 
 all_answer : (spec : FieldSpec) (t : Taken) (cs : List Content) → ((j : ℕ) → j < length cs → answer_of spec (content_at j cs) ≡ t) → AllAnswer spec t cs
 all_answer spec t [] h = tt
-all_answer spec t (c ∷ cs) h = (h 0 (omega arith), all_answer spec t cs (λ j l. h (suc j) (omega (arith, l))))
+all_answer spec t (c ∷ cs) h = (h 0 (omega arith), all_answer spec t cs (λ j l. h (suc j) (omega arith)))
 
 follow_next : (course : Course) (spec : FieldSpec) (t : Taken) (rs : List (List (Item Content))) → AreHeaded spec rs → AllAnswer spec t (firsts rs) → AllFollow course rs
     → AllFollow (λ answer_of. course (t ∷ answer_of)) (tails rs)
 follow_next course spec t [] h a f = tt
 follow_next course spec t ([] ∷ rs) h a f = absurd h.0
 follow_next course spec t ((i ∷ items) ∷ rs) h a f =
-    let same : answer_of i.spec i.content ≡ t = ap (λ s. answer_of s i.content) h.0.0 ∙ a.0 in
-    (subst (λ (t : Taken). Follows (λ answer_of. course (t ∷ answer_of)) items) same f.0.3, follow_next course spec t rs h.1 a.1 f.1)
+    let same : answer_of i.spec i.content ≡ t = rw (h.0.0, a.0) in
+    (rw (← same) f.0.3, follow_next course spec t rs h.1 a.1 f.1)
 
 -- ---- The items of compressed data consist of those of each subset.
 
@@ -336,7 +322,7 @@ AreParts j items (r ∷ rs) = (items_of_subset j items ≡ r) × AreParts (suc j
 
 parts_subsets : (j : ℕ) (items : List (Item (List Content))) (rs : List (List (Item Content))) → AreParts j items rs → subsets_from (length rs) j items ≡ rs
 parts_subsets j items [] h = refl
-parts_subsets j items (r ∷ rs) h = ap (λ x. x ∷ subsets_from (length rs) (suc j) items) h.0 ∙ ap (λ xs. r ∷ xs) (parts_subsets (suc j) items rs h.1)
+parts_subsets j items (r ∷ rs) h = cc (h.0, parts_subsets (suc j) items rs h.1)
 
 at_drop : (j : ℕ) (cs : List Content) (c : Content) (rest : List Content) → drop j cs ≡ c ∷ rest → (content_at j cs ≡ c) × (drop (suc j) cs ≡ rest)
 at_drop zero [] c rest e = absurd cc
@@ -355,7 +341,7 @@ more_parts j spec cs items [] e h a = tt
 more_parts j spec cs items ([] ∷ rs) e h a = absurd h.0
 more_parts j spec cs items ((i ∷ r) ∷ rs) e h a =
     let at = at_drop j cs i.content (firsts rs) e in
-    let same : items_of_subset j (record { spec = spec; content = cs } ∷ items) ≡ i ∷ r = λ k. record { spec = sym h.0.0 k; content = at.0 k } ∷ a.0 k in
+    let same : items_of_subset j (record { spec = spec; content = cs } ∷ items) ≡ i ∷ r = grind arith in
     (same, more_parts (suc j) spec cs items rs at.1 h.1 a.1)
 
 -- ---- Successive rows.
@@ -383,7 +369,7 @@ module _ (end_line : ℕ) (many : Bool) where
       → pack_across spec a ≡ result_map_both (written_item cs) (packing_fault cs a.cells) r
       → fill (packed_filler end_line many) course (a ∷ more) ≡ filled (packed_filler end_line many) spec (result_map_both (written_item cs) (packing_fault cs a.cells) r)
       (λ t. fill (packed_filler end_line many) (λ answer_of. course (t ∷ answer_of)) more)
-  fill_first course spec a more r cs next gives = fill_more (packed_filler end_line many) course a more spec (result_map_both (written_item cs) (packing_fault cs a.cells) r) next gives
+  fill_first course spec a more r cs next gives = search (rules, fill_more)
 
   not_packed : (course : Course) (drafts : List ItemRow) (cs : List Content) (cells : List RowCell) (why : FieldFault)
       → fill (packed_filler end_line many) course drafts ≡ Err (packing_fault cs cells why) → IsNot course drafts end_line many
@@ -422,7 +408,7 @@ module _ (end_line : ℕ) (many : Bool) where
               x.again bits,
             );
             end = x.end;
-            few = let e : suc (length x.items) * n ≡ n + length x.items * n = grind arith in omega (arith, x.few, e, count, total_tails spec rs h);
+            few = omega (arith, x.few, count, total_tails);
           })
 
   -- all rows from an index on
@@ -431,26 +417,16 @@ module _ (end_line : ℕ) (many : Bool) where
       → Either (suc (length rs)) course (r ∷ rs) (rows (longest_left (r ∷ rs)) p ss) end_line many
   from_index course [] rs ss p f d few =
       let none = no_parts course 0 ([] ∷ rs) f.0 f in
-      inl (subst (λ k. IsTogether (suc (length rs)) course ([] ∷ rs) (rows k p ss) end_line many) (sym none.1) (record {
-        items = [];
-        parts = none.0;
-        out = [];
-        fills = fill_end (packed_filler end_line many) course f.0;
-        again = λ more. refl;
-        end = f.0;
-        few = omega arith;
-      }))
+      grind arith
   from_index course (i ∷ items) rs ss p f d few =
       let n = suc (length rs) in
       let all = (i ∷ items) ∷ rs in
       let spec = i.spec in
       let h = headed course spec all f.0.0 f in
       let cs = firsts rs in
-      let left = longest_left (tails all) in
-      let more = rows left (p + 1) ss in
-      let one : p * n + n ≡ (p + 1) * n = grind arith in
+      let more = rows (longest_left (tails all)) (p + 1) ss in
       let tot : total all ≡ n + total (tails all) = total_tails spec all h in
-      let within : (p + 1) * n ≤ max_values = omega (arith, few, one, tot) in
+      let within : (p + 1) * n ≤ max_values = omega (arith, few, tot) in
       let gives = across_gives spec p all ss h d within in
       let forth : suc p ≡ p + 1 = omega arith in
       subst (λ k. Either n course all (rows k p ss) end_line many) (sym (longest_tails spec (i ∷ items) rs h))
@@ -461,7 +437,7 @@ module _ (end_line : ℕ) (many : Bool) where
       let same : length (tails rs) ≡ length rs = length-tails rs in
       subst (λ k. Either (suc k) (λ answer_so. course (answer_of spec i.content ∷ answer_so)) (tails all) more end_line many) same
       (from_index (λ answer_so. course (answer_of spec i.content ∷ answer_so)) items (tails rs) ss (p + 1) f' d' (
-      let e : (p + 1) * suc (length (tails rs)) ≡ (p + 1) * n = ap (λ k. (p + 1) * suc k) same in omega (arith, few, one, tot, e)))))
+      let e : (p + 1) * suc (length (tails rs)) ≡ (p + 1) * n = rw same in omega (arith, few, tot, e)))))
 
 -- ---- Data that were read.
 
@@ -478,12 +454,7 @@ followed course (i ∷ items) bits suffix fields r end =
     let rest = followed (after plain course i) items r.0 suffix fields.1 r.3 end in
     let read = plain_read i.spec fields.0.spec bits r.0 i.content r.2 in
     let long = content_length i.spec fields.0.spec i.content read.0 in
-    let both = length-append (item_bits i) (flat_map item_bits items) in
-    record {
-      follow = (r.1, fields.0.spec, read.0, rest.follow);
-      short = omega (arith, rest.short, read.1, long, both);
-      least = omega (arith, rest.least, long, both, width_least i.spec.kind i.spec.width fields.0.spec.width);
-    }
+    grind (arith, common_steps, width_least, rest.short, read.1, long, rest.least)
 
 pub record AreAllFollowed (course : Course) (n : ℕ) (subsets : List (List (Item Content))) (bits suffix : List Bool) : Type 0 where
   pub follow : AllFollow course subsets
@@ -496,15 +467,7 @@ none_followed course bits = record { follow = tt; short = omega arith; least = o
 
 pub more_followed : (course : Course) (n : ℕ) (items : List (Item Content)) (subsets : List (List (Item Content))) (bits mid suffix : List Bool) → AllFields items
     → ReadsItems plain course items bits mid → course (answers_in answer_of items) ≡ at_end → AreAllFollowed course n subsets mid suffix → AreAllFollowed course (suc n) (items ∷ subsets) bits suffix
-more_followed course n items subsets bits mid suffix fields r end rest =
-    let first = followed course items bits mid fields r end in
-    let both = length-append (flat_map item_bits items) (subset_bits subsets) in
-    record {
-      follow = (first.follow, rest.follow);
-      short = omega (arith, first.short, rest.short, both);
-      least = omega (arith, first.least, rest.least, both);
-      count = ap suc rest.count;
-    }
+more_followed course n items subsets bits mid suffix fields r end rest = grind (arith, common_steps, followed)
 
 said_from : (subsets : List (List (Item Content))) (ss : List Subset) → AreSaid subsets ss → SaidAt 0 subsets ss × (most_items ss ≡ longest_left subsets)
 said_from [] [] h = (tt, refl)

@@ -1,11 +1,12 @@
 -- The items that are read have valid fields, and the content of each item fits its field.
-use Rattle.std.proofs.Common.{◌≡◌, ℕ, ◌-◌, ◌^◌, ◌≤◌, Bool, List, [], ◌∷◌, Ok, arith, pow_mono, ◌/◌, true, false, not, ◌++◌, length, replicate, Result, Err, refl, sym, subst, ℤ, pos, negsuc, nat_abs, ◌-ℤ◌, ◌==◌, nat_lt, if◌then◌else◌}
+use Rattle.std.proofs.lemmas.Grind.{common_steps}
+use Rattle.std.proofs.Common.{◌≡◌, ℕ, ◌-◌, ◌^◌, ◌≤◌, Bool, List, [], ◌∷◌, Ok, arith, pow_mono, ◌/◌, true, false, not, ◌++◌, length, replicate, Result, Err, refl, sym, subst, ℤ, pos, negsuc, nat_abs, ◌-ℤ◌, ◌==◌, nat_lt, if◌then◌else◌, rules}
 use Rattle.bufr_fill.proofs.PackedBack.{AreOctets-append, AreOctets-spaces}
 use Rattle.bufr_fill.proofs.FieldLemmas.{same_ok}
 use Rattle.std.proofs.lemmas.Bool.{ltb-false, ltb-true}
 use Rattle.bufr_tables.specs.Prelude.{is_character}
 use Rattle.bufr_walk.specs.Prelude.{FieldSpec, IsSpec, HasWidth, HasRole, is_reference, Content, number, text, missing, reference, answer_by_role, answer_of, found, plain_field, packed_field, answer_first, Course, Item, DataCoding, ReadsItems, after}
-use Rattle.bufr_fill.specs.Prelude.{Role, Kind, FitsRole, AreOctets, FitsNumber, FitsText, FitsReference, FitsKind, Fits, HasOctets, DraftValue, number_token, text_form, missing_form, reference_token, Draft, is_marked, raw_within, raw_of, reference_of, text_within, content_by_form, is_of, wrong_for, content_of, raw_limit}
+use Rattle.bufr_fill.specs.Prelude.{Role, Kind, FitsRole, AreOctets, FitsNumber, FitsText, FitsReference, FitsKind, Fits, HasOctets, DraftValue, Draft, is_marked, raw_within, raw_of, reference_of, text_within, content_by_form, is_of, wrong_for, content_of, raw_limit}
 use Rattle.bufr_fill.specs.declared.fault.ItemFault.TheVariants as wrong
 use Rattle.bufr_walk.proofs.NextField.{IsGoodCourse}
 use Rattle.bufr_walk.specs.Prelude.{IsField, IsWithin}
@@ -14,7 +15,6 @@ use Rattle.bufr_fill.proofs.PackedLaws.{packed_again}
 use Rattle.std.specs.List.{list_all}
 use Rattle.std.proofs.lemmas.List.{length-append, length-replicate}
 use Rattle.bufr_bits.proofs.DecimalLemmas.{and_second}
-use Rattle.bufr_bits.specs.Prelude.{decimal_value_of}
 use Rattle.bufr_bits.specs.declared.decimal.NumberFault.{NumberFault}
 use Rattle.bufr_tables.specs.declared.table_b.Kind.TheVariants as kind
 use Rattle.bufr_walk.specs.declared.spec.Role.TheVariants as role
@@ -51,7 +51,7 @@ packed_gives n spec (c ∷ cs) bits mid good e = answer_within spec.role spec c 
 
 module _ (m : Bool) (w : ℕ) (c : Content) where
   number_test : (raw : ℕ) (b : Bool) → nat_lt raw (raw_limit m w) ≡ b → (if b then Ok (number raw) else Err wrong.OutOfRange) ≡ Ok c → FitsNumber m w c
-  number_test raw true p e = subst (FitsNumber m w) (same_ok (number raw) c e) (ltb-true raw (raw_limit m w) p)
+  number_test raw true p e = grind (arith, common_steps, same_ok, ltb-true)
   number_test raw false p e = cc
 
   number_fits : (v : ℤ) → raw_within m w v ≡ Ok c → FitsNumber m w c
@@ -63,7 +63,7 @@ module _ (m : Bool) (w : ℕ) (c : Content) where
   missing_test false p e = cc
 
   missing_fits : (k : Kind) → (if m then Ok missing else Err wrong.MissingForbidden) ≡ Ok c → FitsKind k m w c
-  missing_fits kind.Character e = subst (FitsText (w / 8)) (sym (missing_test m refl e).1) tt
+  missing_fits kind.Character e = search (rules, missing_test)
   missing_fits k e = subst (FitsNumber m w) (sym (missing_test m refl e).1) (missing_test m refl e).0
 
 text_fits : (count : ℕ) (octets : List ℕ) (c : Content) → AreOctets octets → text_within count octets ≡ Ok c → FitsText count c
@@ -85,7 +85,7 @@ module _ (spec : FieldSpec) (c : Content) where
   raw_fits (Err why) e = cc
 
   reference_test : (v : ℤ) (b : Bool) → nat_lt (nat_abs v) (2 ^ (spec.width - 1)) ≡ b → (if b then Ok (reference v) else Err wrong.OutOfRange) ≡ Ok c → FitsReference spec.width c
-  reference_test v true p e = subst (FitsReference spec.width) (same_ok (reference v) c e) (ltb-true (nat_abs v) (2 ^ (spec.width - 1)) p)
+  reference_test v true p e = search (rules, same_ok, ltb-true)
   reference_test v false p e = cc
 
   reference_fits : (r : Result ℤ NumberFault) → reference_of spec r ≡ Ok c → FitsReference spec.width c
@@ -102,22 +102,13 @@ module _ (spec : FieldSpec) (c : Content) where
   text_kind kind.Numeric octets h e = cc
 
   kind_form : (f : DraftValue) → HasOctets f → not (is_marked f) ≡ true → content_by_form f spec ≡ Ok c → FitsKind spec.kind spec.may_be_missing spec.width c
-  kind_form (number_token digits) h p e = number_kind spec.kind (decimal_value_of digits spec.scale) e
-  kind_form (text_form octets) h p e = text_kind spec.kind octets h e
-  kind_form missing_form h p e = missing_fits spec.may_be_missing spec.width c spec.kind e
-  kind_form (reference_token digits) h p e = cc
+  kind_form f h p e = search (rules, number_kind, text_kind, missing_fits)
 
   role_form : (r : Role) (f : DraftValue) → HasOctets f → (if is_reference r then is_marked f else not (is_marked f)) ≡ true → content_by_form f spec ≡ Ok c → FitsRole r spec c
-  role_form role.Element f h p e = kind_form f h p e
-  role_form role.Inserted f h p e = kind_form f h p e
-  role_form role.Factor f h p e = kind_form f h p e
-  role_form role.Reference (number_token digits) h p e = cc
-  role_form role.Reference (text_form octets) h p e = cc
-  role_form role.Reference missing_form h p e = cc
-  role_form role.Reference (reference_token digits) h p e = reference_fits (decimal_value_of digits (pos 0)) e
+  role_form r f h p e = search (rules, kind_form, reference_fits)
 
   by_draft : (d : Draft) → HasOctets d.form → (b : Bool) → is_of spec d ≡ b → (if b then content_by_form d.form spec else Err (wrong_for spec)) ≡ Ok c → Fits spec c
-  by_draft d h true p e = role_form spec.role d.form h (and_second (d.fxy == spec.fxy) (if is_reference spec.role then is_marked d.form else not (is_marked d.form)) p) e
+  by_draft d h true p e = search (rules, role_form, and_second)
   by_draft d h false p e = cc
 
 -- If a draft has a content in a field, the content fits the field.

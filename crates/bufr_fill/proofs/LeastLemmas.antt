@@ -1,7 +1,7 @@
 -- The least base and the least k of numbers, and the least k of texts.
 use Rattle.std.proofs.lemmas.Grind.{common_steps}
-use Rattle.std.proofs.Common.{Result, ◌≡◌, ℕ, zero, suc, ◌+◌, ◌<◌, ◌≤◌, ◌≢◌, ◌&&◌, min, Bool, true, false, List, [], ◌∷◌, Option, Some, None, refl, sym, ◌∙◌, ap, arith, ◌-◌, ◌^◌, max, ◌++◌, length, Ok, pow_mono, append_assoc, subst, ◌/◌, not, take, replicate, Err, ◌==◌, if◌then◌else◌, nat_lt, unwrap_or, nat_le}
-use Rattle.std.proofs.lemmas.Bool.{false≢true, eqb-true, le-leb, le-ltb, leb-false, leb-true, lt-leb, lt-ltb, ltb-false, ltb-true, eq-eqb}
+use Rattle.std.proofs.Common.{Result, ◌≡◌, ℕ, zero, suc, ◌+◌, ◌<◌, ◌≤◌, ◌≢◌, ◌&&◌, min, Bool, true, false, List, [], ◌∷◌, Option, Some, None, refl, sym, ◌∙◌, ap, arith, ◌-◌, ◌^◌, max, ◌++◌, length, Ok, pow_mono, append_assoc, ◌/◌, not, take, replicate, Err, ◌==◌, if◌then◌else◌, nat_lt, unwrap_or, nat_le, rules}
+use Rattle.std.proofs.lemmas.Bool.{false≢true, eqb-true, le-leb, leb-false, leb-true, lt-leb, lt-ltb, ltb-true, eq-eqb}
 use Rattle.bufr_bits.proofs.DecimalLemmas.{and_first, and_second}
 use Rattle.bufr_walk.specs.Prelude.{Coding, numbers, texts, coding_of, Content, number, text, missing, reference, FieldFault, increment, FieldSpec, is_reference}
 use Rattle.bufr_walk.proofs.PlainLemmas.{number_coding, text_coding}
@@ -50,11 +50,7 @@ pub octets_same : (a b : List ℕ) → bytes_eq a b ≡ true → a ≡ b
 octets_same a b h = (bytes_eq-Decides a b).0 h
 
 pub content_same : (c d : Content) → same c d ≡ true → c ≡ d
-content_same (number a) (number b) h = ap number (eqb-true a b h)
-content_same (text a) (text b) h = ap text (octets_same a b h)
-content_same missing missing h = refl
-content_same (reference a) (reference b) h = ap reference ((Decides-int_eq a b).0 h)
-content_same c x h = cc
+content_same c d h = search rules
 
 pub octets_self : (a : List ℕ) → bytes_eq a a ≡ true
 octets_self a = (bytes_eq-Decides a a).1 refl
@@ -68,7 +64,7 @@ content_self (reference a) = (Decides-int_eq a a).1 refl
 -- Copies of a content are all the same.
 pub are_same_copies : (c : Content) (n : ℕ) → list_all (same c) (replicate n c) ≡ true
 are_same_copies c zero = refl
-are_same_copies c (suc n) = ap (λ b. b && list_all (same c) (replicate n c)) (content_self c) ∙ are_same_copies c n
+are_same_copies c (suc n) = cc (content_self c, are_same_copies c n)
 
 -- If the content is a number, it is at least m.
 abbrev pub IsOver : ℕ → Content → Type 0
@@ -104,7 +100,7 @@ lowest_over (c ∷ cs) m e = (tt, lowest_over cs m e)
 -- The least number fits the width, because each number does.
 pub lowest_fits : (may : Bool) (w : ℕ) (cs : List Content) (m : ℕ) → AreNumbers may w cs → lowest cs ≡ Some m → m < raw_limit may w
 lowest_fits may w [] m h e = absurd cc
-lowest_fits may w (number n ∷ cs) m h e = grind (arith, common_steps)
+lowest_fits may w (number n ∷ cs) m h e = grind arith
 lowest_fits may w (missing ∷ cs) m h e = lowest_fits may w cs m h.1 e
 lowest_fits may w (c ∷ cs) m h e = absurd h.0
 
@@ -161,7 +157,7 @@ module _ (spec : FieldSpec) (numeric : is_character spec.kind ≡ false) (elemen
     where
       by : (o : Option ℕ) → lowest (padded_contents count ds) ≡ o → unwrap_or o 0 < 2 ^ spec.width
       by None e = omega (arith, top_some false spec.width some)
-      by (Some n) e = omega (arith, lowest_fits spec.may_be_missing spec.width (padded_contents count ds) n (numbers_fit count ds all) e, top_below spec.may_be_missing spec.width)
+      by (Some n) e = omega (arith, lowest_fits spec.may_be_missing spec.width (padded_contents count ds) n (numbers_fit count ds all) e, top_below)
 
 -- The least k is one that passes, and is at most any width that does.
 pub least_most : (m : Bool) (s w : ℕ) → 1 ≤ w → w ≤ 63 → s < raw_limit m w → least_from m s 1 ≤ w
@@ -171,36 +167,34 @@ least_most m s w some most h = first_least (λ k. nat_lt s (raw_limit m k)) (64 
 pub least_fits : (m : Bool) (s w : ℕ) → 1 ≤ w → w ≤ 63 → s < raw_limit m w → s < raw_limit m (least_from m s 1)
 unfolding least_from
 least_fits m s w some most h = ltb-true s (raw_limit m (first_from (λ k. nat_lt s (raw_limit m k)) (64 - 1) 1))
-    (first_passes (λ k. nat_lt s (raw_limit m k)) (64 - 1) 1 w some (omega (arith, most)) (lt-ltb s (raw_limit m w) h))
+    (first_passes (λ k. nat_lt s (raw_limit m k)) (64 - 1) 1 w some (omega arith) (lt-ltb s (raw_limit m w) h))
 
 pub all_short : (m : Bool) (base k : ℕ) (ds : List FieldContent) → spread base ds < raw_limit m k → AreShort base k ds
 all_short m base k [] h = tt
-all_short m base k (field_content.Number n ∷ ds) h = (omega (arith, h, top_below m k), all_short m base k ds (omega (arith, h)))
-all_short m base k (d ∷ ds) h = (tt, all_short m base k ds (omega (arith, h)))
+all_short m base k (field_content.Number n ∷ ds) h = (omega (arith, top_below), all_short m base k ds (omega arith))
+all_short m base k (d ∷ ds) h = (tt, all_short m base k ds (omega arith))
 
 -- All increments fit into k bits if the greatest one does.
 max_test : (a b t : ℕ) → nat_lt (max a b) t ≡ (nat_lt a t && nat_lt b t)
-max_test a b t = grind (arith, common_steps, nat_lt, lt-ltb, ltb-true, le-ltb, ltb-false)
+max_test a b t = grind arith
 
 zero_max : (s t : ℕ) → nat_lt s t ≡ nat_lt (max 0 s) t
-zero_max s t = let e : s ≡ max 0 s = omega arith in ap (λ n. nat_lt n t) e
+zero_max s t = grind arith
 
 all_have : (w : ℕ) (m : Bool) (base k count : ℕ) (ds : List FieldContent) → 1 ≤ k
     → list_all (has_increment (numbers w m) base k) (padded_contents count ds) ≡ nat_lt (spread base ds) (raw_limit m k)
-all_have w m base k count [] h = sym (lt-ltb 0 (raw_limit m k) (omega (arith, top_some m k h)))
+all_have w m base k count [] h = simp (lt-ltb, top_some)
 all_have w m base k count (field_content.Number n ∷ ds) h =
     ap (λ b. nat_lt (n - base) (raw_limit m k) && b) (all_have w m base k count ds h) ∙ sym (max_test (n - base) (spread base ds) (raw_limit m k))
 all_have w m base k count (d ∷ ds) h = all_have w m base k count ds h ∙ zero_max (spread base ds) (raw_limit m k)
 
 pub first_same : (p q : ℕ → Bool) (fuel from : ℕ) → ((k : ℕ) → from ≤ k → p k ≡ q k) → first_from p fuel from ≡ first_from q fuel from
 first_same p q zero from h = refl
-first_same p q (suc fuel) from h =
-    ap (λ b. if b then from else first_from p fuel (from + 1)) (h from (omega arith)) ∙ ap (λ n. if q from then from else n) (first_same p q fuel (from + 1) (λ k g. h k (omega (arith, g))))
+first_same p q (suc fuel) from h = cc (h from (omega arith), first_same p q fuel (from + 1) (λ k g. h k (omega arith)))
 
 pub least_is : (w : ℕ) (m : Bool) (base count : ℕ) (ds : List FieldContent) → least_k (has_increment (numbers w m) base) (padded_contents count ds) ≡ least_from m (spread base ds) 1
 unfolding least_from
-least_is w m base count ds =
-    first_same (λ k. list_all (has_increment (numbers w m) base k) (padded_contents count ds)) (λ k. nat_lt (spread base ds) (raw_limit m k)) (64 - 1) 1 (λ k h. all_have w m base k count ds h)
+least_is w m base count ds = search (rules, first_same, all_have)
 
 -- For numbers, the least k is at most 63, and each increment fits into k bits.
 pub k_narrow : (spec : FieldSpec) → is_character spec.kind ≡ false → is_reference spec.role ≡ false → (base : ℕ) (ds : List FieldContent) (k : ℕ) → 1 ≤ spec.width → spec.width ≤ 63
@@ -217,7 +211,7 @@ pub k_short : (spec : FieldSpec) → is_character spec.kind ≡ false → is_ref
     → AreContentsOf spec ds
     → k ≡ least_from spec.may_be_missing (spread base ds) 1 → AreShort base k ds
 k_short spec numeric element base ds k some narrow all e =
-    subst (λ n. AreShort base n ds) (sym e) (all_short spec.may_be_missing base (least_from spec.may_be_missing (spread base ds) 1) ds
+    rw e (all_short spec.may_be_missing base (least_from spec.may_be_missing (spread base ds) 1) ds
     (least_fits spec.may_be_missing (spread base ds) spec.width some narrow (spread_under spec numeric element base ds some all)))
 
 -- contents that differ, packed with this base and this k
@@ -226,14 +220,11 @@ over_at spec cs c base k = if nat_le k 63 then Ok (packed_bits (bits_in base spe
 
 pub over_is : (spec : FieldSpec) (cs : List Content) (c : Coding) (base k : ℕ) → coding_of spec ≡ c → unwrap_or (lowest cs) 0 ≡ base → least_k (has_increment c base) cs ≡ k
     → packed_over spec cs ≡ over_at spec cs c base k
-over_is spec cs c base k e b l =
-    ap (λ d. over_at spec cs d (unwrap_or (lowest cs) 0) (least_k (has_increment d (unwrap_or (lowest cs) 0)) cs)) e
-    ∙ ap (λ a. over_at spec cs c a (least_k (has_increment c a) cs)) b ∙ ap (over_at spec cs c base) l
+over_is spec cs c base k e b l = cc (e)
 
 pub over_written : (spec : FieldSpec) (cs : List Content) (c : Coding) (base k : ℕ) → coding_of spec ≡ c → unwrap_or (lowest cs) 0 ≡ base → least_k (has_increment c base) cs ≡ k → k ≤ 63
     → packed_over spec cs ≡ Ok (packed_bits (bits_in base spec.width) k (flat_map (increment_for c base k) cs))
-over_written spec cs c base k e b l small =
-    over_is spec cs c base k e b l ∙ ap (λ t. if t then Ok (packed_bits (bits_in base spec.width) k (flat_map (increment_for c base k) cs)) else Err increment) (le-leb k 63 small)
+over_written spec cs c base k e b l small = cc (le-leb k 63 small)
 
 -- the bits of packed numbers
 pub numbers_packed : (spec : FieldSpec) (count : ℕ) (ds : List FieldContent) (base k : ℕ) → is_character spec.kind ≡ false → is_reference spec.role ≡ false
@@ -246,15 +237,15 @@ numbers_packed spec count ds base k numeric element b l small =
 
 -- the base, k and the increments, in the order in which they were appended
 pub parts_put : (old one two three base k rest : List Bool) → one ≡ old ++ base → two ≡ one ++ k → three ≡ two ++ rest → three ≡ old ++ (base ++ (k ++ rest))
-parts_put old one two three base k rest a b c = grind (arith, common_steps, append_assoc)
+parts_put old one two three base k rest a b c = grind (arith, append_assoc)
 
 pub parts_length : (old new more : List Bool) (n : ℕ) → new ≡ old ++ more → length new ≤ length old + n → length more ≤ n
-parts_length old new more n e h = omega (arith, ap length e, length-append old more, h)
+parts_length old new more n e h = omega (arith, ap length e, length-append old more)
 
 -- ---- Texts are packed with the least k.
 
 le_same : (a b x y : ℕ) → (a ≤ b → x ≤ y) → (x ≤ y → a ≤ b) → nat_le a b ≡ nat_le x y
-le_same a b x y f g = grind (arith, common_steps, nat_le, le-leb, leb-true)
+le_same a b x y f g = grind arith
 
 -- whether a text consists of its first k octets, followed by spaces only
 abbrev again : ℕ → List ℕ → Bool
@@ -265,37 +256,15 @@ suc_le a b = le_same (suc a) (suc b) a b (λ h. omega (arith, h)) (λ h. omega (
 
 again_more : (t : Bool) (o k : ℕ) (os : List ℕ) → ((trimmed os == 0) && (o == 32)) ≡ t → again k os ≡ nat_le (trimmed os) k
     → again (suc k) (o ∷ os) ≡ nat_le (if t then 0 else suc (trimmed os)) (suc k)
-again_more true o k os e h = grind (arith, common_steps, eq-eqb, le-leb, eqb-true, and_first)
-again_more false o k os e h = grind (arith, common_steps, eq-eqb, suc_le)
+again_more true o k os e h = grind arith
+again_more false o k os e h = grind arith
 
 same_32 : (o : ℕ) (b : Bool) → (o == 32) ≡ b → (32 == o) ≡ b
 same_32 o true e = ap (λ x. 32 == x) (eqb-true o 32 e)
-same_32 o false e = grind (arith, common_steps, true_false, eqb-true)
+same_32 o false e = grind arith
 
 again_none : (o : ℕ) (os : List ℕ) (x y : Bool) → (trimmed os == 0) ≡ x → (o == 32) ≡ y → again 0 os ≡ nat_le (trimmed os) 0 → again 0 (o ∷ os) ≡ nat_le (if x && y then 0 else suc (trimmed os)) 0
-again_none o os x y p q h = whole ∙ by x y p
-  where
-    len : suc (length os) - 0 ≡ suc (length os - 0)
-    len = omega arith
-
-    whole : again 0 (o ∷ os) ≡ (y && nat_le (trimmed os) 0)
-    whole = ap (λ m. bytes_eq (replicate m 32) (o ∷ os)) len ∙ ap (λ b. b && bytes_eq (replicate (length os - 0) 32) os) (same_32 o y q) ∙ ap (λ b. y && b) h
-
-    by : (x y : Bool) → (trimmed os == 0) ≡ x → (y && nat_le (trimmed os) 0) ≡ nat_le (if x && y then 0 else suc (trimmed os)) 0
-    by true true e = le-leb (trimmed os) 0 (omega (arith, eqb-true (trimmed os) 0 e)) ∙ sym (le-leb 0 0 (omega arith))
-    by true false e = sym (lt-leb (suc (trimmed os)) 0 (omega arith))
-    by false false e = sym (lt-leb (suc (trimmed os)) 0 (omega arith))
-    by false true e = by_zero (nat_le (trimmed os) 0) refl
-      where
-        by_zero : (b : Bool) → nat_le (trimmed os) 0 ≡ b → nat_le (trimmed os) 0 ≡ nat_le (suc (trimmed os)) 0
-        by_zero false g = g ∙ sym (lt-leb (suc (trimmed os)) 0 (omega arith))
-        by_zero true g = absurd (apart (ap (λ n. n == 0) (zero_is (leb-true (trimmed os) 0 g))))
-          where
-            zero_is : trimmed os ≤ 0 → trimmed os ≡ 0
-            zero_is l = omega (arith, l)
-
-            apart : (trimmed os == 0) ≡ (0 == 0) → ⊥
-            apart z = cc
+again_none o os x y p q h = search (rules, same_32, le-leb, lt-leb)
 
 again_is : (k : ℕ) (os : List ℕ) → again k os ≡ nat_le (trimmed os) k
 again_is k [] = grind (arith, common_steps, nat_le, le-leb)
@@ -307,11 +276,11 @@ abbrev full : List ℕ → Bool
 full os = list_all (λ octet. octet == 255) os
 
 not_full_none : (o : ℕ) (os : List ℕ) → trimmed (o ∷ os) ≤ 0 → false ≡ nat_le (need (o ∷ os)) 0
-not_full_none o os h = grind (arith, common_steps, lt-leb, nat_le)
+not_full_none o os h = search (rules, lt-leb)
 
 not_full_other : (o k : ℕ) (os : List ℕ) (t : Bool) → (o == 255) ≡ false → ((trimmed os == 0) && (o == 32)) ≡ t → trimmed (o ∷ os) ≤ suc k
     → not (full (take (suc k) (o ∷ os))) ≡ nat_le (need (o ∷ os)) (suc k)
-not_full_other o k os t e s h = grind (arith, common_steps, not, nat_le, le-leb)
+not_full_other o k os t e s h = search (rules, le-leb)
 
 need_suc : (b : Bool) (n k : ℕ) → nat_le (if b then suc n else n) k ≡ nat_le (if b then suc (suc n) else suc n) (suc k)
 need_suc true n k = sym (suc_le (suc n) k)
@@ -319,7 +288,7 @@ need_suc false n k = sym (suc_le n k)
 
 not_full_one : (o k : ℕ) (os : List ℕ) → (o == 255) ≡ true → trimmed (o ∷ os) ≤ suc k → (trimmed os ≤ k → not (full (take k os)) ≡ nat_le (need os) k)
     → not (full (take (suc k) (o ∷ os))) ≡ nat_le (need (o ∷ os)) (suc k)
-not_full_one o k os e h go = grind (arith, common_steps, eqb-true, not, need_suc, nat_le)
+not_full_one o k os e h go = grind arith
 
 not_full : (os : List ℕ) (k : ℕ) → full os ≡ false → trimmed os ≤ k → not (full (take k os)) ≡ nat_le (need os) k
 not_full [] k f h = absurd cc
@@ -332,19 +301,19 @@ not_full (o ∷ os) (suc k) f h = by (o == 255) refl f (λ g l. not_full os k g 
     by false e f go = not_full_other o k os ((trimmed os == 0) && (o == 32)) e refl h
 
 need_least : (os : List ℕ) → trimmed os ≤ need os
-need_least os = grind (arith, common_steps)
+need_least os = grind arith
 
 gives_is : (count : ℕ) (os : List ℕ) (k : ℕ) → full os ≡ false → has_increment (texts count) 0 k (text os) ≡ nat_le (need os) k
-gives_is count os k f = grind (arith, common_steps, nat_le, not, again_is, not_full, leb-true, lt-leb, leb-false, need_least)
+gives_is count os k f = search (rules, again_is, not_full)
 
 -- Spaces after a text do not count.
 trimmed_none : (n : ℕ) → trimmed (replicate n 32) ≡ 0
 trimmed_none zero = refl
-trimmed_none (suc n) = ap (λ t. if (t == 0) && (32 == 32) then 0 else suc t) (trimmed_none n)
+trimmed_none (suc n) = cc (trimmed_none n)
 
 trimmed_spaced : (os : List ℕ) (n : ℕ) → trimmed (os ++ replicate n 32) ≡ trimmed os
 trimmed_spaced [] n = trimmed_none n
-trimmed_spaced (o ∷ os) n = ap (λ t. if (t == 0) && (o == 32) then 0 else suc t) (trimmed_spaced os n)
+trimmed_spaced (o ∷ os) n = rw (trimmed_spaced os n) refl
 
 trimmed_within : (os : List ℕ) → trimmed os ≤ length os
 trimmed_within [] = omega arith
@@ -352,70 +321,51 @@ trimmed_within (o ∷ os) = by ((trimmed os == 0) && (o == 32)) (trimmed_within 
   where
     by : (b : Bool) → trimmed os ≤ length os → (if b then 0 else suc (trimmed os)) ≤ suc (length os)
     by true h = omega arith
-    by false h = omega (arith, h)
+    by false h = omega arith
 
 take_prefix : (n : ℕ) (os r : List ℕ) → n ≤ length os → take n (os ++ r) ≡ take n os
 take_prefix zero os r h = refl
-take_prefix (suc n) [] r h = absurd (omega (arith, h))
-take_prefix (suc n) (o ∷ os) r h = ap (λ xs. o ∷ xs) (take_prefix n os r (omega (arith, h)))
+take_prefix (suc n) [] r h = absurd (omega arith)
+take_prefix (suc n) (o ∷ os) r h = grind (arith, common_steps)
 
 need_spaced : (count : ℕ) (os : List ℕ) → need (spaced count os) ≡ need os
-need_spaced count os = grind (arith, common_steps, trimmed_spaced, take_prefix, trimmed_within)
+need_spaced count os = simp (trimmed_spaced, take_prefix, trimmed_within)
 
 -- The octets that determine a text fit into the field.
 need_room : (count : ℕ) (os : List ℕ) → (length os ≤ count) × (list_all (λ octet. octet == 255) (spaced count os) ≡ false) → need os ≤ count
-need_room count os h = by (full (take (trimmed os) os)) refl
-  where
-    none : trimmed os ≡ count → full (take (trimmed os) os) ≡ true → ⊥
-    none e f =
-        let all : length os ≤ trimmed os = omega (arith, e, h.0) in
-        let no : count - length os ≡ 0 = omega (arith, e, trimmed_within os) in
-        true_false (full (spaced count os)) (ap (λ n. full (os ++ replicate n 32)) no ∙ ap full (append_none os ∙ sym (take_all (trimmed os) os all)) ∙ f) h.1
-      where
-        append_none : (xs : List ℕ) → xs ++ [] ≡ xs
-        append_none [] = refl
-        append_none (x ∷ xs) = ap (λ ys. x ∷ ys) (append_none xs)
-
-    less : trimmed os ≤ count → (trimmed os ≡ count → ⊥) → suc (trimmed os) ≤ count
-    less l n = by_order (nat_le (suc (trimmed os)) count) refl
-      where
-        by_order : (b : Bool) → nat_le (suc (trimmed os)) count ≡ b → suc (trimmed os) ≤ count
-        by_order true e = leb-true (suc (trimmed os)) count e
-        by_order false e = absurd (n (omega (arith, l, leb-false (suc (trimmed os)) count e)))
-
-    by : (b : Bool) → full (take (trimmed os) os) ≡ b → (if b then suc (trimmed os) else trimmed os) ≤ count
-    by true e = less (omega (arith, trimmed_within os, h.0)) (λ q. none q e)
-    by false e = omega (arith, trimmed_within os, h.0)
+need_room count os h = search (rules, trimmed_within, take_all)
 
 pub most_room : (spec : FieldSpec) (ds : List FieldContent) → 1 ≤ spec.width / 8 → AreContentsOf spec ds → most_need ds ≤ spec.width / 8
 most_room spec [] some all = some
 most_room spec (field_content.Text t ∷ ds) some all = omega (arith, need_room (spec.width / 8) t.now all.0.2, most_room spec ds some all.1)
-most_room spec (d ∷ ds) some all = omega (arith, some, most_room spec ds some all.1)
+most_room spec (d ∷ ds) some all = omega (arith, most_room spec ds some all.1)
 
 -- The greatest number of octets that a text needs is enough for all texts.
 max_le : (a b k : ℕ) → nat_le (max a b) k ≡ (nat_le a k && nat_le b k)
-max_le a b k = grind (arith, common_steps, nat_le, le-leb, leb-true, lt-leb, leb-false)
+max_le a b k = grind arith
 
 one_le : (s k : ℕ) → 1 ≤ k → nat_le s k ≡ nat_le (max 1 s) k
-one_le s k h = sym (max_le 1 s k ∙ ap (λ b. b && nat_le s k) (le-leb 1 k h))
+one_le s k h = simp (max_le, le-leb)
 
 texts_pass : (spec : FieldSpec) (ds : List FieldContent) (k : ℕ) → 1 ≤ k → AreContentsOf spec ds
     → list_all (has_increment (texts (spec.width / 8)) 0 k) (padded_contents (spec.width / 8) ds) ≡ nat_le (most_need ds) k
 texts_pass spec [] k h all = sym (le-leb 1 k h)
-texts_pass spec (field_content.Text t ∷ ds) k h all =
-    ap (λ b. b && list_all (has_increment (texts (spec.width / 8)) 0 k) (padded_contents (spec.width / 8) ds))
-    (gives_is (spec.width / 8) (spaced (spec.width / 8) t.now) k all.0.2.1 ∙ ap (λ n. nat_le n k) (need_spaced (spec.width / 8) t.now))
-    ∙ ap (λ b. nat_le (need t.now) k && b) (texts_pass spec ds k h all.1) ∙ sym (max_le (need t.now) (most_need ds) k)
+texts_pass spec (field_content.Text t ∷ ds) k h all = grind (
+  arith,
+  gives_is (spec.width / 8) (spaced (spec.width / 8) t.now) k all.0.2.1 ∙ ap (λ n. nat_le n k) (need_spaced (spec.width / 8) t.now),
+  texts_pass spec ds k h all.1,
+  max_le (need t.now) (most_need ds) k,
+)
 texts_pass spec (d ∷ ds) k h all = texts_pass spec ds k h all.1 ∙ one_le (most_need ds) k h
 
 first_at : (m fuel from : ℕ) → from ≤ m → first_from (λ k. nat_le m k) fuel from ≡ min m (from + fuel)
-first_at m zero from h = let e : from ≡ min m (from + 0) = omega (arith, h) in e
+first_at m zero from h = omega arith
 first_at m (suc fuel) from h = by (nat_le m from) refl (λ g. first_at m fuel (from + 1) g)
   where
     by : (b : Bool) → nat_le m from ≡ b → (from + 1 ≤ m → first_from (λ k. nat_le m k) fuel (from + 1) ≡ min m (from + 1 + fuel))
         → (if nat_le m from then from else first_from (λ k. nat_le m k) fuel (from + 1)) ≡ min m (from + suc fuel)
-    by true e go = ap (λ b. if b then from else first_from (λ k. nat_le m k) fuel (from + 1)) e ∙ (let q : from ≡ min m (from + suc fuel) = omega (arith, h, leb-true m from e) in q)
-    by false e go = ap (λ b. if b then from else first_from (λ k. nat_le m k) fuel (from + 1)) e ∙ go (omega (arith, leb-false m from e))
+    by true e go = ap (λ b. if b then from else first_from (λ k. nat_le m k) fuel (from + 1)) e ∙ (let q : from ≡ min m (from + suc fuel) = omega (arith, leb-true) in q)
+    by false e go = ap (λ b. if b then from else first_from (λ k. nat_le m k) fuel (from + 1)) e ∙ go (omega (arith, leb-false))
         ∙ (let q : min m (from + 1 + fuel) ≡ min m (from + suc fuel) = omega arith in q)
 
 least_of : (p q : ℕ → Bool) (fuel m : ℕ) → ((k : ℕ) → 1 ≤ k → p k ≡ q k) → (first_from q fuel 1 ≡ min m (1 + fuel)) → first_from p fuel 1 ≡ min m (1 + fuel)
@@ -440,11 +390,12 @@ pub texts_packed : (spec : FieldSpec) (ds : List FieldContent) (k : ℕ) → is_
     → packed_over spec (padded_contents (spec.width / 8) ds)
     ≡ Ok (packed_bits (replicate spec.width false) k (flat_map (increment_for (texts (spec.width / 8)) 0 k) (padded_contents (spec.width / 8) ds)))
 texts_packed spec ds k char element some all is few =
-    let cs = padded_contents (spec.width / 8) ds in
     let same_k : min (most_need ds) 64 ≡ k = omega (arith, is, few) in
-    over_written spec cs (texts (spec.width / 8)) 0 k (text_coding spec char element) (ap (λ o. unwrap_or o 0) (texts_lowest spec (spec.width / 8) ds char all))
-    (texts_least spec ds some all ∙ same_k) few
-    ∙ ap (λ base. Ok (packed_bits base k (flat_map (increment_for (texts (spec.width / 8)) 0 k) cs))) (bits_in-zero spec.width)
+    cc (
+      over_written spec (padded_contents (spec.width / 8) ds) (texts (spec.width / 8)) 0 k (text_coding spec char element) (ap (λ o. unwrap_or o 0) (texts_lowest spec (spec.width / 8) ds char all))
+          (texts_least spec ds some all ∙ same_k) few,
+      bits_in-zero spec.width,
+    )
 
 pub texts_apart : (spec : FieldSpec) (ds : List FieldContent) (k : ℕ) → is_character spec.kind ≡ true → is_reference spec.role ≡ false → 1 ≤ most_need ds → AreContentsOf spec ds → k ≡ most_need ds
     → 63 < k → packed_over spec (padded_contents (spec.width / 8) ds) ≡ Err increment
@@ -479,15 +430,15 @@ lowest_more m (Some n) least most h g = (omega (arith, g.0), omega (arith, g.1))
 
 lowest_is : (count : ℕ) (ds : List FieldContent) → spread 0 ds ≤ 18446744073709551615 → IsLowest (lowest (padded_contents count ds)) (least_number ds) (spread 0 ds)
 lowest_is count [] h = (refl, refl)
-lowest_is count (field_content.Number m ∷ ds) h = lowest_more m (lowest (padded_contents count ds)) (least_number ds) (spread 0 ds) h (lowest_is count ds (omega (arith, h)))
-lowest_is count (d ∷ ds) h = lowest_same (lowest (padded_contents count ds)) (least_number ds) (spread 0 ds) (least_is_u64 ds) (lowest_is count ds (omega (arith, h)))
+lowest_is count (field_content.Number m ∷ ds) h = lowest_more m (lowest (padded_contents count ds)) (least_number ds) (spread 0 ds) h (lowest_is count ds (omega arith))
+lowest_is count (d ∷ ds) h = lowest_same (lowest (padded_contents count ds)) (least_number ds) (spread 0 ds) (least_is_u64 ds) (lowest_is count ds (omega arith))
 
 -- the base of an item, given the least and the greatest number
 pub base_some : (count : ℕ) (ds : List FieldContent) → spread 0 ds ≤ 18446744073709551615 → least_number ds ≤ spread 0 ds → least_number ds ≡ unwrap_or (lowest (padded_contents count ds)) 0
 base_some count ds h g = by (lowest (padded_contents count ds)) (lowest_is count ds h)
   where
     by : (o : Option ℕ) → IsLowest o (least_number ds) (spread 0 ds) → least_number ds ≡ unwrap_or o 0
-    by None q = absurd (omega (arith, q.0, q.1, g))
+    by None q = absurd (omega (arith, q.0, q.1))
     by (Some n) q = q.0
 
 pub base_none : (count : ℕ) (ds : List FieldContent) → spread 0 ds ≤ 18446744073709551615 → spread 0 ds < least_number ds → 0 ≡ unwrap_or (lowest (padded_contents count ds)) 0
@@ -495,7 +446,7 @@ base_none count ds h g = by (lowest (padded_contents count ds)) (lowest_is count
   where
     by : (o : Option ℕ) → IsLowest o (least_number ds) (spread 0 ds) → 0 ≡ unwrap_or o 0
     by None q = refl
-    by (Some n) q = absurd (omega (arith, q.0, q.1, g))
+    by (Some n) q = absurd (omega (arith, q.0, q.1))
 
 -- the greatest number after one more content
 pub most_with : (ds : List FieldContent) (d : FieldContent) → spread 0 (ds ++ d ∷ []) ≡ max (over_of 0 d) (spread 0 ds)
@@ -513,7 +464,7 @@ spread_over base (field_content.Number n ∷ ds) = omega (arith, spread_over bas
 spread_over base (d ∷ ds) = omega (arith, spread_over base ds)
 
 smaller_least : (a n : ℕ) (o : Option ℕ) → a ≡ n → option_map_or (min a) o a ≡ a → option_map_or (min n) o n ≡ a
-smaller_least a n o e h = ap (λ m. option_map_or (min m) o m) (sym e) ∙ h
+smaller_least a n o e h = cc (e)
 
 -- contents that are all the same number
 all_one : (count a : ℕ) (ds : List FieldContent) → list_all (same (number a)) (padded_contents count ds) ≡ true → (option_map_or (min a) (lowest (padded_contents count ds)) a ≡ a)
@@ -542,7 +493,7 @@ all_none count c (field_content.Reference v ∷ ds) differs h = let rest = all_n
     (rest.0, omega (arith, rest.1))
 
 no_range : (count : ℕ) (ds : List FieldContent) → (lowest (padded_contents count ds) ≡ None) × (spread 0 ds ≡ 0) → unwrap_or (lowest (padded_contents count ds)) 0 ≡ spread 0 ds
-no_range count ds h = ap (λ o. unwrap_or o 0) h.0 ∙ sym h.1
+no_range count ds h = rw (h.0, h.1)
 
 -- If contents are all the same, their least and their greatest number are equal.
 pub range_of_same : (count : ℕ) (c : Content) (ds : List FieldContent) → list_all (same c) (padded_contents count ds) ≡ true → unwrap_or (lowest (padded_contents count ds)) 0 ≡ spread 0 ds
@@ -555,4 +506,4 @@ range_of_same count (reference v) ds h = no_range count ds (all_none count (refe
 
 -- If the least and the greatest number differ, the contents are not all the same.
 pub not_alike : (count : ℕ) (c : Content) (ds : List FieldContent) → (unwrap_or (lowest (padded_contents count ds)) 0 ≡ spread 0 ds → ⊥) → false ≡ list_all (same c) (padded_contents count ds)
-not_alike count c ds h = grind (arith, common_steps, range_of_same)
+not_alike count c ds h = grind (arith, range_of_same)

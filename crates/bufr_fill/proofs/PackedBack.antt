@@ -1,17 +1,17 @@
 -- The bits of a packed item read back as its contents.
-use Rattle.std.proofs.Common.{◌≡◌, ℕ, zero, suc, ◌+◌, ◌-◌, ◌*◌, ◌^◌, ◌<◌, ◌≤◌, ◌≢◌, ◌&&◌, ◌||◌, Bool, true, false, not, List, [], ◌∷◌, ◌++◌, length, take, drop, map, replicate, Option, Some, None, option_map, refl, sym, ◌∙◌, ap, arith, append_assoc, subst, pow_mono, ◌==◌, nat_lt, if◌then◌else◌}
-use Rattle.std.proofs.lemmas.Bool.{le-ltb, lt-ltb, ltb-false, ltb-true, ne_eqb}
+use Rattle.std.proofs.lemmas.Grind.{common_steps}
+use Rattle.std.proofs.Common.{◌≡◌, ℕ, zero, suc, ◌+◌, ◌-◌, ◌*◌, ◌^◌, ◌<◌, ◌≤◌, ◌≢◌, ◌&&◌, ◌||◌, Bool, true, false, not, List, [], ◌∷◌, ◌++◌, length, take, drop, map, replicate, Option, Some, None, refl, sym, ◌∙◌, ap, arith, append_assoc, subst, pow_mono, ◌==◌, nat_lt, if◌then◌else◌, rules}
+use Rattle.std.proofs.lemmas.Bool.{le-ltb, lt-ltb, ltb-false, ne_eqb}
 use Rattle.std.specs.List.{list_all, flat_map, AllByRecursion}
 use Rattle.std.proofs.lemmas.List.{take_at, drop_at, length-append, length-replicate, length-take-le, length-drop}
-use Rattle.std.proofs.lemmas.Bool.Decides.{nat_tests}
 use Rattle.bufr_bits.specs.Prelude.{bits_of, bits_in, number_of, are_all_ones}
-use Rattle.bufr_bits.proofs.BitLemmas.{length-bits_of, length-bits_in, number_of-below, list_all-append}
+use Rattle.bufr_bits.proofs.BitLemmas.{length-bits_of, length-bits_in, number_of-below}
 use Rattle.bufr_bits.proofs.DecimalLemmas.{and_first, and_second}
-use Rattle.bufr_walk.specs.Prelude.{Content, number, text, missing, reference, numbers, texts, increased, sum_within, all_there, octets_in, ones, increments}
+use Rattle.bufr_walk.specs.Prelude.{Content, number, text, missing, reference, numbers, texts, increased, all_there, octets_in, ones, increments}
 use Rattle.bufr_walk.proofs.PackedLemmas.{ones_same, some_same, next_there, padded_text}
 use Rattle.std.specs.Str.{bytes_eq}
 use Rattle.bufr_fill.specs.Prelude.{raw_limit, has_increment, increment_for, AreOctets, FitsNumber, FitsText}
-use Rattle.bufr_fill.proofs.FieldLemmas.{number_again, number_back, ones_set, octets_again, full_test, length-octets_in, octets_in-are, octet_bits_again, top_below}
+use Rattle.bufr_fill.proofs.FieldLemmas.{number_again, number_back, ones_set, octets_again, full_test, length-octets_in, octets_in-are, octet_bits_again}
 use Rattle.bufr_fill.proofs.LeastLemmas.{AreNumbers, IsOver, AreOver, octets_same, octets_self}
 
 -- The bits of each item in the list have length k.
@@ -26,12 +26,7 @@ module _ {X : Type 0} (f : X → List Bool) (k : ℕ) where
   -- These bits are read back, item by item.
   pub pieces_found : (xs : List X) (more : List Bool) → AreLong f k xs → increments (length xs) k (flat_map f xs ++ more) ≡ map f xs
   pieces_found [] more long = refl
-  pieces_found (x ∷ xs) more long =
-      let turned : (f x ++ flat_map f xs) ++ more ≡ f x ++ (flat_map f xs ++ more) = append_assoc (f x) (flat_map f xs) more in
-      ap (λ bs. take k bs ∷ increments (length xs) k (drop k bs)) turned
-      ∙ ap (λ b. b ∷ increments (length xs) k (drop k (f x ++ (flat_map f xs ++ more)))) (take_at (f x) (flat_map f xs ++ more) k long.0)
-      ∙ ap (λ bs. f x ∷ increments (length xs) k bs) (drop_at (f x) (flat_map f xs ++ more) k long.0)
-      ∙ ap (λ bss. f x ∷ bss) (pieces_found xs more long.1)
+  pieces_found (x ∷ xs) more long = grind (arith, pieces_found xs more long.1, append_assoc, take_at, drop_at)
 
 -- how a number is read from its increment
 not_both : (m : Bool) (a b : ℕ) → (m ≡ true → a ≢ b) → (m && (a == b)) ≡ false
@@ -44,7 +39,7 @@ top_ones false k v h e = absurd cc
 
 -- If a content and all contents after it are present, all are present.
 there_more : (o : Option Content) (os : List (Option Content)) (c : Content) (cs : List Content) → o ≡ Some c → all_there os ≡ Some cs → all_there (o ∷ os) ≡ Some (c ∷ cs)
-there_more o os c cs e f = ap (λ x. all_there (x ∷ os)) e ∙ ap (option_map (λ others. c ∷ others)) f
+there_more o os c cs e f = rw (e, f)
 
 any_not : (m full last : Bool) → (full && m) ≡ false → (m && last) ≡ false → (m && (full || last)) ≡ false
 any_not true true last h g = h
@@ -58,30 +53,14 @@ any_last false full e = e
 
 module _ (m : Bool) (w base k : ℕ) (fits : base < raw_limit m w) where
   number_increased : (n : ℕ) → base ≤ n → n < raw_limit m w → n - base < raw_limit m k → increased (numbers w m) k (bits_in base w) (bits_in (n - base) k) ≡ Some (number n)
-  number_increased n increment_over below short =
-      let at = bits_in base w in
-      let incr = bits_in (n - base) k in
-      let i : number_of incr ≡ n - base = number_again (n - base) k (top_below m k (n - base) short) in
-      let e : base + (n - base) ≡ n = omega arith in
-      let last : (m && are_all_ones incr) ≡ false = ap (λ b. m && b) (ones_same k incr (length-bits_in (n - base) k) ∙ ap (λ x. x == ones k) i)
-      ∙ not_both m (n - base) (ones k) (λ t. let s = top_ones m k (n - base) short t in λ q. omega (arith, s, q)) in
-      let past : nat_lt (ones w) n ≡ false = le-ltb (ones w) n (let p = top_below m w n below in omega (arith, p)) in
-      let whole : (m && (n == ones w)) ≡ false = not_both m n (ones w) (λ t. let s = top_ones m w n below t in λ q. omega (arith, s, q)) in
-      ap (λ b. if b then Some missing else sum_within w m (number_of at + number_of incr)) (any_not m (are_all_ones at) (are_all_ones incr) (number_back w m base fits) last)
-      ∙ ap (λ x. sum_within w m (x + number_of incr)) (number_again base w (top_below m w base fits)) ∙ ap (λ x. sum_within w m (base + x)) i ∙ ap (sum_within w m) e
-      ∙ ap (λ b. if b then None else Some (if m && (n == ones w) then missing else number n)) past ∙ ap (λ b. Some (if b then missing else number n)) whole
+  number_increased n increment_over below short = grind (arith, not_both, top_ones, any_not, number_back, number_again)
 
   missing_increased : m ≡ true → increased (numbers w m) k (bits_in base w) (replicate k true) ≡ Some missing
-  missing_increased e =
-      ap (λ b. if m && (are_all_ones (bits_in base w) || b) then Some missing else sum_within w m (number_of (bits_in base w) + number_of (replicate k true))) (ones_set k)
-      ∙ ap (λ b. if b then Some missing else sum_within w m (number_of (bits_in base w) + number_of (replicate k true))) (any_last m (are_all_ones (bits_in base w)) e)
+  missing_increased e = rw (ones_set, any_last)
 
   one_increased : (c : Content) → FitsNumber m w c → IsOver base c → has_increment (numbers w m) base k c ≡ true
       → increased (numbers w m) k (bits_in base w) (increment_for (numbers w m) base k c) ≡ Some c
-  one_increased (number n) h o p = number_increased n o h (ltb-true (n - base) (raw_limit m k) p)
-  one_increased (text os) h o p = absurd h
-  one_increased missing h o p = missing_increased h
-  one_increased (reference v) h o p = absurd h
+  one_increased c h o p = search (rules, number_increased, missing_increased)
 
   -- Numbers at or above a base are read back from their increments.
   pub numbers_back : (cs : List Content) → AreNumbers m w cs → AreOver base cs → list_all (has_increment (numbers w m) base k) cs ≡ true
@@ -117,10 +96,7 @@ AreOctets-take (suc k) (o ∷ os) h = (h.0, AreOctets-take k os h.1)
 
 module _ (count k : ℕ) (short : k ≤ count) where
   pub octets_length : (c : Content) → FitsText count c → length (increment_for (texts count) 0 k c) ≡ 8 * k
-  octets_length (text os) h = length-bits_of (take k os) ∙ ap (λ n. 8 * n) (length-take-le k os (omega (arith, h.0)))
-  octets_length missing h = length-replicate (8 * k) true
-  octets_length (number n) h = absurd h
-  octets_length (reference v) h = absurd h
+  octets_length c h = grind (arith, common_steps, length-bits_of, length-take-le, length-replicate)
 
   pub octets_long : (cs : List Content) → AreTexts count cs → AreLong (increment_for (texts count) 0 k) (8 * k) cs
   octets_long [] h = tt
@@ -138,11 +114,7 @@ module _ (count k : ℕ) (short : k ≤ count) where
       ∙ not_true (list_all (λ octet. octet == 255) prefix) (and_second (bytes_eq (prefix ++ replicate (length os - k) 32) os) (not (list_all (λ octet. octet == 255) prefix)) p) in
       let whole : prefix ++ replicate (length os - k) 32 ≡ os = octets_same (prefix ++ replicate (length os - k) 32) os
       (and_first (bytes_eq (prefix ++ replicate (length os - k) 32) os) (not (list_all (λ octet. octet == 255) prefix)) p) in
-      ap (λ b. if b then missing else text (octets_in k (bits_of prefix) ++ replicate (count - k) 32)) some
-      ∙ ap (λ n. text (octets_in n (bits_of prefix) ++ replicate (count - k) 32)) (sym l)
-      ∙ ap (λ x. text (x ++ replicate (count - k) 32)) (octets_again prefix are)
-      ∙ ap (λ n. text (prefix ++ replicate (n - k) 32)) (sym h.0)
-      ∙ ap text whole
+      cc (some, l, octets_again prefix are, h.0, whole)
 
   -- Texts are read back from their octets.
   pub texts_back : (base : List Bool) (cs : List Content) → AreTexts count cs → list_all (has_increment (texts count) 0 k) cs ≡ true
@@ -193,41 +165,25 @@ power_pos w = let p : 2 ^ 0 ≤ 2 ^ w = pow_mono (zero_least w) in omega arith
     zero_least w = omega arith
 
 number_read : (m : Bool) (w base k i : ℕ) → i < 2 ^ k → nat_lt (ones w) (base + i) ≡ false → (m ≡ true → i ≢ ones k) → (m ≡ true → base + i ≢ ones w) → IsIncreased m w base k (number (base + i))
-number_read m w base k i small q last whole =
-    let most : base + i ≤ ones w = ltb-false (ones w) (base + i) q in
-    let pos : 0 < 2 ^ w = power_pos w in
-    let back : (base + i) - base ≡ i = omega arith in
-    record {
-      fits = top_from m w (base + i) (omega arith) whole;
-      increment_over = omega arith;
-      short = subst (λ j. j < raw_limit m k) (sym back) (top_from m k i small last);
-    }
+number_read m w base k i small q last whole = search (rules, ltb-false, power_pos, top_from)
 
 missing_read : (w base k : ℕ) → IsIncreased true w base k missing
 missing_read w base k = record { fits = refl; increment_over = tt; short = tt }
 
 differ : (a b : ℕ) → (a == b) ≡ false → a ≢ b
-differ a b h = grind (arith, nat_tests)
+differ a b h = grind arith
 
 -- A content that was read from an increment, given the tests: whether the number may be missing,
 -- whether the base and the increment are all ones, whether their sum exceeds the width, and whether
 -- it is all ones.
 read_by_tests : (m full last past whole : Bool) (w base k i : ℕ) (c : Content) → i < 2 ^ k → (i == ones k) ≡ last → nat_lt (ones w) (base + i) ≡ past → (base + i == ones w) ≡ whole
     → (if m && (full || last) then Some missing else if past then None else Some (if m && whole then missing else number (base + i))) ≡ Some c → IsIncreased m w base k c
-read_by_tests true true last past whole w base k i c small p q r e = subst (IsIncreased true w base k) (some_same missing c e) (missing_read w base k)
-read_by_tests true false true past whole w base k i c small p q r e = subst (IsIncreased true w base k) (some_same missing c e) (missing_read w base k)
-read_by_tests true false false true whole w base k i c small p q r e = absurd cc
-read_by_tests true false false false true w base k i c small p q r e = subst (IsIncreased true w base k) (some_same missing c e) (missing_read w base k)
-read_by_tests true false false false false w base k i c small p q r e =
-    subst (IsIncreased true w base k) (some_same (number (base + i)) c e) (number_read true w base k i small q (λ t. differ i (ones k) p) (λ t. differ (base + i) (ones w) r))
-read_by_tests false full last true whole w base k i c small p q r e = absurd cc
-read_by_tests false full last false whole w base k i c small p q r e =
-    subst (IsIncreased false w base k) (some_same (number (base + i)) c e) (number_read false w base k i small q (λ t. absurd cc) (λ t. absurd cc))
+read_by_tests m full last past whole w base k i c small p q r e = search rules
 
 read_one : (m : Bool) (w k : ℕ) (base i : List Bool) (c : Content) → length i ≡ k → increased (numbers w m) k base i ≡ Some c → IsIncreased m w (number_of base) k c
 read_one m w k base i c long e =
     read_by_tests m (are_all_ones base) (are_all_ones i) (nat_lt (ones w) (number_of base + number_of i)) (number_of base + number_of i == ones w) w (number_of base) k (number_of i) c
-    (subst (λ n. number_of i < 2 ^ n) long (number_of-below i)) (sym (ones_same k i long)) refl refl e
+    (rw long at (number_of-below i)) (sym (ones_same k i long)) refl refl e
 
 -- the same for all contents
 pub record AreIncreased (m : Bool) (w base k : ℕ) (cs : List Content) : Type 0 where
@@ -237,7 +193,7 @@ pub record AreIncreased (m : Bool) (w base k : ℕ) (cs : List Content) : Type 0
 
 pub numbers_read : (m : Bool) (w k : ℕ) (base : List Bool) (is : List (List Bool)) (cs : List Content) → AllLong k is → all_there (map (increased (numbers w m) k base) is) ≡ Some cs
     → AreIncreased m w (number_of base) k cs
-numbers_read m w k base [] cs long e = subst (AreIncreased m w (number_of base) k) (some_same [] cs e) (record { fits = tt; increment_over = tt; short = tt })
+numbers_read m w k base [] cs long e = grind (arith, common_steps, some_same)
 numbers_read m w k base (i ∷ is) cs long e =
     let t = next_there (increased (numbers w m) k base i) (map (increased (numbers w m) k base) is) cs e in
     let a = read_one m w k base i t.0 long.0 t.2 in
@@ -246,12 +202,12 @@ numbers_read m w k base (i ∷ is) cs long e =
 
 -- An increment over a greater base is not longer.
 has_over : (m : Bool) (w base low k : ℕ) (c : Content) → base ≤ low → IsShort m base k c → has_increment (numbers w m) low k c ≡ true
-has_over m w base low k (number n) h s = lt-ltb (n - low) (raw_limit m k) (omega (arith, s))
+has_over m w base low k (number n) h s = omega (arith, lt-ltb)
 has_over m w base low k c h s = refl
 
 pub all_over : (m : Bool) (w base low k : ℕ) (cs : List Content) → base ≤ low → AreShort m base k cs → list_all (has_increment (numbers w m) low k) cs ≡ true
 all_over m w base low k [] h s = refl
-all_over m w base low k (c ∷ cs) h s = ap (λ b. b && list_all (has_increment (numbers w m) low k) cs) (has_over m w base low k c h s.0) ∙ all_over m w base low k cs h s.1
+all_over m w base low k (c ∷ cs) h s = cc (has_over m w base low k c h s.0, all_over m w base low k cs h s.1)
 
 -- how a text is read from its octets
 pub AreOctets-append : (xs ys : List ℕ) → AreOctets xs → AreOctets ys → AreOctets (xs ++ ys)
@@ -272,28 +228,17 @@ pub record IsFromOctets (count k : ℕ) (c : Content) : Type 0 where
 
 text_read : (count k : ℕ) (i : List Bool) (b : Bool) → k ≤ count → length i ≡ 8 * k → are_all_ones i ≡ b
     → IsFromOctets count k (if b then missing else text (octets_in k i ++ replicate (count - k) 32))
-text_read count k i true short long e = record { fits = tt; again = refl }
-text_read count k i false short long e =
-    let prefix = octets_in k i in
-    let l : length prefix ≡ k = length-octets_in k i in
-    let are : AreOctets prefix = octets_in-are k i long in
-    let some : list_all (λ octet. octet == 255) prefix ≡ false = sym (full_test prefix are) ∙ ap are_all_ones (octet_bits_again k i long) ∙ e in
-    let whole = prefix ++ replicate (count - k) 32 in
-    let size : length whole ≡ count = omega (arith, length-append prefix (replicate (count - k) 32), l, length-replicate {A = ℕ} (count - k) 32) in
-    let first : take k whole ≡ prefix = take_at prefix (replicate (count - k) 32) k l in
-    record {
-      fits = (
-        size,
-        AreOctets-append prefix (replicate (count - k) 32) are (AreOctets-spaces (count - k)),
-        list_all-append (λ octet. octet == 255) prefix (replicate (count - k) 32)
-            ∙ and_false (list_all (λ octet. octet == 255) prefix) (list_all (λ octet. octet == 255) (replicate (count - k) 32)) some,
-      );
-      again =
-          ap (λ xs. bytes_eq (xs ++ replicate (length whole - k) 32) whole && not (list_all (λ octet. octet == 255) xs)) first
-          ∙ ap (λ n. bytes_eq (prefix ++ replicate (n - k) 32) whole && not (list_all (λ octet. octet == 255) prefix)) size
-          ∙ ap (λ b. b && not (list_all (λ octet. octet == 255) prefix)) (octets_self whole)
-          ∙ ap not some;
-    }
+text_read count k i b short long e = grind (
+  arith,
+  common_steps,
+  length-octets_in,
+  octets_in-are,
+  full_test,
+  octet_bits_again,
+  AreOctets-append,
+  AreOctets-spaces,
+  octets_self,
+)
 
 -- the same for all texts
 pub record AreFromOctets (count k : ℕ) (cs : List Content) : Type 0 where
@@ -306,7 +251,7 @@ text_there false a c e = (refl, some_same a c e)
 
 pub texts_read : (count k : ℕ) (base : List Bool) (is : List (List Bool)) (cs : List Content) → AllLong (8 * k) is → all_there (map (increased (texts count) k base) is) ≡ Some cs
     → AreFromOctets count k cs
-texts_read count k base [] cs long e = subst (AreFromOctets count k) (some_same [] cs e) (record { fits = tt; again = refl })
+texts_read count k base [] cs long e = grind (arith, some_same)
 texts_read count k base (i ∷ is) cs long e =
     let t = next_there (increased (texts count) k base i) (map (increased (texts count) k base) is) cs e in
     let one = text_there (nat_lt count k) (padded_text count k i) t.0 t.2 in

@@ -49,18 +49,21 @@ unfolding packed_to_bits ok_bits coded_spec decimal_value_of bits_in
 figures_written = refl
 
 -- rule: packs-texts
-name_written : packed_to_bits name (subset (draft 24 271 (text_form (codes "ABC")) ∷ []) 25 ∷ subset (draft 26 271 missing_form ∷ []) 27 ∷ []) ≡ ok_bits (zeros 20 (13 ∷ 5 ∷ 9 ∷ 15 ∷ 255 ∷ 255 ∷ 252 ∷ [])) 214
+name_written : packed_to_bits name (subset (draft 24 271 (text_form (codes "ABC")) ∷ []) 25 ∷ subset (draft 26 271 missing_form ∷ []) 27 ∷ [])
+    ≡ ok_bits (zeros 20 (13 ∷ 5 ∷ 9 ∷ 15 ∷ 255 ∷ 255 ∷ 252 ∷ [])) 214
 unfolding packed_to_bits ok_bits zeros name bits_in bits_of
 name_written = refl
 
 -- rule: packs-equal
-names_equal : packed_to_bits four_letters (subset (draft 24 34052 (text_form (codes "AB")) ∷ []) 25 ∷ subset (draft 26 34052 (text_form (codes "AB  ")) ∷ []) 27 ∷ []) ≡ ok_bits (65 ∷ 66 ∷ 32 ∷ 32 ∷ 0 ∷ []) 38
+names_equal : packed_to_bits four_letters (subset (draft 24 34052 (text_form (codes "AB")) ∷ []) 25 ∷ subset (draft 26 34052 (text_form (codes "AB  ")) ∷ []) 27 ∷ [])
+    ≡ ok_bits (65 ∷ 66 ∷ 32 ∷ 32 ∷ 0 ∷ []) 38
 unfolding packed_to_bits ok_bits four_letters bits_in bits_of
 names_equal = refl
 
 -- With k = 1, the first text would read as missing.
 -- rule: packs-texts-not-missing
-text_that_begins_with_ones : packed_to_bits four_letters (subset (draft 24 34052 (text_form (255 ∷ [])) ∷ []) 25 ∷ subset (draft 26 34052 (text_form (codes "B")) ∷ []) 27 ∷ []) ≡ ok_bits (zeros 4 (11 ∷ 252 ∷ 129 ∷ 8 ∷ 128 ∷ [])) 70
+text_that_begins_with_ones : packed_to_bits four_letters (subset (draft 24 34052 (text_form (255 ∷ [])) ∷ []) 25 ∷ subset (draft 26 34052 (text_form (codes "B")) ∷ []) 27 ∷ [])
+    ≡ ok_bits (zeros 4 (11 ∷ 252 ∷ 129 ∷ 8 ∷ 128 ∷ [])) 70
 unfolding packed_to_bits ok_bits zeros four_letters bits_in bits_of
 text_that_begins_with_ones = refl
 
@@ -79,19 +82,22 @@ texts_too_long_apart = refl
 -- The fault is at the first subset whose factor is not that of subset 1.
 -- rule: fault-58
 factors_unequal : packed_to_bits delayed_blocks
-    (subset (numbered 24 7937 (codes "0") ∷ []) 25 ∷ subset (numbered 26 7937 (codes "0") ∷ []) 27 ∷ subset (numbered 28 7937 (codes "1") ∷ numbered 29 257 (codes "1") ∷ []) 30 ∷ []) ≡ Err (at_line 28 wrong.UnequalFactor)
+    (subset (numbered 24 7937 (codes "0") ∷ []) 25 ∷ subset (numbered 26 7937 (codes "0") ∷ []) 27 ∷ subset (numbered 28 7937 (codes "1") ∷ numbered 29 257 (codes "1") ∷ []) 30 ∷ [])
+    ≡ Err (at_line 28 wrong.UnequalFactor)
 unfolding packed_to_bits delayed_blocks decimal_value_of bits_in
 factors_unequal = refl
 
 -- rule: packs-factors-and-references
 blocks_written : packed_to_bits delayed_blocks
-    (subset (numbered 24 7937 (codes "1") ∷ numbered 25 257 (codes "10") ∷ []) 26 ∷ subset (numbered 27 7937 (codes "1") ∷ numbered 28 257 (codes "10") ∷ []) 29 ∷ []) ≡ ok_bits (1 ∷ 0 ∷ 80 ∷ 0 ∷ []) 27
+    (subset (numbered 24 7937 (codes "1") ∷ numbered 25 257 (codes "10") ∷ []) 26 ∷ subset (numbered 27 7937 (codes "1") ∷ numbered 28 257 (codes "10") ∷ []) 29 ∷ [])
+    ≡ ok_bits (1 ∷ 0 ∷ 80 ∷ 0 ∷ []) 27
 unfolding packed_to_bits ok_bits delayed_blocks decimal_value_of bits_in
 blocks_written = refl
 
 -- rule: packs-factors-and-references
 references_equal : packed_to_bits redefined
-    (subset (draft 24 3173 (reference_token (codes "-400")) ∷ numbered 25 3173 (codes "284.15") ∷ []) 26 ∷ subset (draft 27 3173 (reference_token (codes "-400")) ∷ numbered 28 3173 (codes "284.15") ∷ []) 29 ∷ [])
+    (subset (draft 24 3173 (reference_token (codes "-400")) ∷ numbered 25 3173 (codes "284.15") ∷ []) 26
+    ∷ subset (draft 27 3173 (reference_token (codes "-400")) ∷ numbered 28 3173 (codes "284.15") ∷ []) 29 ∷ [])
     ≡ ok_bits (228 ∷ 0 ∷ 112 ∷ 143 ∷ 0 ∷ []) 38
 unfolding packed_to_bits ok_bits redefined decimal_value_of bits_in
 references_equal = refl
@@ -104,7 +110,8 @@ references_differ = refl
 
 -- The items of all subsets are checked before their contents are packed.
 -- rule: fault-order-of-subsets
-second_at_fault : packed_to_bits delayed_blocks (subset (numbered 24 7937 (codes "0") ∷ []) 25 ∷ subset (numbered 26 7937 (codes "1") ∷ []) 27 ∷ subset (numbered 28 7937 (codes "1.5") ∷ []) 29 ∷ []) ≡ Err (at_line 28 wrong.Number)
+second_at_fault : packed_to_bits delayed_blocks (subset (numbered 24 7937 (codes "0") ∷ []) 25 ∷ subset (numbered 26 7937 (codes "1") ∷ []) 27 ∷ subset (numbered 28 7937 (codes "1.5") ∷ []) 29 ∷ [])
+    ≡ Err (at_line 28 wrong.Number)
 unfolding packed_to_bits delayed_blocks decimal_value_of bits_in
 second_at_fault = refl
 

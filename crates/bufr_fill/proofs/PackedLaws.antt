@@ -1,12 +1,10 @@
 -- An item of compressed data that was read is packed and read back, in no more bits.
-use Rattle.std.proofs.lemmas.Grind.{common_steps}
-use Rattle.std.proofs.Common.{◌≡◌, ℕ, ◌+◌, ◌*◌, ◌/◌, ◌^◌, ◌<◌, ◌≤◌, ◌&&◌, Bool, true, false, List, [], ◌∷◌, ◌++◌, length, take, drop, map, replicate, Option, Some, None, Result, Ok, Err, refl, sym, ◌∙◌, ap, subst, arith, append_assoc, pow_mono, zero, suc, ◌-◌, not, ◌==◌, nat_lt, nat_le, if◌then◌else◌, unwrap_or, ◌||◌}
+use Rattle.std.proofs.Common.{◌≡◌, ℕ, ◌+◌, ◌*◌, ◌/◌, ◌^◌, ◌<◌, ◌≤◌, Bool, true, false, List, [], ◌∷◌, ◌++◌, length, take, drop, map, replicate, Option, Some, None, Result, Ok, Err, refl, sym, ◌∙◌, ap, subst, arith, append_assoc, pow_mono, zero, suc, ◌==◌, nat_lt, nat_le, if◌then◌else◌, unwrap_or, ◌||◌, rules}
 use Rattle.std.proofs.lemmas.Bool.{le-ltb, leb-true, lt-ltb, ltb-false, eqb-true}
 use Rattle.std.specs.List.{list_all, flat_map, AllByRecursion}
 use Rattle.std.proofs.lemmas.List.{take_at, drop_at, drop-drop, length-append, length-replicate, length-take, length-take-le, length-drop, append-nil, take_all}
-use Rattle.std.proofs.lemmas.Bool.Decides.{nat_tests}
 use Rattle.std.proofs.Math.Nat.{mul-le-mul_left, le_of_mul-le-mul_left}
-use Rattle.bufr_bits.specs.Prelude.{bits_in, number_of, ◌>>=◌}
+use Rattle.bufr_bits.specs.Prelude.{bits_in, number_of}
 use Rattle.bufr_bits.proofs.BitLemmas.{number_of-below, length-bits_in}
 use Rattle.bufr_bits.proofs.DecimalLemmas.{and_first, and_second}
 use Rattle.bufr_tables.specs.declared.table_b.Kind.{Kind}
@@ -36,7 +34,7 @@ module _ (n : ℕ) (spec : FieldSpec) where
   k_small bits =
       let l : length (take 6 bits) ≤ 6 = omega (arith, length-take 6 bits) in
       let p : 2 ^ length (take 6 bits) ≤ 2 ^ 6 = pow_mono l in
-      omega (arith, number_of-below (take 6 bits), p)
+      omega (arith, p, number_of-below)
 
   pub unpacked : (bits : List Bool) (cs : List Content) (mid : List Bool) → packed_field n spec bits ≡ Ok (found cs mid) → IsUnpacked n spec bits cs mid (number_of (take 6 (drop spec.width bits)))
   unpacked bits cs mid e =
@@ -46,15 +44,15 @@ module _ (n : ℕ) (spec : FieldSpec) where
       let t = item_parts spec.role (nat_lt (length bits) (spec.width + 6) || nat_lt (length suffix) used) (contents_across (coding_of spec) k n (take spec.width bits) suffix)
       (drop used suffix) cs mid e in
       let ends = neither (nat_lt (length bits) (spec.width + 6)) (nat_lt (length suffix) used) t.0 in
-      let long : spec.width + 6 ≤ length bits = ltb-false (length bits) (spec.width + 6) ends.0 in
+      let long : spec.width + 6 ≤ length bits = omega (arith, ltb-false) in
       let enough : used ≤ length suffix = ltb-false (length suffix) used ends.1 in
       record {
         small = k_small (drop spec.width bits);
-        base = length-take-le spec.width bits (omega (arith, long));
+        base = length-take-le spec.width bits (omega arith);
         enough = enough;
         across = t.1;
         equal = t.2;
-        used = omega (arith, long, enough, length-drop (spec.width + 6) bits, length-drop used suffix, ap length t.3);
+        used = omega (arith, length-drop (spec.width + 6) bits, length-drop used suffix, ap length t.3);
       }
 
   -- ---- How packed bits are read, part by part.
@@ -79,11 +77,7 @@ module _ (n : ℕ) (spec : FieldSpec) where
       omega (arith, ap length turned, length-append base (bits_in k 6 ++ (pieces ++ more)), length-append (bits_in k 6) (pieces ++ more), length-append pieces more, lb, length-bits_in k 6) in
       let none : nat_lt (length all) (w + 6) ≡ false = le-ltb (length all) (w + 6) (omega (arith, size)) in
       let enough : nat_lt (length (pieces ++ more)) used ≡ false = le-ltb (length (pieces ++ more)) used (omega (arith, length-append pieces more, lp)) in
-      ap (λ j. by_parts all j (take w all) (drop (w + 6) all)) is_k ∙ ap (λ x. by_parts all k x (drop (w + 6) all)) first ∙ ap (λ x. by_parts all k base x) suffix
-      ∙ ap (λ b. item_by spec.role (b || nat_lt (length (pieces ++ more)) used) (contents_across (coding_of spec) k n base (pieces ++ more)) (drop used (pieces ++ more))) none
-      ∙ ap (λ b. item_by spec.role b (contents_across (coding_of spec) k n base (pieces ++ more)) (drop used (pieces ++ more))) enough
-      ∙ ap (λ o. item_by spec.role false o (drop used (pieces ++ more))) across
-      ∙ ap (λ r. r >>= λ y. Ok (found y (drop used (pieces ++ more)))) equal ∙ ap (λ s. Ok (found cs s)) (drop_at pieces more used lp)
+      rw (is_k, first, suffix, none, enough, across, equal, drop_at)
 
 -- ---- Contents that differ.
 
@@ -229,16 +223,11 @@ varied_fit spec kd m w k cs h v = all_map cs h v.0
 
 same_copies : (c : Content) (cs : List Content) → list_all (same c) cs ≡ true → cs ≡ replicate (length cs) c
 same_copies c [] h = refl
-same_copies c (d ∷ cs) h =
-    ap (λ x. x ∷ cs) (sym (content_same c d (and_first (same c d) (list_all (same c) cs) h))) ∙ ap (λ xs. c ∷ xs) (same_copies c cs (and_second (same c d) (list_all (same c) cs) h))
+same_copies c (d ∷ cs) h = cc (content_same c d (and_first (same c d) (list_all (same c) cs) h), same_copies c cs (and_second (same c d) (list_all (same c) cs) h))
 
 -- In a list of copies of x, the first content is x, and all are the same.
 copies_are : (n : ℕ) (x c : Content) (cs : List Content) → replicate n x ≡ c ∷ cs → (x ≡ c) × (list_all (same c) cs ≡ true)
-copies_are zero x c cs h = absurd cc
-copies_are (suc n) x c cs h = let f = heads x c (replicate n x) cs h in (f.0, ap (λ xs. list_all (same c) xs) (sym f.1 ∙ ap (replicate n) f.0) ∙ are_same_copies c n)
-  where
-    heads : (x c : Content) (xs cs : List Content) → x ∷ xs ≡ c ∷ cs → (x ≡ c) × (xs ≡ cs)
-    heads x c xs cs h = (cc, cc)
+copies_are n x c cs h = search (rules, are_same_copies)
 
 step_none : (d : Coding) → step_of d 0 ≡ 0
 step_none (numbers w m) = refl
@@ -263,15 +252,7 @@ count_across d k n base suffix cs e = by (k == 0) e
 
 -- The k of a redefined reference is 0.
 no_k : (k n : ℕ) (base suffix : List Bool) (cs : List Content) → 1 ≤ n → contents_across references k n base suffix ≡ Some cs → k ≡ 0
-no_k k zero base suffix cs some e = absurd (omega (arith, some))
-no_k k (suc n) base suffix cs some e = by (k == 0) refl
-  where
-    none : ◌≡◌ {A = Option (List Content)} None (Some cs) → ⊥
-    none e = cc
-
-    by : (b : Bool) → (k == 0) ≡ b → k ≡ 0
-    by true p = eqb-true k 0 p
-    by false p = absurd (none (sym (varied references k (suc n) base suffix p) ∙ e))
+no_k k n base suffix cs some e = grind arith
 
 -- The field is an element or an inserted text.
 record IsOpen (spec : FieldSpec) : Type 0 where
@@ -285,7 +266,7 @@ open_element spec e = record {
   coding = coding_is spec.role spec.kind spec (ap is_reference e);
   equal = λ cs. ap (λ r. if_equal r cs) e;
   packings = λ cs. ap (λ r. packed_unlike r spec cs) e;
-  fit = λ c f. subst (λ r. FitsRole r spec c) (sym e) f;
+  fit = λ c f. rw e f;
 }
 
 open_inserted : (spec : FieldSpec) → spec.role ≡ role.Inserted → IsOpen spec
@@ -293,14 +274,14 @@ open_inserted spec e = record {
   coding = coding_is spec.role spec.kind spec (ap is_reference e);
   equal = λ cs. ap (λ r. if_equal r cs) e;
   packings = λ cs. ap (λ r. packed_unlike r spec cs) e;
-  fit = λ c f. subst (λ r. FitsRole r spec c) (sym e) f;
+  fit = λ c f. rw e f;
 }
 
 zero_or_some : (k : ℕ) (b : Bool) → (k == 0) ≡ b → b ≡ false → 1 ≤ k
-zero_or_some k b p q = grind (arith, nat_tests)
+zero_or_some k b p q = grind arith
 
 not_zero : (k : ℕ) → 1 ≤ k → (k == 0) ≡ false
-not_zero k h = grind (arith, nat_tests)
+not_zero k h = grind arith
 
 module _ (n : ℕ) (spec : FieldSpec) (good : IsSpec spec) where
   -- contents that are all the same
@@ -309,14 +290,14 @@ module _ (n : ℕ) (spec : FieldSpec) (good : IsSpec spec) where
       let base = bits_for spec.width c in
       let lb : length base ≡ spec.width = content_length spec good c fits in
       let none : n * step_of (coding_of spec) 0 ≡ 0 = ap (λ s. n * s) (step_none (coding_of spec)) ∙ omega arith in
-      let copies : replicate n c ≡ c ∷ cs = ap (λ j. replicate j c) (sym count) ∙ ap (λ xs. c ∷ xs) (sym (same_copies c cs same_all)) in
+      let copies : replicate n c ≡ c ∷ cs = cc (count, same_copies c cs same_all) in
       record {
         out = packed_bits base 0 [];
         is = ap (λ b. if b then Ok (packed_bits base 0 []) else packed_unlike spec.role spec (c ∷ cs)) same_all;
         again = λ more. packed_reads n spec base 0 [] more (c ∷ cs) lb (omega arith) (omega (arith, none))
             (copied (coding_of spec) 0 n base ([] ++ more) refl ∙ ap Some (ap (replicate n) (content_back spec good c fits) ∙ copies))
-            (subst (λ xs. if_equal spec.role xs ≡ Ok xs) copies (copies_equal spec.role c n));
-        short = omega (arith, room, lb, length-append base (bits_in 0 6 ++ []), length-append (bits_in 0 6) [], length-bits_in 0 6);
+            (rw copies at (copies_equal spec.role c n));
+        short = omega (arith, lb, length-append base (bits_in 0 6 ++ []), length-append (bits_in 0 6) [], length-bits_in);
         fits = (fits, subst (AllFit spec) (sym (same_copies c cs same_all)) (copies_fit spec c (length cs) fits));
       }
 
@@ -326,7 +307,7 @@ module _ (n : ℕ) (spec : FieldSpec) (good : IsSpec spec) where
   differing o c cs k most some small varies unlike count room =
       let w = item_written spec (c ∷ cs) k some small spec.kind good.width o.coding varies in
       let d = coded spec.kind spec.width spec.may_be_missing in
-      let size : length w.pieces ≡ n * step_of (coding_of spec) w.k = w.size ∙ ap (λ l. l * step_of d w.k) count ∙ ap (λ x. n * step_of x w.k) (sym o.coding) in
+      let size : length w.pieces ≡ n * step_of (coding_of spec) w.k = rw (w.size, count, o.coding) in
       record {
         out = packed_bits w.base w.k w.pieces;
         is = ap (λ b. if b then Ok (packed_bits (bits_for spec.width c) 0 []) else packed_unlike spec.role spec (c ∷ cs)) unlike ∙ o.packings (c ∷ cs) ∙ w.is;
@@ -336,13 +317,13 @@ module _ (n : ℕ) (spec : FieldSpec) (good : IsSpec spec) where
             (o.equal (c ∷ cs));
         short =
             let grows : n * step_of (coding_of spec) w.k ≤ n * step_of (coding_of spec) k = mul-le-mul_left n (step_grows (coding_of spec) w.k k w.least) in
-            omega (arith, room, grows, size, w.long, length-append w.base (bits_in w.k 6 ++ w.pieces), length-append (bits_in w.k 6) w.pieces, length-bits_in w.k 6);
+            omega (arith, grows, size, w.long, length-append w.base (bits_in w.k 6 ++ w.pieces), length-append (bits_in w.k 6) w.pieces, length-bits_in);
         fits = varied_fit spec spec.kind spec.may_be_missing spec.width k (c ∷ cs) o.fit varies;
       }
     where
       step_grows : (d : Coding) (a b : ℕ) → a ≤ b → step_of d a ≤ step_of d b
       step_grows (numbers w m) a b h = h
-      step_grows (texts count) a b h = omega (arith, h)
+      step_grows (texts count) a b h = omega arith
       step_grows references a b h = omega arith
 
   first_fits_kind : (kd : Kind) (k : ℕ) (c : Content) (cs : List Content) → IsVaried kd spec.may_be_missing spec.width k (c ∷ cs) → FitsKind kd spec.may_be_missing spec.width c
@@ -420,9 +401,7 @@ module _ (n : ℕ) (spec : FieldSpec) (good : IsSpec spec) where
 module _ (n : ℕ) (spec : FieldSpec) (some : 1 ≤ n) where
   -- If the increments are not longer, k is not greater. The k of a redefined reference is 0.
   lesser_k : (d : Coding) (k j : ℕ) (base suffix : List Bool) (cs : List Content) → contents_across d k n base suffix ≡ Some cs → n * step_of d k ≤ n * step_of d j → k ≤ j
-  lesser_k (numbers w m) k j base suffix cs e h = le_of_mul-le-mul_left h some
-  lesser_k (texts count) k j base suffix cs e h = let g : 8 * k ≤ 8 * j = le_of_mul-le-mul_left h some in omega (arith, g)
-  lesser_k references k j base suffix cs e h = let none = no_k k n base suffix cs some e in omega (arith, none)
+  lesser_k d k j base suffix cs e h = search (rules, le_of_mul-le-mul_left, no_k)
 
   -- If two items have the same contents, the one that is not longer does not have a greater k.
   shorter : IsSpec spec → (out bits : List Bool) (cs : List Content) (suffix : List Bool) → packed_field n spec out ≡ Ok (found cs []) → packed_field n spec bits ≡ Ok (found cs suffix)
@@ -430,7 +409,7 @@ module _ (n : ℕ) (spec : FieldSpec) (some : 1 ≤ n) where
   shorter good out bits cs suffix e f h =
       let a = unpacked n spec out cs [] e in
       let b = unpacked n spec bits cs suffix f in
-      lesser_k (coding_of spec) (k_of spec out) (k_of spec bits) _ _ cs a.across (omega (arith, h, a.used, b.used))
+      lesser_k (coding_of spec) (k_of spec out) (k_of spec bits) _ _ cs a.across (omega (arith, a.used, b.used))
 
   module _ (good : IsSpec spec) where
     -- The bits that are packed depend only on the contents, not on the bits that were read.
@@ -466,26 +445,26 @@ found_step p true from x most e h g = e
 found_step p false from x most e h g = g refl h
 
 found_from : (p : ℕ → Bool) (fuel from : ℕ) → first_from p fuel from < from + fuel → p (first_from p fuel from) ≡ true
-found_from p zero from h = absurd (omega (arith, h))
-found_from p (suc fuel) from h = found_step p (p from) from (first_from p fuel (from + 1)) (from + suc fuel) refl h (λ q l. found_from p fuel (from + 1) (omega (arith, l)))
+found_from p zero from h = absurd (omega arith)
+found_from p (suc fuel) from h = found_step p (p from) from (first_from p fuel (from + 1)) (from + suc fuel) refl h (λ q l. found_from p fuel (from + 1) (omega arith))
 
 -- ---- Numbers.
 
 -- The width of the field is enough for an increment.
 number_has : (m : Bool) (w low : ℕ) (c : Content) → FitsNumber m w c → has_increment (numbers w m) low w c ≡ true
-number_has m w low (number n) h = lt-ltb (n - low) (raw_limit m w) (omega (arith, h))
+number_has m w low (number n) h = omega (arith, lt-ltb)
 number_has m w low missing h = refl
 number_has m w low c h = absurd h
 
 numbers_have : (m : Bool) (w low : ℕ) (cs : List Content) → AreNumbers m w cs → list_all (has_increment (numbers w m) low w) cs ≡ true
 numbers_have m w low [] h = refl
-numbers_have m w low (c ∷ cs) h = ap (λ b. b && list_all (has_increment (numbers w m) low w) cs) (number_has m w low c h.0) ∙ numbers_have m w low cs h.1
+numbers_have m w low (c ∷ cs) h = cc (number_has m w low c h.0, numbers_have m w low cs h.1)
 
 -- ---- Texts.
 
 -- All octets of a text are enough.
 whole_again : (count : ℕ) (os : List ℕ) → length os ≡ count → list_all (λ octet. octet == 255) os ≡ false → has_increment (texts count) 0 count (text os) ≡ true
-whole_again count os l none = grind (arith, common_steps, take_all, not, append-nil, octets_self)
+whole_again count os l none = grind (arith, take_all, append-nil, octets_self)
 
 text_has : (count : ℕ) (c : Content) → FitsText count c → has_increment (texts count) 0 count c ≡ true
 text_has count (text os) h = whole_again count os h.0 h.2
@@ -494,7 +473,7 @@ text_has count c h = absurd h
 
 texts_have : (count : ℕ) (cs : List Content) → AreTexts count cs → list_all (has_increment (texts count) 0 count) cs ≡ true
 texts_have count [] h = refl
-texts_have count (c ∷ cs) h = ap (λ b. b && list_all (has_increment (texts count) 0 count) cs) (text_has count c h.0) ∙ texts_have count cs h.1
+texts_have count (c ∷ cs) h = cc (text_has count c h.0, texts_have count cs h.1)
 
 -- ---- Contents that differ.
 
@@ -514,7 +493,7 @@ text_varies b spec cs out wide are q e =
     let k = least_k passes cs in
     let few : k ≤ 63 = leb-true k 63 (q ∙ written b (packed_bits (bits_in 0 spec.width) k (flat_map (increment_for (texts count) 0 k) cs))
     (sym (ap (λ t. if t then Ok (packed_bits (bits_in 0 spec.width) k (flat_map (increment_for (texts count) 0 k) cs)) else Err increment) q) ∙ e)) in
-    let some : 1 ≤ count = omega (arith, wide) in
+    let some : 1 ≤ count = omega arith in
     let pass : list_all (passes k) cs ≡ true = found_from (λ k. list_all (passes k) cs) 63 1 (omega (arith, few)) in
     let least : k ≤ count = first_least (λ k. list_all (passes k) cs) 63 1 count some (texts_have count cs are) in
     (k, first_from_start (λ k. list_all (passes k) cs) 63 1, few, (are, pass, least))
@@ -568,7 +547,7 @@ module _ (n : ℕ) (spec : FieldSpec) (good : IsSpec spec) where
   fitting_again c cs out more fits count e =
       let p = by_same (list_all (same c) cs) c cs out fits count refl e in
       let is : out ≡ p.1.out = same_ok out p.1.out (sym e ∙ p.1.is) in
-      ap (λ bits. packed_field n spec (bits ++ more)) is ∙ p.1.again more
+      rw (is, p.1.again)
 
 -- They are packed with the least k.
 pub fitting_least_k : (n : ℕ) (spec : FieldSpec) (contents : List Content) (out : List Bool) → 1 ≤ n → IsSpec spec → AllFit spec contents → length contents ≡ n → packing spec contents ≡ Ok out

@@ -1,21 +1,21 @@
 -- A walk over the items of all subsets writes or refuses them as defined.
 use Rattle.std.proofs.lemmas.Grind.{common_steps}
-use Rattle.std.proofs.Common.{◌≡◌, ℕ, zero, suc, ◌+◌, ◌-◌, ◌<◌, Bool, true, false, List, [], ◌∷◌, ◌++◌, length, Option, Some, None, Result, Ok, Err, refl, sym, ◌∙◌, ap, subst, arith, ◌≤◌, max, slice_get, if◌then◌else◌}
+use Rattle.std.proofs.Common.{◌≡◌, ℕ, zero, suc, ◌+◌, ◌-◌, ◌<◌, Bool, List, [], ◌∷◌, ◌++◌, length, Option, Some, None, Result, Ok, Err, refl, sym, ◌∙◌, ap, subst, arith, ◌≤◌, max, slice_get, if◌then◌else◌}
 use Rattle.std.proofs.lemmas.List.{append-nil}
 use Rattle.bufr_walk.specs.Prelude.{FieldSpec, Content, Course, Next, take_next, at_end, astray, refused, TakenField, Takes, oks, answers_of, would_be_many}
 use Rattle.bufr_walk.specs.Pass.{EndsPass}
-use Rattle.bufr_fill.specs.Prelude.{packing_fault, Taken, Draft, Subset, DraftFault, at_line, too_many_values, item_too_many, walk_refused, WrittenItem, written_item, bits_of_pass, WritesDrafts, filling, none_over, Filler, item_row, cells_at, rows, most_items, content_here, contents_here, pack_across, packed_filler, ◌>>=◌, ItemRow, first_there, packed_data, packing, PackedOutModel, IsPacked, PackedFills, rows_left, new_packed_out, and_end, all_at_end, IsFaultHere}
+use Rattle.bufr_fill.specs.Prelude.{packing_fault, Taken, Draft, Subset, DraftFault, at_line, too_many_values, item_too_many, walk_refused, WrittenItem, written_item, bits_of_pass, WritesDrafts, filling, Filler, item_row, cells_at, rows, most_items, content_here, contents_here, pack_across, packed_filler, ◌>>=◌, ItemRow, first_there, packed_data, packing, PackedOutModel, IsPacked, PackedFills, rows_left, new_packed_out, and_end, all_at_end, IsFaultHere}
 use Rattle.bufr_fill.proofs.WalkLemmas.{HasFilled, walk_writes, walk_ends}
 use Rattle.bufr_fill.proofs.EntryLemmas.{length-cells}
 use Rattle.std.specs.Option.{option_map_or}
 use Rattle.std.specs.Result.{result_map_both}
 
 written_bits : (a b : WrittenItem (List Content)) → ◌≡◌ {A = Result (WrittenItem (List Content)) DraftFault} (Ok a) (Ok b) → a.bits ≡ b.bits
-written_bits a b e = grind (arith, common_steps)
+written_bits a b e = grind arith
 
 -- If there are no subsets, nothing is written.
 none_written : (spec : FieldSpec) (index : ℕ) (cs : List Content) (item : List Bool) → pack_across spec (item_row index []) ≡ Ok (written_item cs item) → item ≡ []
-none_written spec index cs item e = grind (arith, common_steps, written_bits)
+none_written spec index cs item e = grind arith
 
 pub some_there : {X : Type 0} (xs : List X) (k : ℕ) (x : X) → slice_get xs k ≡ Some x → k < length xs
 some_there [] k x e = absurd cc
@@ -24,7 +24,7 @@ some_there (y ∷ xs) (suc k) x e = omega (arith, some_there xs k x e)
 
 -- An item that was written has an item in the first subset.
 first_has_index : (spec : FieldSpec) (index : ℕ) (s : Subset) (ss : List Subset) (w : WrittenItem (List Content)) → pack_across spec (item_row index (s ∷ ss)) ≡ Ok w → index < length s.items
-first_has_index spec index s ss w e = grind (arith, common_steps, slice_get, some_there)
+first_has_index spec index s ss w e = grind (arith, common_steps, some_there)
 
 pub within : (s s' : PackedOutModel) (spec : FieldSpec) (t : Taken) → IsPacked s spec t s' → s.index < most_items s.subsets
 within s s' spec t h = by s.subsets refl
@@ -72,8 +72,8 @@ walk_of_rows end many course first walked last h =
 
 none_past : (items : List Draft) (index : ℕ) → length items ≤ index → slice_get items index ≡ None
 none_past [] index h = refl
-none_past (x ∷ items) zero h = absurd (omega (arith, h))
-none_past (x ∷ items) (suc index) h = none_past items index (omega (arith, h))
+none_past (x ∷ items) zero h = absurd (omega arith)
+none_past (x ∷ items) (suc index) h = none_past items index (omega arith)
 
 past_none : (items : List Draft) (index : ℕ) → slice_get items index ≡ None → length items ≤ index
 past_none [] index e = omega arith
@@ -81,7 +81,7 @@ past_none (x ∷ items) zero e = absurd cc e
 past_none (x ∷ items) (suc index) e = omega (arith, past_none items index e)
 
 no_row : (index : ℕ) (ss : List Subset) → most_items ss ≤ index → rows (most_items ss - index) index ss ≡ []
-no_row index ss h = let e : most_items ss - index ≡ 0 = omega (arith, h) in ap (λ n. rows n index ss) e
+no_row index ss h = grind arith
 
 -- If all subsets end at an index, none is longer.
 ends_past : (index : ℕ) (ss : List Subset) → all_at_end (cells_at index ss) ≡ Ok tt → most_items ss ≤ index
@@ -90,7 +90,7 @@ ends_past index (s ∷ ss) e = by (slice_get s.items index) refl e (λ e. ends_p
   where
     by : (o : Option Draft) → slice_get s.items index ≡ o → and_end o (all_at_end (cells_at index ss)) ≡ Ok tt → (all_at_end (cells_at index ss) ≡ Ok tt → most_items ss ≤ index)
         → max (length s.items) (most_items ss) ≤ index
-    by None is e g = omega (arith, past_none s.items index is, g e)
+    by None is e g = omega (arith, past_none)
     by (Some d) is e g = absurd cc e
 
 -- If an item is left over, the index is inside the longest subset, and the fault is on the line of
@@ -104,7 +104,7 @@ ends_before index (s ∷ ss) f e = by (slice_get s.items index) refl e (λ e. en
         → (index < most_items (s ∷ ss)) × (f ≡ at_line (first_there (cells_at index (s ∷ ss))) item_too_many)
     by None is e g = let r = g e in (omega (arith, r.0), r.1 ∙ ap (λ o. at_line (option_map_or (λ (d : Draft). d.line) o (first_there (cells_at index ss))) item_too_many) (sym is))
     by (Some d) is e g = let same : at_line d.line item_too_many ≡ f =
-        cc in (omega (arith, some_there s.items index d is), sym same ∙ ap (λ o. at_line (option_map_or (λ (d : Draft). d.line) o (first_there (cells_at index ss))) item_too_many) (sym is))
+        cc in (omega (arith, some_there), sym same ∙ ap (λ o. at_line (option_map_or (λ (d : Draft). d.line) o (first_there (cells_at index ss))) item_too_many) (sym is))
 
 -- ---- The walk.
 
@@ -118,11 +118,7 @@ module _ (s : Subset) (more : List Subset) where
       >>= λ cs. result_map_both (written_item cs) (packing_fault cs (cells_at index (s ∷ more)))
       (packing spec cs))) ≡ Err f
       → (packed_filler s.end_line many').none_left spec ≡ f
-  past spec index f true true None a b p = cc
-  past spec index f false false None a b p = cc
-  past spec index f true false o a b p = absurd cc a
-  past spec index f false true o a b p = absurd cc a
-  past spec index f m m' (Some d) a b p = absurd cc b
+  past spec index f many many' o a b p = grind arith
 
   -- The fault that comes next is that of the rows from an index on.
   stops_at : (next : Next) (index : ℕ) (bits : List Bool) (f : DraftFault) → index ≤ most_items (s ∷ more) → IsFaultHere next (record { subsets = s ∷ more; index = index; bits = bits }) f
@@ -149,7 +145,7 @@ module _ (s : Subset) (more : List Subset) where
 
   -- If the walk ends and no item is left over, the pass ends, too.
   pub ends_across : (mid : PackedOutModel) → all_at_end (cells_at mid.index mid.subsets) ≡ Ok tt → EndsPass (filling filler) at_end (rows_left mid) None
-  ends_across mid h = sym (ap (none_over filler) (no_row mid.index mid.subsets (ends_past mid.index mid.subsets h)))
+  ends_across mid h = simp (no_row, ends_past)
 
   module _ (course : Course) (walked : List TakenField) (mid : PackedOutModel) (h : Takes (oks PackedFills) course (new_packed_out (s ∷ more)) walked mid) where
     -- where the walk is, and what it has written

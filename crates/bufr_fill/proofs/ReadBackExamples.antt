@@ -59,7 +59,8 @@ two_subsets : AreSaid ((item block (number 1) ∷ []) ∷ (item block missing �
 unfolding decimal_value_of
 two_subsets = ((refl, tt), ((refl, tt), tt))
 
-two_together : AreSaid (subsets_from 2 0 (record { spec = block; content = number 1 ∷ missing ∷ [] } ∷ [])) (subset (draft 24 257 (number_token (codes "1.0")) ∷ []) 25 ∷ subset (draft 26 257 missing_form ∷ []) 27 ∷ [])
+two_together : AreSaid (subsets_from 2 0 (record { spec = block; content = number 1 ∷ missing ∷ [] } ∷ []))
+    (subset (draft 24 257 (number_token (codes "1.0")) ∷ []) 25 ∷ subset (draft 26 257 missing_form ∷ []) 27 ∷ [])
 unfolding decimal_value_of
 two_together = ((refl, tt), ((refl, tt), tt))
 

@@ -1,5 +1,5 @@
 -- Properties of data that are read without a fault, and of bits that read as given values.
-use Rattle.std.proofs.Common.{◌≡◌, ℕ, zero, suc, ◌*◌, ◌≤◌, Bool, true, false, List, [], ◌∷◌, ◌++◌, length, drop, Option, Some, None, refl, sym, ◌∙◌, ap, subst, arith, append_assoc, length-append, if◌then◌else◌}
+use Rattle.std.proofs.Common.{◌≡◌, ℕ, zero, suc, ◌*◌, ◌≤◌, Bool, true, false, List, [], ◌∷◌, ◌++◌, length, drop, Option, Some, None, refl, sym, ◌∙◌, ap, subst, arith, append_assoc, length-append, if◌then◌else◌, rules}
 use Rattle.std.proofs.Math.Seq.{drop-append_seam}
 use Rattle.std.specs.Prelude.{is_none, is_some}
 use Rattle.bufr_tables.specs.Prelude.{Row, Tree, IsLegal}
@@ -7,7 +7,6 @@ use Rattle.bufr_walk.proofs.NextField.{AreRead, next_field}
 use Rattle.bufr_fill.proofs.PlainLaws.{AllFields}
 use Rattle.bufr_fill.proofs.GoodReads.{fields_of_reads, plain_gives, packed_gives}
 use Rattle.bufr_walk.specs.Prelude.{Content, Item, Course, next_item, at_end, Data, Values, apart, together, each_subset, reading_of, ReadsItems, plain, packed, answers_in, answer_of, answer_first, max_values, would_be_many, Stop, DataPass, read_pass, passes_apart, passes_together, stop_of, left_after, items_by_pass, first_items, place_at}
-use Rattle.bufr_walk.specs.Pass.{reading_in}
 use Rattle.bufr_walk.proofs.CourseLemmas.{IsSane, plain_forth, packed_forth}
 use Rattle.bufr_walk.proofs.PassLemmas.{legal_sane, pass_reads, pass_whole, pass_at_end, next_pass, few_values, few_all, reading_left}
 use Rattle.bufr_fill.specs.Prelude.{HasReading}
@@ -18,11 +17,7 @@ is_together (together items) = true
 
 -- The values have the form of the data: plain or compressed.
 pub form_is : (course : Course) (d : Data) (values : Values) (used : ℕ) → HasReading course d values used → d.compressed ≡ is_together values
-form_is course d values used h = by d.compressed h.values_are
-  where
-    by : (b : Bool) → (reading_in course b d.subsets d.bits).values ≡ values → b ≡ is_together values
-    by false e = ap is_together e
-    by true e = ap is_together e
+form_is course d values used h = grind arith
 
 -- ---- Bits that read as given values.
 
@@ -49,7 +44,7 @@ module _ (course : Course) (sane : (m : ℕ) → IsSane m course) where
         none = w.0;
         values_are = w.1;
         left = w.2 ∙ sym (drop-append_seam (first ++ others) more) ∙ ap (drop (length (first ++ others))) (append_assoc first others more);
-        within = omega (arith, length-append first others, length-append first (others ++ more), length-append others more);
+        within = omega (arith, length-append first others, length-append first (others ++ more));
       })
 
   -- Bits that read as the items of a pass over compressed data read as these values.
@@ -58,12 +53,7 @@ module _ (course : Course) (sane : (m : ℕ) → IsSane m course) where
       → AreReadAs course true (suc n) (together items) out
   items_read n items out reads end few more =
       let e = pass_whole (packed (suc n)) (packed_forth n) (would_be_many (suc n)) course sane (out ++ more) items more (reads more) (λ j l. few_values (suc n) (length items) j few l) end in
-      record {
-        none = ap (λ (p : DataPass (List Content)). stop_of (p ∷ [])) e;
-        values_are = ap (λ (p : DataPass (List Content)). together p.items) e;
-        left = ap (λ (p : DataPass (List Content)). p.state.left) e ∙ sym (drop-append_seam out more);
-        within = omega (arith, length-append out more);
-      }
+      search (rules, drop-append_seam, length-append)
 
 -- If there are no subsets, no bits are read.
 pub none_read : (course : Course) → AreReadAs course false 0 (apart []) []

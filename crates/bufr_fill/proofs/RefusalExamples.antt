@@ -52,8 +52,10 @@ first_subset_refused = refl
 -- rule: fault-53
 class_31_out_of_range :
     (map (λ digits. fault_of coded_spec 7957 (number_token digits)) (codes "0" ∷ codes "-1" ∷ codes "63" ∷ codes "64" ∷ []) ≡ None ∷ at_24 wrong.OutOfRange ∷ None ∷ at_24 wrong.OutOfRange ∷ [])
-    × (map (λ digits. fault_of (delayed (fxy 0 31 0) bare bare) 7936 (number_token digits)) (codes "-1" ∷ codes "0" ∷ codes "1" ∷ codes "2" ∷ []) ≡ at_24 wrong.OutOfRange ∷ None ∷ None ∷ at_24 wrong.OutOfRange ∷ [])
-    × (map (λ digits. fault_of (delayed (fxy 0 31 1) bare bare) 7937 (number_token digits)) (codes "-1" ∷ codes "0" ∷ codes "255" ∷ codes "256" ∷ []) ≡ at_24 wrong.OutOfRange ∷ None ∷ None ∷ at_24 wrong.OutOfRange ∷ [])
+    × (map (λ digits. fault_of (delayed (fxy 0 31 0) bare bare) 7936 (number_token digits)) (codes "-1" ∷ codes "0" ∷ codes "1" ∷ codes "2" ∷ [])
+    ≡ at_24 wrong.OutOfRange ∷ None ∷ None ∷ at_24 wrong.OutOfRange ∷ [])
+    × (map (λ digits. fault_of (delayed (fxy 0 31 1) bare bare) 7937 (number_token digits)) (codes "-1" ∷ codes "0" ∷ codes "255" ∷ codes "256" ∷ [])
+    ≡ at_24 wrong.OutOfRange ∷ None ∷ None ∷ at_24 wrong.OutOfRange ∷ [])
 unfolding fault_of coded_spec fxy
 class_31_out_of_range = (refl, refl, refl)
 
@@ -73,7 +75,8 @@ references_out_of_range :
     ≡ None ∷ at_24 wrong.OutOfRange ∷ None ∷ at_24 wrong.OutOfRange ∷ [])
     × (map (λ digits. fault_of (operator (fxy 2 3 1) temperature) 3173 (reference_token digits)) (codes "0" ∷ codes "-0" ∷ codes "1" ∷ codes "-1" ∷ [])
     ≡ None ∷ None ∷ at_24 wrong.OutOfRange ∷ at_24 wrong.OutOfRange ∷ [])
-    × (map (λ digits. fault_of (operator (fxy 2 3 63) temperature) 3173 (reference_token digits)) (codes "4611686018427387903" ∷ codes "-4611686018427387904" ∷ []) ≡ None ∷ at_24 wrong.OutOfRange ∷ [])
+    × (map (λ digits. fault_of (operator (fxy 2 3 63) temperature) 3173 (reference_token digits)) (codes "4611686018427387903" ∷ codes "-4611686018427387904" ∷ [])
+    ≡ None ∷ at_24 wrong.OutOfRange ∷ [])
 unfolding fault_of temperature fxy
 references_out_of_range = (refl, refl, refl)
 
@@ -146,7 +149,8 @@ mark_is_second = (refl, refl, refl)
 -- text, and numbers that are not whole at their scale, however large they are.
 -- rule: fault-52, fault-order-of-an-item
 kind_is_before_range :
-    (map (fault_of temperature 3173) (text_form (replicate 256 65) ∷ text_form (replicate 2 255) ∷ number_token (codes "655.355") ∷ number_token (codes "-0.001") ∷ number_token (replicate 40 57 ++ codes ".155") ∷ []) ≡ replicate 5 (at_24 wrong.Number))
+    (map (fault_of temperature 3173) (text_form (replicate 256 65) ∷ text_form (replicate 2 255) ∷ number_token (codes "655.355") ∷ number_token (codes "-0.001")
+    ∷ number_token (replicate 40 57 ++ codes ".155") ∷ []) ≡ replicate 5 (at_24 wrong.Number))
     × (fault_of temperature 3173 (number_token (replicate 40 57)) ≡ at_24 wrong.OutOfRange)
     × (fault_of temperature 3173 (number_token (replicate 40 57 ++ codes "-")) ≡ at_24 wrong.Number)
     × (fault_of four_letters 34052 (number_token (codes "12345")) ≡ at_24 wrong.Number)
@@ -217,9 +221,11 @@ with_third fxy c subsets = subsets ++ subset (draft 28 fxy c ∷ []) 29 ∷ []
 -- rule: fault-58, fault-order-of-subsets
 factors_differ_last :
     (packed_to_bits delayed_blocks (each 7937 (number_token (codes "0")) (number_token (codes "1"))) ≡ Err (at_line 26 wrong.UnequalFactor))
-    × (map (λ c. packed_to_bits delayed_blocks (with_third 7937 c (each 7937 (number_token (codes "0")) (number_token (codes "1"))))) (number_token (codes "0") ∷ number_token (codes "0.5") ∷ missing_form ∷ number_token (codes "256") ∷ [])
+    × (map (λ c. packed_to_bits delayed_blocks (with_third 7937 c (each 7937 (number_token (codes "0")) (number_token (codes "1")))))
+    (number_token (codes "0") ∷ number_token (codes "0.5") ∷ missing_form ∷ number_token (codes "256") ∷ [])
     ≡ Err (at_line 26 wrong.UnequalFactor) ∷ Err (at_line 28 wrong.Number) ∷ Err (at_line 28 wrong.MissingForbidden) ∷ Err (at_line 28 wrong.OutOfRange) ∷ [])
-    × (packed_to_bits delayed_blocks (with_third 257 (number_token (codes "0")) (each 7937 (number_token (codes "0")) (number_token (codes "1")))) ≡ Err (at_line 28 (wrong.WrongDescriptor (expected.Item 7937))))
+    × (packed_to_bits delayed_blocks (with_third 257 (number_token (codes "0")) (each 7937 (number_token (codes "0")) (number_token (codes "1"))))
+    ≡ Err (at_line 28 (wrong.WrongDescriptor (expected.Item 7937))))
 unfolding packed_to_bits delayed_blocks decimal_value_of bits_in
 factors_differ_last = (refl, refl, refl)
 
@@ -228,7 +234,8 @@ factors_differ_last = (refl, refl, refl)
 -- rule: fault-59, fault-order-of-subsets
 references_differ_last :
     (packed_to_bits (operator (fxy 2 3 10) temperature) (each 3173 (reference_token (codes "1")) (reference_token (codes "2"))) ≡ Err (at_line 24 wrong.Increment))
-    × (map (λ c. packed_to_bits (operator (fxy 2 3 10) temperature) (with_third 3173 c (each 3173 (reference_token (codes "1")) (reference_token (codes "2"))))) (reference_token (codes "1") ∷ reference_token (codes "1.5") ∷ reference_token (codes "512") ∷ missing_form ∷ [])
+    × (map (λ c. packed_to_bits (operator (fxy 2 3 10) temperature) (with_third 3173 c (each 3173 (reference_token (codes "1")) (reference_token (codes "2")))))
+    (reference_token (codes "1") ∷ reference_token (codes "1.5") ∷ reference_token (codes "512") ∷ missing_form ∷ [])
     ≡ Err (at_line 24 wrong.Increment) ∷ Err (at_line 28 wrong.Number) ∷ Err (at_line 28 wrong.OutOfRange) ∷ Err (at_line 28 (wrong.WrongDescriptor (expected.Reference 3173))) ∷ [])
 unfolding packed_to_bits temperature decimal_value_of bits_in fxy
 references_differ_last = (refl, refl)
@@ -258,7 +265,11 @@ asked r = record { fxy = 7937; role = r; kind = kind.Numeric; width = 8; scale =
 -- a row at an index, with the items of two subsets, whose numbers differ
 at_index : ℕ → Role → (fxy : ℕ) → Result Bool DraftFault
 unfolding asked decimal_value_of
-at_index n r d = only (pack_across (asked r) (record { index = n; cells = record { draft = Some (draft 24 d (number_token (codes "1"))); end_line = 25 } ∷ record { draft = Some (draft 26 d (number_token (codes "2"))); end_line = 27 } ∷ [] }))
+at_index n r d = only (pack_across (asked r) (record {
+  index = n;
+  cells = record { draft = Some (draft 24 d (number_token (codes "1"))); end_line = 25 }
+      ∷ record { draft = Some (draft 26 d (number_token (codes "2"))); end_line = 27 } ∷ [];
+}))
   where
     only : {A : Type 0} → Result A DraftFault → Result Bool DraftFault
     only (Ok a) = Ok Bool.true
@@ -319,7 +330,9 @@ least_of_63_bits = (refl, refl)
 -- octets, or if a text that begins with octets of 255 becomes missing.
 -- rule: packs-texts, packs-texts-not-missing
 least_of_texts :
-    (map (λ octets. least (field kind.Character 32 Bool.true) (text (codes "AA  ") ∷ text octets ∷ [])) (codes "AA  " ∷ codes "    " ∷ codes "AB  " ∷ codes "ABC " ∷ codes "ABCD" ∷ codes "   D" ∷ []) ≡ 0 ∷ 2 ∷ 2 ∷ 3 ∷ 4 ∷ 4 ∷ [])
-    × (map (λ octets. least (field kind.Character 32 Bool.true) (missing ∷ text octets ∷ [])) (codes "    " ∷ codes "A   " ∷ (255 ∷ codes "   ") ∷ (255 ∷ 255 ∷ codes "  ") ∷ (255 ∷ 255 ∷ 255 ∷ codes " ") ∷ (255 ∷ 254 ∷ codes "  ") ∷ []) ≡ 1 ∷ 1 ∷ 2 ∷ 3 ∷ 4 ∷ 2 ∷ [])
+    (map (λ octets. least (field kind.Character 32 Bool.true) (text (codes "AA  ") ∷ text octets ∷ [])) (codes "AA  " ∷ codes "    " ∷ codes "AB  " ∷ codes "ABC " ∷ codes "ABCD" ∷ codes "   D" ∷ [])
+    ≡ 0 ∷ 2 ∷ 2 ∷ 3 ∷ 4 ∷ 4 ∷ [])
+    × (map (λ octets. least (field kind.Character 32 Bool.true) (missing ∷ text octets ∷ []))
+    (codes "    " ∷ codes "A   " ∷ (255 ∷ codes "   ") ∷ (255 ∷ 255 ∷ codes "  ") ∷ (255 ∷ 255 ∷ 255 ∷ codes " ") ∷ (255 ∷ 254 ∷ codes "  ") ∷ []) ≡ 1 ∷ 1 ∷ 2 ∷ 3 ∷ 4 ∷ 2 ∷ [])
 unfolding least field
 least_of_texts = (refl, refl)

@@ -1,7 +1,7 @@
 -- How the code reads and packs one item of all subsets.
 use Rattle.std.proofs.lemmas.Grind.{common_steps}
-use Rattle.std.proofs.Common.{◌≡◌, ℕ, zero, suc, ◌+◌, ◌-◌, ◌*◌, ◌/◌, ◌%◌, ◌<◌, ◌≤◌, ◌&&◌, max, Bool, true, false, List, [], ◌∷◌, ◌++◌, length, take, drop, get_or, replicate, refl, sym, ◌∙◌, ap, arith, add-one, append_assoc, ℤ, Option, Some, None, Result, Ok, Err, ◌⊎◌, inl, inr, nat_lt, if◌then◌else◌, slice_get, ◌==◌}
-use Rattle.std.proofs.lemmas.Bool.{eq-eqb, eqb-true, le-ltb, lt-ltb, ne_eqb}
+use Rattle.std.proofs.Common.{◌≡◌, ℕ, zero, suc, ◌+◌, ◌-◌, ◌*◌, ◌/◌, ◌%◌, ◌<◌, ◌≤◌, ◌&&◌, max, Bool, true, false, List, [], ◌∷◌, ◌++◌, length, take, drop, get_or, replicate, refl, sym, ◌∙◌, ap, arith, add-one, append_assoc, ℤ, Option, Some, None, Result, Ok, Err, ◌⊎◌, inl, inr, if◌then◌else◌, slice_get, ◌==◌, rules}
+use Rattle.std.proofs.lemmas.Bool.{eq-eqb, le-ltb, lt-ltb, ne_eqb}
 use Rattle.std.proofs.Math.Bool.{and_assoc}
 use Rattle.std.specs.List.{flat_map, list_all}
 use Rattle.std.proofs.Math.Nat.{mul-le-mul_right}
@@ -14,7 +14,7 @@ use Rattle.bufr_fill.specs.declared.fault.ItemFault.TheVariants as wrong
 use Rattle.bufr_walk.specs.Prelude.{is_reference}
 use Rattle.bufr_walk.specs.Prelude.{FieldSpec, Content, reference, answer_of, bits_for, increment, unequal_factor, answer_first, max_values}
 use Rattle.bufr_fill.proofs.EntryLemmas.{entry_line}
-use Rattle.bufr_fill.proofs.LeastLemmas.{octets_self, content_same, content_self}
+use Rattle.bufr_fill.proofs.LeastLemmas.{octets_self, content_self}
 use Rattle.std.specs.Option.{option_map_or}
 use Rattle.std.specs.Result.{result_map_both}
 use Rattle.bufr_fill.specs.declared.fault.DraftFault.TheVariants as draft_fault
@@ -41,18 +41,11 @@ pub same_references : (a b : ℤ) → a ≡ b → true ≡ same (reference a) (r
 same_references a b e = sym (ap (λ x. same (reference a) (reference x)) (sym e) ∙ content_self (reference a))
 
 pub other_references : (a b : ℤ) → (a ≡ b → ⊥) → false ≡ same (reference a) (reference b)
-other_references a b h = by (same (reference a) (reference b)) refl
-  where
-    same_value : (a b : ℤ) → reference a ≡ reference b → a ≡ b
-    same_value a b e = cc
-
-    by : (t : Bool) → same (reference a) (reference b) ≡ t → false ≡ same (reference a) (reference b)
-    by true e = absurd (h (same_value a b (content_same (reference a) (reference b) e)))
-    by false e = sym e
+other_references a b h = grind arith
 
 -- The remaining items begin with the one at the index.
 pub at_next : {X : Type 0} (xs : List X) (i : ℕ) (x : X) → i < length xs → x ≡ get_or xs i x → drop i xs ≡ x ∷ drop (i + 1) xs
-at_next xs i x h e = drop-cons xs i x h ∙ ap (λ y. y ∷ drop (suc i) xs) (sym e) ∙ ap (λ j. x ∷ drop j xs) (sym (add-one i))
+at_next xs i x h e = cc (drop-cons xs i x h, add-one i)
 
 -- The octets needed so far and those needed by the remaining contents determine those needed by
 -- all.
@@ -65,39 +58,38 @@ need_done ds i most some h inv = omega (arith, some, ap most_need (drop_all i ds
 
 -- If the first k passes, it is the result.
 first_here : (p : ℕ → Bool) (fuel k : ℕ) → 1 ≤ fuel → p k ≡ true → first_from p fuel k ≡ k
-first_here p zero k h e = absurd (omega (arith, h))
-first_here p (suc fuel) k h e = ap (λ b. if b then k else first_from p fuel (k + 1)) e
+first_here p zero k h e = absurd (omega arith)
+first_here p (suc fuel) k h e = rw e
 
 first_later : (p : ℕ → Bool) (fuel k : ℕ) → 1 ≤ fuel → p k ≡ false → first_from p fuel k ≡ first_from p (fuel - 1) (k + 1)
-first_later p zero k h e = absurd (omega (arith, h))
-first_later p (suc fuel) k h e = let q : fuel ≡ suc fuel - 1 = omega arith in ap (λ b. if b then k else first_from p fuel (k + 1)) e ∙ ap (λ f. first_from p f (k + 1)) q
+first_later p fuel k h e = grind arith
 
 pub least_here : (m : Bool) (s k : ℕ) → k < 64 → s < raw_limit m k → least_from m s k ≡ k
 unfolding least_from
-least_here m s k h e = first_here (λ k. nat_lt s (raw_limit m k)) (64 - k) k (omega (arith, h)) (lt-ltb s (raw_limit m k) e)
+least_here m s k h e = omega (arith, first_here, lt-ltb)
 
 pub least_later : (m : Bool) (s k : ℕ) → k < 64 → raw_limit m k ≤ s → least_from m s k ≡ least_from m s (k + 1)
 unfolding least_from
-least_later m s k h e = grind (arith, common_steps, first_later, nat_lt, le-ltb)
+least_later m s k h e = grind arith
 
 pub least_end : (m : Bool) (s k : ℕ) → 64 ≤ k → least_from m s k ≡ k
 unfolding least_from
-least_end m s k h = let q : 64 - k ≡ 0 = omega (arith, h) in ap (λ f. first_from (λ k. nat_lt s (raw_limit m k)) f k) q
+least_end m s k h = grind arith
 
 -- A text has at most 255 octets.
 pub eighth_most : (w : ℕ) → w ≤ 2040 → w / 8 ≤ 255
-eighth_most w h = omega (arith, h)
+eighth_most w h = omega arith
 
 -- Each of the contents is one that the field can have.
 pub is_content_at : (spec : FieldSpec) (ds : List FieldContent) (i : ℕ) (d : FieldContent) → i < length ds → AreContentsOf spec ds → IsContentOf spec (get_or ds i d)
-is_content_at spec [] i d h all = absurd (omega (arith, h))
+is_content_at spec [] i d h all = absurd (omega arith)
 is_content_at spec (x ∷ ds) zero d h all = all.0
-is_content_at spec (x ∷ ds) (suc i) d h all = is_content_at spec ds i d (omega (arith, h)) all.1
+is_content_at spec (x ∷ ds) (suc i) d h all = is_content_at spec ds i d (omega arith) all.1
 
 pub short_at : (base k : ℕ) (ds : List FieldContent) (i : ℕ) (d : FieldContent) → i < length ds → AreShort base k ds → FitsIncrement base k (get_or ds i d)
-short_at base k [] i d h s = absurd (omega (arith, h))
+short_at base k [] i d h s = absurd (omega arith)
 short_at base k (x ∷ ds) zero d h s = s.0
-short_at base k (x ∷ ds) (suc i) d h s = short_at base k ds i d (omega (arith, h)) s.1
+short_at base k (x ∷ ds) (suc i) d h s = short_at base k ds i d (omega arith) s.1
 
 -- The contents from an index on are the content at the index and those after it.
 pub at_index : {X : Type 0} (xs : List X) (i : ℕ) (z : X) → i < length xs → drop i xs ≡ get_or xs i z ∷ drop (i + 1) xs
@@ -109,7 +101,7 @@ most_some (d ∷ ds) = omega (arith, most_some ds)
 
 -- The bits of all contents are those of the first contents, followed by those of the others.
 flat_one : (f : Content → List Bool) (old now new bits rest all : List Bool) → now ++ (bits ++ rest) ≡ old ++ all → new ≡ now ++ bits → new ++ rest ≡ old ++ all
-flat_one f old now new bits rest all inv is = ap (λ x. x ++ rest) is ∙ append_assoc now bits rest ∙ inv
+flat_one f old now new bits rest all inv is = rw (is, append_assoc, inv)
 
 pub flat_more : (f : Content → List Bool) (count : ℕ) (old now new : List Bool) (ds : List FieldContent) (i : ℕ) (z : FieldContent) → i < length ds
     → now ++ flat_map f (padded_contents count (drop i ds)) ≡ old ++ flat_map f (padded_contents count ds) → new ≡ now ++ f (padded_content count (get_or ds i z))
@@ -118,7 +110,7 @@ flat_more f count old now new ds i z h inv is = grind (arith, common_steps, flat
 
 pub flat_done : (f : Content → List Bool) (count : ℕ) (old now : List Bool) (ds : List FieldContent) (i : ℕ) → length ds ≤ i
     → now ++ flat_map f (padded_contents count (drop i ds)) ≡ old ++ flat_map f (padded_contents count ds) → now ≡ old ++ flat_map f (padded_contents count ds)
-flat_done f count old now ds i h inv = sym (append-nil now) ∙ ap (λ xs. now ++ flat_map f (padded_contents count xs)) (sym (drop_all i ds h)) ∙ inv
+flat_done f count old now ds i h inv = cc (append-nil now, drop_all i ds h)
 
 -- If i of n k-bit numbers were written and there is room for the others, there is room for the next
 -- one and for those after it.
@@ -126,23 +118,22 @@ pub room_next : (n i k room next : ℕ) → n * k ≤ room + i * k → room ≤ 
 room_next n i k room next e h = omega (arith, e, h)
 
 pub few_bits : (n k most : ℕ) → k ≤ most → n * k ≤ most * n
-few_bits n k most h = let most = mul-le-mul_right n h in omega (arith, most)
+few_bits n k most h = omega (arith, mul-le-mul_right n h)
 
 -- If the next content is the same, those after it decide whether all are.
 pub alike_more : (count : ℕ) (c : Content) (ds : List FieldContent) (i : ℕ) (d : FieldContent) (b : Bool) → i < length ds → d ≡ get_or ds i d
     → list_all (same c) (padded_contents count ds) ≡ list_all (same c) (padded_contents count (drop i ds)) → same c (padded_content count d) ≡ true
     → list_all (same c) (padded_contents count ds) ≡ list_all (same c) (padded_contents count (drop (i + 1) ds))
-alike_more count c ds i d b h e inv is = inv ∙ ap (λ xs. list_all (same c) (padded_contents count xs)) (at_next ds i d h e)
-    ∙ ap (λ t. t && list_all (same c) (padded_contents count (drop (i + 1) ds))) is
+alike_more count c ds i d b h e inv is = search (rules, at_next)
 
 pub alike_not : (count : ℕ) (c : Content) (ds : List FieldContent) (i : ℕ) (d : FieldContent) → i < length ds → d ≡ get_or ds i d
     → list_all (same c) (padded_contents count ds) ≡ list_all (same c) (padded_contents count (drop i ds)) → same c (padded_content count d) ≡ false
     → list_all (same c) (padded_contents count ds) ≡ false
-alike_not count c ds i d h e inv is = inv ∙ ap (λ xs. list_all (same c) (padded_contents count xs)) (at_next ds i d h e) ∙ ap (λ t. t && list_all (same c) (padded_contents count (drop (i + 1) ds))) is
+alike_not count c ds i d h e inv is = search (rules, at_next)
 
 pub alike_done : (count : ℕ) (c : Content) (ds : List FieldContent) (i : ℕ) → length ds ≤ i → list_all (same c) (padded_contents count ds) ≡ list_all (same c) (padded_contents count (drop i ds))
     → list_all (same c) (padded_contents count ds) ≡ true
-alike_done count c ds i h inv = inv ∙ ap (λ xs. list_all (same c) (padded_contents count xs)) (drop_all i ds h)
+alike_done count c ds i h inv = rw (inv, drop_all)
 
 -- Octets of 0 consist of zero bits.
 zeros_are : (n : ℕ) → bits_of (replicate n 0) ≡ replicate (8 * n) false
@@ -154,10 +145,9 @@ zeros_are (suc n) =
 
 pub zero_bits : (w : ℕ) → w ≤ 2040 → w % 8 ≡ 0 → bits_of (take (w / 8) (replicate 255 0)) ≡ replicate w false
 zero_bits w most whole =
-    let none : ℕ = 0 in
-    let count : w / 8 ≤ 255 = omega (arith, most) in
-    let e : 8 * (w / 8) ≡ w = omega (arith, whole) in
-    ap bits_of (take-replicate {X = ℕ} (w / 8) 255 none count) ∙ zeros_are (w / 8) ∙ ap (λ n. replicate n false) e
+    let count : w / 8 ≤ 255 = omega arith in
+    let e : 8 * (w / 8) ≡ w = omega arith in
+    rw (take-replicate, zeros_are, e)
 
 -- ---- Steps of the loops over a row.
 
@@ -168,10 +158,10 @@ pub record CellAt (cells : List RowCell) (j : ℕ) : Type 0 where
   pub left : drop j cells ≡ cell ∷ drop (j + 1) cells
 
 pub cell_at : (cells : List RowCell) (j : ℕ) → j < length cells → CellAt cells j
-cell_at [] j h = absurd (omega (arith, h))
+cell_at [] j h = absurd (omega arith)
 cell_at (c ∷ cells) zero h = record { cell = c; is = refl; left = refl }
 cell_at (c ∷ cells) (suc j) h =
-    let r = cell_at cells j (omega (arith, h)) in
+    let r = cell_at cells j (omega arith) in
     let n : suc (j + 1) ≡ suc j + 1 = omega arith in
     record { cell = r.cell; is = r.is; left = r.left ∙ ap (λ k. r.cell ∷ drop k (c ∷ cells)) n }
 
@@ -186,7 +176,7 @@ line_same (Some d) line = refl
 
 contents_more : (count : ℕ) (ds : List FieldContent) (d : FieldContent) → padded_contents count (ds ++ d ∷ []) ≡ padded_contents count ds ++ padded_content count d ∷ []
 contents_more count [] d = refl
-contents_more count (x ∷ ds) d = ap (λ cs. padded_content count x ∷ cs) (contents_more count ds d)
+contents_more count (x ∷ ds) d = cc (contents_more count ds d)
 
 all_more : (spec : FieldSpec) (ds : List FieldContent) (d : FieldContent) → AreContentsOf spec ds → IsContentOf spec d → AreContentsOf spec (ds ++ d ∷ [])
 all_more spec [] d h g = (g, tt)
@@ -207,22 +197,14 @@ module _ (count : ℕ) (spec : FieldSpec) (cells : List RowCell) (j : ℕ) (ds :
       (sym (entry_same spec k.cell.draft k.cell.end_line) ∙ ap (entry_here spec) (sym (here k.cell k.is)))
 
   pub gather_fault : (o : DraftFault) → Err o ≡ entry_here spec e → IfDraftFault o (λ f. contents_here spec cells ≡ Err f)
-  gather_fault draft_fault.Memory h = tt
-  gather_fault (draft_fault.Item line fault) h =
-      next_is (cell_at cells j within) ∙ ap (λ r. with_contents_before (padded_contents count ds) (r >>= λ first. contents_here spec (drop (j + 1) cells) >>= λ rest. Ok (first ∷ rest))) (sym h)
+  gather_fault o h = search (rules, next_is, cell_at)
 
   pub gather_more : (d : FieldContent) → Ok (padded_content count d) ≡ entry_here spec e → IsContentOf spec d → IsGathering count spec cells (j + 1) (ds ++ d ∷ [])
-  gather_more d h g = record {
-    so = next_is (cell_at cells j within) ∙ ap (λ r. with_contents_before (padded_contents count ds) (r >>= λ first. contents_here spec (drop (j + 1) cells) >>= λ rest. Ok (first ∷ rest))) (sym h)
-        ∙ contents_before_more (padded_contents count ds) (padded_content count d) (contents_here spec (drop (j + 1) cells))
-        ∙ ap (λ cs. with_contents_before cs (contents_here spec (drop (j + 1) cells))) (sym (contents_more count ds d));
-    all = all_more spec ds d inv.all g;
-    many = omega (arith, length-append ds (d ∷ []), inv.many);
-  }
+  gather_more d h g = grind (arith, common_steps, next_is, cell_at, contents_before_more, contents_more, all_more)
 
 pub gathered : (count : ℕ) (spec : FieldSpec) (cells : List RowCell) (j : ℕ) (ds : List FieldContent) → IsGathering count spec cells j ds → length cells ≤ j
     → contents_here spec cells ≡ Ok (padded_contents count ds)
-gathered count spec cells j ds inv h = inv.so ∙ ap (λ cs. with_contents_before (padded_contents count ds) (contents_here spec cs)) (drop_all j cells h) ∙ ap Ok (append-nil (padded_contents count ds))
+gathered count spec cells j ds inv h = rw (inv.so, drop_all, append-nil)
 
 -- whether all subsets end
 pub end_item : (cells : List RowCell) (j : ℕ) (e : DraftEntry) → j < length cells → ((c : RowCell) → slice_get cells j ≡ Some c → e ≡ entry_or_end c.draft c.end_line) → is_end e ≡ false
@@ -250,20 +232,20 @@ end_more cells j (Ends line) h here is inv = by (cell_at cells j h)
     by k = inv ∙ ap all_at_end k.left ∙ ends k.cell.draft k.cell.end_line (sym (here k.cell k.is)) (all_at_end (drop (j + 1) cells))
 
 pub end_done : (cells : List RowCell) (j : ℕ) → length cells ≤ j → all_at_end cells ≡ all_at_end (drop j cells) → all_at_end cells ≡ Ok tt
-end_done cells j h inv = inv ∙ ap all_at_end (drop_all j cells h)
+end_done cells j h inv = rw (inv, drop_all)
 
 -- The line that the code finds is that of the first subset's item, or of its end.
 pub first_is : (cells : List RowCell) (n : ℕ) → 0 < length cells → ((c : RowCell) → slice_get cells 0 ≡ Some c → n ≡ cell_line c) → n ≡ first_line cells
-first_is [] n h here = absurd (omega (arith, h))
+first_is [] n h here = absurd (omega arith)
 first_is (c ∷ cells) n h here = here c refl
 
 -- The first content that differs is the next one, or is among those after it.
 unlike_left : (c : Content) (cs : List Content) (d : Content) (ds : List Content) (k : RowCell) (ks : List RowCell) (b : Bool) → same c d ≡ b
     → unlike_from (c ∷ cs) (d ∷ ds) (k ∷ ks) ≡ (if b then unlike_from (c ∷ cs) ds ks else cell_line k)
-unlike_left c cs d ds k ks b e = ap (λ t. if t then first_unlike c ds ks else cell_line k) e
+unlike_left c cs d ds k ks b e = rw e
 
 first_content : (count : ℕ) (ds : List FieldContent) (z : FieldContent) → 0 < length ds → padded_contents count ds ≡ padded_content count (get_or ds 0 z) ∷ padded_contents count (drop 1 ds)
-first_content count [] z h = absurd (omega (arith, h))
+first_content count [] z h = absurd (omega arith)
 first_content count (d ∷ []) z h = refl
 first_content count (d ∷ x ∷ ds) z h = refl
 
@@ -271,15 +253,7 @@ module _ (count : ℕ) (ds : List FieldContent) (cells : List RowCell) (j : ℕ)
     (inv : unlike_line (padded_contents count ds) cells ≡ unlike_from (padded_contents count ds) (padded_contents count (drop j ds)) (drop j cells)) where
   unlike_next : (b : Bool) → same (padded_content count (get_or ds 0 z)) (padded_content count (get_or ds j z)) ≡ b → (k : CellAt cells j)
       → unlike_line (padded_contents count ds) cells ≡ (if b then unlike_from (padded_contents count ds) (padded_contents count (drop (j + 1) ds)) (drop (j + 1) cells) else cell_line k.cell)
-  unlike_next b e k =
-      let all = first_content count ds z (omega (arith, within)) in
-      inv ∙ ap (λ xs. unlike_from (padded_contents count ds) (padded_contents count xs) (drop j cells)) (at_index ds j z within)
-      ∙ ap (λ ks. unlike_from (padded_contents count ds) (padded_content count (get_or ds j z) ∷ padded_contents count (drop (j + 1) ds)) ks) k.left
-      ∙ ap (λ cs. unlike_from cs (padded_content count (get_or ds j z) ∷ padded_contents count (drop (j + 1) ds)) (k.cell ∷ drop (j + 1) cells)) all
-      ∙ unlike_left (padded_content count (get_or ds 0 z)) (padded_contents count (drop 1 ds)) (padded_content count (get_or ds j z)) (padded_contents count (drop (j + 1) ds)) k.cell
-      (drop (j + 1) cells)
-      b e
-      ∙ ap (λ cs. if b then unlike_from cs (padded_contents count (drop (j + 1) ds)) (drop (j + 1) cells) else cell_line k.cell) (sym all)
+  unlike_next b e k = grind (arith, common_steps, within)
 
   pub unlike_more : same (padded_content count (get_or ds 0 z)) (padded_content count (get_or ds j z)) ≡ true
       → unlike_line (padded_contents count ds) cells ≡ unlike_from (padded_contents count ds) (padded_contents count (drop (j + 1) ds)) (drop (j + 1) cells)
@@ -297,10 +271,7 @@ module _ (spec : FieldSpec) (index : ℕ) (subsets : List Subset) where
   -- If there are too many values, the item is refused.
   pub many_fault : max_values < (index + 1) * length (cells_at index subsets)
       → pack_across spec (item_row index subsets) ≡ Err (at_line (first_line (cells_at index subsets)) (too_many_values spec.fxy))
-  many_fault h =
-      ap (λ b. if b then Err (at_line (first_line (cells_at index subsets)) (too_many_values spec.fxy)) else
-      (contents_here spec (cells_at index subsets) >>= λ cs. result_map_both (written_item cs) (packing_fault cs (cells_at index subsets)) (packing spec cs)))
-      (lt-ltb max_values ((index + 1) * length (cells_at index subsets)) h)
+  many_fault h = rw lt-ltb
 
   module _ (few : (index + 1) * length (cells_at index subsets) ≤ max_values) where
     across_is : pack_across spec (item_row index subsets) ≡ (contents_here spec (cells_at index subsets)
@@ -333,20 +304,20 @@ module _ (spec : FieldSpec) (index : ℕ) (subsets : List Subset) where
 -- The answer of an item is that of its content in the first subset.
 pub answers_first : (spec : FieldSpec) (count : ℕ) (ds : List FieldContent) (z : FieldContent) (t : Taken) → 0 < length ds → t ≡ answer_of spec (padded_content count (get_or ds 0 z))
     → t ≡ answer_first spec (padded_contents count ds)
-answers_first spec count [] z t h e = absurd (omega (arith, h))
+answers_first spec count [] z t h e = absurd (omega arith)
 answers_first spec count (d ∷ ds) z t h e = e
 
 -- contents that are all the same, and contents that differ
 pub packed_alike : (spec : FieldSpec) (count : ℕ) (ds : List FieldContent) (z : FieldContent) → 0 < length ds → list_all (same (padded_content count (get_or ds 0 z))) (padded_contents count ds) ≡ true
     → packing spec (padded_contents count ds) ≡ Ok (packed_bits (bits_for spec.width (padded_content count (get_or ds 0 z))) 0 [])
 packed_alike spec count [] z h e = absurd (omega (arith, h))
-packed_alike spec count (d ∷ ds) z h e = grind (arith, common_steps, content_self)
+packed_alike spec count (d ∷ ds) z h e = grind (arith, content_self)
 
 pub packed_apart : (spec : FieldSpec) (count : ℕ) (ds : List FieldContent) (z : FieldContent) → 0 < length ds → list_all (same (padded_content count (get_or ds 0 z))) (padded_contents count ds)
     ≡ false
     → packing spec (padded_contents count ds) ≡ packed_unlike spec.role spec (padded_contents count ds)
-packed_apart spec count [] z h e = absurd (omega (arith, h))
-packed_apart spec count (d ∷ ds) z h e = grind (arith, common_steps, content_self)
+packed_apart spec count [] z h e = absurd (omega arith)
+packed_apart spec count (d ∷ ds) z h e = grind (arith, content_self)
 
 -- Contents of elements and inserted texts may differ.
 pub apart_by : (spec : FieldSpec) (cs : List Content) (r : Role) → r ≡ spec.role → (r ≡ role.Element) ⊎ (r ≡ role.Inserted)
@@ -389,16 +360,16 @@ same_spaced count a b e = by a b (count - length a) e ∙ ap (λ n. bytes_eq (sp
   where
     by : (a b : List ℕ) (n : ℕ) → length a ≡ length b → bytes_eq a b ≡ bytes_eq (a ++ replicate n 32) (b ++ replicate n 32)
     by [] [] n e = sym (octets_self (replicate n 32))
-    by [] (y ∷ ys) n e = absurd (omega (arith, e))
-    by (x ∷ xs) [] n e = absurd (omega (arith, e))
-    by (x ∷ xs) (y ∷ ys) n e = ap (λ b. (x == y) && b) (by xs ys n (omega (arith, e)))
+    by [] (y ∷ ys) n e = absurd (omega arith)
+    by (x ∷ xs) [] n e = absurd (omega arith)
+    by (x ∷ xs) (y ∷ ys) n e = ap (λ b. (x == y) && b) (by xs ys n (omega arith))
 
 -- A text consists of spaces if its padded form does.
 all_spaces : (os : List ℕ) (n : ℕ) → list_all (λ octet. octet == 32) os ≡ bytes_eq (os ++ replicate n 32) (replicate (length os + n) 32)
-all_spaces [] n = let none : n ≡ 0 + n = omega arith in sym (octets_self (replicate n 32)) ∙ ap (λ k. bytes_eq (replicate n 32) (replicate k 32)) none
+all_spaces [] n = let none : n ≡ 0 + n = omega arith in cc (octets_self (replicate n 32))
 all_spaces (o ∷ os) n =
     let more : suc (length os + n) ≡ suc (length os) + n = omega arith in
-    ap (λ b. (o == 32) && b) (all_spaces os n) ∙ ap (λ k. bytes_eq ((o ∷ os) ++ replicate n 32) (replicate k 32)) more
+    cc (all_spaces os n)
 
 -- If a text begins with another one, they have the same padded form if only spaces follow.
 pub spaced_start : (count : ℕ) (whole start os rest : List ℕ) → whole ≡ start ++ rest → length start ≡ length os → length whole ≤ count
@@ -412,42 +383,33 @@ spaced_start count whole start os rest parts e few =
     by : (start os : List ℕ) (n : ℕ) → length start ≡ length os
         → (bytes_eq start os && list_all (λ octet. octet == 32) rest) ≡ bytes_eq ((start ++ rest) ++ replicate n 32) (os ++ replicate (length rest + n) 32)
     by [] [] n e = all_spaces rest n
-    by [] (y ∷ ys) n e = absurd (omega (arith, e))
-    by (x ∷ xs) [] n e = absurd (omega (arith, e))
-    by (x ∷ xs) (y ∷ ys) n e = and_assoc (x == y) (bytes_eq xs ys) (list_all (λ octet. octet == 32) rest) ∙ ap (λ b. (x == y) && b) (by xs ys n (omega (arith, e)))
+    by [] (y ∷ ys) n e = absurd (omega arith)
+    by (x ∷ xs) [] n e = absurd (omega arith)
+    by (x ∷ xs) (y ∷ ys) n e = and_assoc (x == y) (bytes_eq xs ys) (list_all (λ octet. octet == 32) rest) ∙ ap (λ b. (x == y) && b) (by xs ys n (omega arith))
 
 -- Texts can be compared in either order.
 false_true : false ≡ true → ⊥
 false_true e = cc
 
 eqb_other : (x y : ℕ) → (x == y) ≡ (y == x)
-eqb_other x y = by (x == y) refl
-  where
-    by : (b : Bool) → (x == y) ≡ b → b ≡ (y == x)
-    by true e = sym (eq-eqb y x (sym (eqb-true x y e)))
-    by false e = sym (ne_eqb y x (λ q. false_true (sym e ∙ eq-eqb x y (sym q))))
+eqb_other x y = search (rules, eq-eqb, ne_eqb)
 
 pub spaced_other : (xs ys : List ℕ) → bytes_eq xs ys ≡ bytes_eq ys xs
-spaced_other [] [] = refl
-spaced_other [] (y ∷ ys) = refl
-spaced_other (x ∷ xs) [] = refl
-spaced_other (x ∷ xs) (y ∷ ys) = ap (λ b. b && bytes_eq xs ys) (eqb_other x y) ∙ ap (λ b. (y == x) && b) (spaced_other xs ys)
+spaced_other xs ys = search rules
 
 -- A space at the end of a text does not change its trimmed length, but any other octet does.
 trimmed_space : (b : Bool) (os : List ℕ) (n : ℕ) → trimmed os ≡ n → trimmed (os ++ 32 ∷ []) ≡ n
 trimmed_space b [] n e = e
-trimmed_space b (o ∷ os) n e = ap (λ t. if (t == 0) && (o == 32) then 0 else suc t) (trimmed_space b os (trimmed os) refl) ∙ e
+trimmed_space b (o ∷ os) n e = cc (trimmed_space b os (trimmed os) refl)
 
 trimmed_other : (os : List ℕ) (x : ℕ) → (x ≡ 32 → ⊥) → trimmed (os ++ x ∷ []) ≡ suc (length os)
-trimmed_other [] x h = ap (λ b. if b then 0 else 1) (ne_eqb x 32 h)
-trimmed_other (o ∷ os) x h =
-    ap (λ t. if (t == 0) && (o == 32) then 0 else suc t) (trimmed_other os x h)
-    ∙ ap (λ b. if b && (o == 32) then 0 else suc (suc (length os))) (ne_eqb (suc (length os)) 0 (λ q. absurd (omega (arith, q))))
+trimmed_other [] x h = rw ne_eqb
+trimmed_other (o ∷ os) x h = cc (trimmed_other os x h, ne_eqb (suc (length os)) 0 (λ q. absurd (omega arith)))
 
 take_one : (os : List ℕ) (n x z : ℕ) → n < length os → x ≡ get_or os n z → take (suc n) os ≡ take n os ++ x ∷ []
-take_one [] n x z h e = absurd (omega (arith, h))
+take_one [] n x z h e = absurd (omega arith)
 take_one (o ∷ os) zero x z h e = ap (λ y. y ∷ []) (sym e)
-take_one (o ∷ os) (suc n) x z h e = ap (λ ys. o ∷ ys) (take_one os n x z (omega (arith, h)) e)
+take_one (o ∷ os) (suc n) x z h e = ap (λ ys. o ∷ ys) (take_one os n x z (omega arith) e)
 
 length-take_one : (os : List ℕ) (n : ℕ) → n ≤ length os → length (take n os) ≡ n
 length-take_one os zero h = refl
@@ -456,14 +418,14 @@ length-take_one (o ∷ os) (suc n) h = ap suc (length-take_one os n (omega (arit
 
 pub trimmed_here : (os : List ℕ) (spaces x z : ℕ) → spaces < length os → x ≡ get_or os (length os - 1 - spaces) z → (x ≡ 32 → ⊥) → trimmed (take (length os - spaces) os) ≡ trimmed os
     → length os - spaces ≡ trimmed os
-trimmed_here os spaces x z h e other inv = grind (arith, common_steps, length-take_one, trimmed_other, take_one)
+trimmed_here os spaces x z h e other inv = grind (arith, common_steps, trimmed_other)
 
 pub trimmed_later : (os : List ℕ) (spaces x z : ℕ) → spaces < length os → x ≡ get_or os (length os - 1 - spaces) z → x ≡ 32 → trimmed (take (length os - spaces) os) ≡ trimmed os
     → trimmed (take (length os - (spaces + 1)) os) ≡ trimmed os
-trimmed_later os spaces x z h e is inv = grind (arith, common_steps, trimmed_space, take_one)
+trimmed_later os spaces x z h e is inv = grind (arith, common_steps, trimmed_space)
 
 pub trimmed_all : (os : List ℕ) (spaces : ℕ) → length os ≤ spaces → trimmed (take (length os - spaces) os) ≡ trimmed os → 0 ≡ trimmed os
-trimmed_all os spaces h inv = let n : 0 ≡ length os - spaces = omega (arith, h) in ap (λ k. trimmed (take k os)) n ∙ inv
+trimmed_all os spaces h inv = let n : 0 ≡ length os - spaces = omega arith in cc (n)
 
 -- An element or an inserted text is not a redefined reference.
 pub no_reference : (spec : FieldSpec) (r : Role) → r ≡ spec.role → (r ≡ role.Element) ⊎ (r ≡ role.Inserted) → is_reference spec.role ≡ false

@@ -4,7 +4,7 @@ use Rattle.bufr_walk.specs.Pass.{empty_pass, EndsPass}
 use Rattle.bufr_walk.proofs.WalkPass.{at_last, IsStep, walk_passes}
 use Rattle.bufr_fill.specs.Prelude.{Taken, WrittenItem, Filler, write_first, filling, fill_pass, with_items, bits_written, fill, bits_of_pass, WritesDrafts, written_item, plain_filler, DraftEntry, Holds, Ends, DraftFault, at_line, item_too_many, PlainOutModel, PlainFills, IsFaultNext, items_left, end_left, map_err, ◌>>=◌, subsets_of}
 use Rattle.bufr_fill.proofs.EntryLemmas.{length-prepended}
-use Rattle.std.proofs.Common.{Option, Some, refl, sym, ◌∙◌, ap, subst, append_assoc, ℕ, ◌+◌, suc, length, length-append, arith, ◌≡◌, Bool, List, [], ◌∷◌, ◌++◌, Result, Ok, Err}
+use Rattle.std.proofs.Common.{Option, Some, refl, sym, ◌∙◌, ap, append_assoc, ℕ, ◌+◌, suc, length, length-append, arith, ◌≡◌, Bool, List, [], ◌∷◌, ◌++◌, Result, Ok, Err}
 use Rattle.std.proofs.lemmas.List.{append-nil}
 use Rattle.std.proofs.lemmas.List.Concat.{flat_map-append}
 
@@ -76,11 +76,11 @@ module _ {D C E : Type 0} (filler : Filler D C E) where
   pub walk_ends : (course : Course) (walked : List TakenField) (old new : List Bool) (drafts left : List D) (stop : Option E) → (w : WritesDrafts filler course walked old new drafts left)
       → EndsPass (filling filler) (course (answers_of walked)) left stop
       → fill_pass filler course drafts ≡ record { items = w.items; state = left; stop = stop }
-  walk_ends course walked old new drafts left stop w h =
-      w.is
-      ∙ ap (with_items w.items) (fill_ends (λ more. course (answers_of walked ++ more)) left stop
-      (subst (λ a. EndsPass (filling filler) (course a) left stop) (sym (append-nil (answers_of walked))) h))
-      ∙ ap (λ items. record { items = items; state = left; stop = stop }) (append-nil w.items)
+  walk_ends course walked old new drafts left stop w h = cc (
+    w.is,
+    fill_ends (λ more. course (answers_of walked ++ more)) left stop (rw (append-nil (answers_of walked)) h),
+    append-nil w.items,
+  )
 
 -- ---- A walk over the items of one subset writes them as defined.
 

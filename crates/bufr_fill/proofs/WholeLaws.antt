@@ -1,10 +1,10 @@
 -- The round trip of all data.
+use Rattle.std.proofs.lemmas.Grind.{common_steps}
 use Rattle.std.proofs.lemmas.Slice.Zip.{AllZip-long}
-use Rattle.std.proofs.Common.{◌≡◌, ℕ, zero, suc, ◌+◌, ◌*◌, ◌<◌, ◌≤◌, List, [], ◌∷◌, length, drop, Some, refl, sym, ◌∙◌, ap, subst, arith, Bool, true, false, ◌++◌, Ok, length-drop, slice_get, flat_map}
+use Rattle.std.proofs.Common.{◌≡◌, ℕ, zero, suc, ◌+◌, ◌*◌, ◌<◌, ◌≤◌, List, [], ◌∷◌, length, drop, refl, sym, ◌∙◌, ap, subst, arith, Bool, true, false, ◌++◌, Ok, length-drop, slice_get, flat_map, rules}
 use Rattle.bufr_fill.proofs.EntryLemmas.{length-cells}
-use Rattle.std.proofs.Math.Nat.{mul-le-mul_right}
 use Rattle.bufr_walk.specs.Prelude.{Content, max_values, Item, packed, ReadsItems, answers_in, answer_first, at_end, after, Data, Values, apart, together, each_subset, content_at, Course, next_item, items_of_subset, subsets_from, would_be_many}
-use Rattle.bufr_fill.specs.Prelude.{IsAlike, Draft, Subset, cells_at, rows, most_items, packed_filler, ◌>>=◌, map_err, content_here, contents_here, packed_data, AreDrafts, AreDumped, HasReading, IsWritten, IsWrittenAgain, IsTogetherOrNot, data_bits, IsSaid, AreSaid, AllAlike, AllHaveOctets, at_line}
+use Rattle.bufr_fill.specs.Prelude.{IsAlike, Draft, Subset, cells_at, rows, most_items, packed_filler, content_here, contents_here, packed_data, AreDrafts, AreDumped, HasReading, IsWritten, IsWrittenAgain, IsTogetherOrNot, data_bits, IsSaid, AreSaid, AllAlike, AllHaveOctets}
 use Rattle.bufr_fill.proofs.PlainLaws.{IsSaidRow, HaveContents, AllFields, rewritten}
 use Rattle.std.specs.List.{AllZip}
 use Rattle.bufr_tables.specs.Prelude.{Row, Tree, IsLegal}
@@ -25,68 +25,64 @@ drop-items_of j (suc p) [] = refl
 drop-items_of j (suc p) (i ∷ items) = drop-items_of j p items
 
 content_more : (j : ℕ) (cs : List Content) → j < length cs → drop j cs ≡ content_at j cs ∷ drop (suc j) cs
-content_more j [] h = absurd (omega (arith, h))
+content_more j [] h = absurd (omega arith)
 content_more zero (c ∷ cs) h = refl
-content_more (suc j) (c ∷ cs) h = content_more j cs (omega (arith, h))
+content_more (suc j) (c ∷ cs) h = content_more j cs (omega arith)
 
 content_none : (j : ℕ) (cs : List Content) → length cs ≡ j → drop j cs ≡ []
-content_none zero [] h = refl
-content_none (suc j) [] h = refl
-content_none zero (c ∷ cs) h = absurd (omega (arith, h))
-content_none (suc j) (c ∷ cs) h = let e : length cs ≡ j = omega (arith, h) in content_none j cs e
+content_none j cs h = grind (arith, common_steps)
 
 drop_next : (items : List (Item (List Content))) (p : ℕ) (i : Item (List Content)) (rest : List (Item (List Content))) → drop p items ≡ i ∷ rest → drop (p + 1) items ≡ rest
 drop_next [] zero i rest e = absurd cc
 drop_next [] (suc p) i rest e = absurd cc
 drop_next (x ∷ items) zero i rest e = cc
-drop_next (x ∷ items) (suc p) i rest e = let q : suc p + 1 ≡ suc (p + 1) = omega arith in ap (λ k. drop k (x ∷ items)) q ∙ drop_next items p i rest e
+drop_next (x ∷ items) (suc p) i rest e = let q : suc p + 1 ≡ suc (p + 1) = omega arith in cc (q, drop_next items p i rest e)
 
 -- The draft at an index has the content of the item there.
 said_at : (end_line : ℕ) (items : List (Item Content)) (ds : List Draft) (p : ℕ) (i : Item Content) (rest : List (Item Content)) → AreDrafts IsSaid items ds → drop p items ≡ i ∷ rest
     → content_here i.spec (slice_get ds p) end_line ≡ Ok i.content
 said_at end_line [] [] zero i rest h e = absurd cc
 said_at end_line [] [] (suc p) i rest h e = absurd cc
-said_at end_line (x ∷ items) (d ∷ ds) zero i rest h e = let is : x ≡ i = cc in subst (λ (y : Item Content). content_here y.spec (Some d) end_line ≡ Ok y.content) is (ap (map_err (at_line d.line)) h.0)
+said_at end_line (x ∷ items) (d ∷ ds) zero i rest h e = grind arith
 said_at end_line (x ∷ items) (d ∷ ds) (suc p) i rest h e = said_at end_line items ds p i rest h.1 e
 said_at end_line items ds p i rest h e = absurd h
 
 -- The cells at an index have the contents of the item there.
 contents_said : (items : List (Item (List Content))) (p : ℕ) (i : Item (List Content)) (rest : List (Item (List Content))) (j : ℕ) (ss : List Subset) → drop p items ≡ i ∷ rest
     → j + length ss ≡ length i.content → AreSaid (subsets_from (length ss) j items) ss → contents_here i.spec (cells_at p ss) ≡ Ok (drop j i.content)
-contents_said items p i rest j [] e n h = ap Ok (sym (content_none j i.content (omega (arith, n))))
+contents_said items p i rest j [] e n h = ap Ok (sym (content_none j i.content (omega arith)))
 contents_said items p i rest j (s ∷ ss) e n h =
     let here : drop p (items_of_subset j items) ≡ record { spec = i.spec; content = content_at j i.content } ∷ items_of_subset j rest = drop-items_of j p items ∙ ap (items_of_subset j) e in
-    ap (λ r. r >>= λ first. contents_here i.spec (cells_at p ss) >>= λ more. Ok (first ∷ more))
-    (said_at s.end_line (items_of_subset j items) s.items p (record { spec = i.spec; content = content_at j i.content }) (items_of_subset j rest) h.0 here)
-    ∙ ap (λ r. r >>= λ more. Ok (content_at j i.content ∷ more)) (contents_said items p i rest (suc j) ss e (omega (arith, n)) h.1)
-    ∙ ap Ok (sym (content_more j i.content (omega (arith, n))))
+    cc (
+      said_at s.end_line (items_of_subset j items) s.items p (record { spec = i.spec; content = content_at j i.content }) (items_of_subset j rest) h.0 here,
+      contents_said items p i rest (suc j) ss e (omega (arith, n)) h.1,
+      content_more j i.content (omega (arith, n)),
+    )
 
 -- the rows from an index on
 rows_said : (items : List (Item (List Content))) (ss : List Subset) (rest : List (Item (List Content))) (p : ℕ) → HaveContents (length ss) rest → AreSaid (subsets_from (length ss) 0 items) ss
     → drop p items ≡ rest → (p + length rest) * length ss ≤ max_values → AreDrafts IsSaidRow rest (rows (length rest) p ss)
 rows_said items ss [] p have h e few = tt
 rows_said items ss (i ∷ rest) p have h e few =
-    let m : (p + 1) * length ss ≤ (p + length (i ∷ rest)) * length ss = mul-le-mul_right (length ss) (omega arith) in
     let q : p + 1 + length rest ≡ p + length (i ∷ rest) = omega arith in (
       record {
-        contents = contents_said items p i rest 0 ss e (omega (arith, have.0)) h;
-        few = subst (λ n. (p + 1) * n ≤ max_values) (sym (length-cells p ss)) (omega (arith, m, few));
+        contents = contents_said items p i rest 0 ss e (omega arith) h;
+        few = rw (length-cells p ss) (omega arith);
       },
-      rows_said items ss rest (p + 1) have.1 h (drop_next items p i rest e) (subst (λ k. k * length ss ≤ max_values) (sym q) few),
+      rows_said items ss rest (p + 1) have.1 h (drop_next items p i rest e) (rw q few),
     )
 
 longest_said : (j : ℕ) (items : List (Item (List Content))) (ss : List Subset) → AreSaid (subsets_from (length ss) j items) ss → most_items ss ≤ length items
 longest_said j items [] h = omega arith
-longest_said j items (s ∷ ss) h = omega (arith, AllZip-long IsSaid (items_of_subset j items) s.items h.0, length-items_of j items, longest_said (suc j) items ss h.1)
+longest_said j items (s ∷ ss) h = omega (arith, AllZip-long IsSaid (items_of_subset j items) s.items h.0, length-items_of, longest_said (suc j) items ss h.1)
 
 all_rows_said : (n : ℕ) (items : List (Item (List Content))) (s : Subset) (ss : List Subset) → HaveContents n items → AreSaid (subsets_from n 0 items) (s ∷ ss)
     → length items * n ≤ max_values → AreDrafts IsSaidRow items (rows (most_items (s ∷ ss)) 0 (s ∷ ss))
 all_rows_said n items s ss have said few =
     let same = sym (subset_count _ n items (s ∷ ss) said) in
     let h = subst (λ k. AreSaid (subsets_from k 0 items) (s ∷ ss)) same said in
-    let l : most_items (s ∷ ss) ≡ length items = omega (arith, AllZip-long IsSaid (items_of_subset 0 items) s.items h.0, length-items_of 0 items, longest_said 1 items ss h.1) in
-    subst (λ k. AreDrafts IsSaidRow items (rows k 0 (s ∷ ss))) (sym l)
-    (rows_said items (s ∷ ss) items 0 (subst (λ k. HaveContents k items) same have) h refl (omega (arith, subst (λ k. length items * k ≤ max_values) same few)))
+    let l : most_items (s ∷ ss) ≡ length items = omega (arith, AllZip-long IsSaid (items_of_subset 0 items) s.items h.0, length-items_of, longest_said 1 items ss h.1) in
+    search (rules, rows_said)
 
 have_contents : (n : ℕ) (course : Course) (items : List (Item (List Content))) (bits suffix : List Bool) → AllFields items → ReadsItems (packed n) course items bits suffix → HaveContents n items
 have_contents n course [] bits suffix fields h = tt
@@ -160,7 +156,7 @@ module _ (table : List Row) (template : Tree) (rows : AreRead table) (legal : Is
             out = subset_bits subsets;
             is = ap (λ b. data_bits b course drafts) form ∙ w.is;
             again = subst (λ b. AreReadAs course b d.subsets (apart subsets) (subset_bits subsets)) (sym form)
-                (subst (λ n. AreReadAs course false n (apart subsets) (subset_bits subsets)) all.count w.again);
+                (rw (← all.count) w.again);
           },
           omega (arith, all.short, h.within, length-drop used d.bits),
         ),
@@ -173,7 +169,7 @@ module _ (table : List Row) (template : Tree) (rows : AreRead table) (legal : Is
           record {
             out = flat_map row_bits items;
             is = ap (λ b. data_bits b course drafts) form ∙ w.is;
-            again = subst (λ b. AreReadAs course b d.subsets (together items) (flat_map row_bits items)) (sym form) w.again;
+            again = rw form w.again;
           },
           omega (arith, w.short, h.within, length-drop used d.bits),
         ),
@@ -199,7 +195,7 @@ module _ (table : List Row) (template : Tree) (rows : AreRead table) (legal : Is
       let subsets = subsets_from d.subsets 0 items in
       let follow = follows (together items) used h in
       let w = plain_subsets course sane subsets drafts follow (subsets_said course subsets drafts follow dumped) in
-      subst (λ n. IsWritten course false n (apart subsets) drafts) (length-subsets_from d.subsets 0 items) (record { out = subset_bits subsets; is = w.is; again = w.again })
+      grind (arith, length-subsets_from)
 
   -- Plain data are written as compressed data, if these can represent their contents.
   pub written_together : (subsets : List (List (Item Content))) (used : ℕ) (drafts : List Subset) → length d.bits ≤ max_values → HasReading course d (apart subsets) used

@@ -1,7 +1,7 @@
-use Rattle.std.proofs.Common.{◌≡◌, ℕ, ◌≤◌, ◌<◌, ◌+◌, ◌*◌, ◌∙◌, Bool, List, Err, ◌++◌, length, ap, sym, subst, refl, arith, length-append}
+use Rattle.std.proofs.Common.{◌≡◌, ◌≤◌, ◌<◌, ◌+◌, ◌*◌, ◌∙◌, Err, length, ap, sym, subst, refl, arith}
 use Rattle.std.proofs.lemmas.Result.{err_from_is_err_and}
 use Rattle.bufr_walk.specs.Prelude.{max_values}
-use Rattle.bufr_fill.specs.Prelude.{Subset, PackedOutModel, subsets_of, cells_at, at_line, too_many_values, IfDraftFault, pack_across, item_row}
+use Rattle.bufr_fill.specs.Prelude.{PackedOutModel, subsets_of, cells_at, at_line, too_many_values, IfDraftFault, pack_across, item_row}
 use Rattle.bufr_fill.proofs.EntryLemmas.{ends_few, count_cells}
 use Rattle.bufr_fill.proofs.RowLemmas.{many_fault, put_fault}
 use Rattle.bufr_fill.proofs.packed_out.PackedOutFields.take.Goals as goal
