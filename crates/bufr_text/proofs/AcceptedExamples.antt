@@ -1,6 +1,6 @@
 -- Worked examples of accepted messages, for the laws about messages that are encoded again. Some of
 -- these messages are canonical.
-use Rattle.std.proofs.Common.{◌≡◌, ◌∙◌, ℕ, zero, suc, ◌<◌, false, true, List, [], ◌∷◌, ◌++◌, drop, length, None, Ok, Err, refl, ap, arith, codes, pos, ◌&&◌, ◌||◌, ◌-◌, ◌==◌, if◌then◌else◌, nat_lt, not, slice_set}
+use Rattle.std.proofs.Common.{◌≡◌, ◌∙◌, ℕ, zero, suc, ◌<◌, false, true, List, [], ◌∷◌, ◌++◌, length, None, Ok, Err, refl, ap, arith, codes, pos, ◌&&◌, ◌||◌, ◌-◌, ◌==◌, if◌then◌else◌, nat_lt, not, slice_set}
 use Rattle.std.specs.List.{All, AllByRecursion}
 use Rattle.bufr_bits.specs.Prelude.{bits_of, bits_in}
 use Rattle.bufr_tables.specs.declared.table_b.Kind.TheVariants as kind

@@ -1,19 +1,19 @@
 -- The lines that are the same in every subset of compressed data: the code formats them once, and
 -- pushes them for each subset.
-use Rattle.std.proofs.Common.{◌≡◌, ◌≤◌, ◌<◌, ◌+◌, ◌*◌, ◌-◌, ◌⊎◌, ℕ, zero, suc, List, [], ◌∷◌, ◌++◌, length, take, drop, Result, Ok, Err, Option, Some, inl, inr, refl, sym, ap, ◌∙◌, subst, arith, append_assoc, append-nil, length-append, length-take-le, get_or, add-one, Bool, true, if◌then◌else◌}
-use Rattle.std.specs.Io.KnownBytes.{Appends}
+use Rattle.std.proofs.lemmas.Grind.{common_steps}
+use Rattle.std.proofs.Common.{◌≡◌, ◌≤◌, ◌<◌, ◌+◌, ◌⊎◌, ℕ, zero, suc, List, [], ◌∷◌, ◌++◌, length, take, drop, Result, Ok, Err, Option, Some, inl, inr, refl, sym, ap, ◌∙◌, subst, arith, append_assoc, append-nil, length-append, length-take-le, get_or, add-one, Bool, true, if◌then◌else◌, rules}
 use Rattle.std.proofs.lemmas.List.{drop_all}
-use Rattle.std.proofs.Math.Seq.{drop-cons, drop-append_seam, take-append_seam}
+use Rattle.std.proofs.Math.Seq.{drop-cons}
 use Rattle.bufr_frame.specs.declared.fault.RunFault.{RunFault}
 use Rattle.bufr_tables.specs.Prelude.{Row}
 use Rattle.bufr_walk.specs.declared.fault.ShowFault.{ShowFault}
 use Rattle.bufr_walk.specs.declared.fault.ShowFault.TheVariants as show
-use Rattle.bufr_walk.specs.Prelude.{Content, Item, Timed, timed, item_call, content_at, PackedValues, IsPackedOf, Read, together, IsSameInAll, Shows, Sofar, item_calls, items_between, items_of_subset, range_calls, without_turns, view_of}
+use Rattle.bufr_walk.specs.Prelude.{Content, Item, Timed, PackedValues, IsPackedOf, Read, IsSameInAll, Shows, Sofar, item_calls, items_between, items_of_subset, range_calls, without_turns, view_of}
 use Rattle.bufr_walk.proofs.PackedShowing.{shows_before, sofar_all}
-use Rattle.bufr_walk.proofs.ShownLemmas.{sofar_self, sofar_then}
-use Rattle.bufr_text.specs.Prelude.{LineModel, MovesOn, MovesPrefix, Moves, Pushes, PushesFrom, PushesCall, gathered_by, item_text, item_lines, lines_between, PushesAlike, AreStretches}
+use Rattle.bufr_walk.proofs.ShownLemmas.{sofar_then}
+use Rattle.bufr_text.specs.Prelude.{LineModel, MovesOn, MovesPrefix, Moves, Pushes, PushesFrom, PushesCall, item_text, item_lines, lines_between, PushesAlike, AreStretches}
 use Rattle.bufr_text.specs.declared.alike.Stretch.{Stretch}
-use Rattle.bufr_text.proofs.PushLemmas.{◌⨾◌, calls-pushed, calls_text, holds_pushes, items-text, nothing_pushed, retold}
+use Rattle.bufr_text.proofs.PushLemmas.{◌⨾◌, calls-pushed, calls_text, holds_pushes, items-text, retold}
 
 -- ---- Items from one index to another, in parts.
 
@@ -21,43 +21,41 @@ between : {X : Type 0} (xs : List X) (from mid to : ℕ) → from ≤ mid → mi
 between [] zero zero to a b = refl
 between [] zero (suc mid) (suc to) a b = refl
 between [] (suc from) (suc mid) (suc to) a b = refl
-between [] from (suc mid) zero a b = absurd (omega (arith, b))
-between [] (suc from) zero to a b = absurd (omega (arith, a))
+between [] from (suc mid) zero a b = absurd (omega arith)
+between [] (suc from) zero to a b = absurd (omega arith)
 between (x ∷ xs) zero zero to a b = refl
-between (x ∷ xs) zero (suc mid) zero a b = absurd (omega (arith, b))
-between (x ∷ xs) zero (suc mid) (suc to) a b = ap (λ ys. x ∷ ys) (first xs to ∙ between xs 0 mid to (omega arith) (omega (arith, b)) ∙ ap (λ ys. ys ++ drop mid (take to xs)) (sym (first xs mid)))
+between (x ∷ xs) zero (suc mid) zero a b = absurd (omega arith)
+between (x ∷ xs) zero (suc mid) (suc to) a b = ap (λ ys. x ∷ ys) (first xs to ∙ between xs 0 mid to (omega arith) (omega arith) ∙ ap (λ ys. ys ++ drop mid (take to xs)) (sym (first xs mid)))
   where
     first : {X : Type 0} (xs : List X) (n : ℕ) → take n xs ≡ drop 0 (take n xs)
     first [] zero = refl
     first [] (suc n) = refl
     first (x ∷ xs) zero = refl
     first (x ∷ xs) (suc n) = refl
-between (x ∷ xs) (suc from) zero to a b = absurd (omega (arith, a))
-between (x ∷ xs) (suc from) (suc mid) zero a b = absurd (omega (arith, b))
-between (x ∷ xs) (suc from) (suc mid) (suc to) a b = between xs from mid to (omega (arith, a)) (omega (arith, b))
+between (x ∷ xs) (suc from) zero to a b = absurd (omega arith)
+between (x ∷ xs) (suc from) (suc mid) zero a b = absurd (omega arith)
+between (x ∷ xs) (suc from) (suc mid) (suc to) a b = between xs from mid to (omega arith) (omega arith)
 
 items-parts : (j : ℕ) (a b : List (Item (List Content))) → items_of_subset j (a ++ b) ≡ items_of_subset j a ++ items_of_subset j b
 items-parts j [] b = refl
-items-parts j (i ∷ a) b = ap (λ l. record { spec = i.spec; content = content_at j i.content } ∷ l) (items-parts j a b)
+items-parts j (i ∷ a) b = cc (items-parts j a b)
 
 calls-parts : (table : List Row) (a b : List (Item Content)) → item_calls table 0 without_turns (a ++ b) ≡ item_calls table 0 without_turns a ++ item_calls table 0 without_turns b
 calls-parts table [] b = refl
-calls-parts table (i ∷ a) b = ap (λ l. timed 0 (item_call (view_of table i.spec i.content)) ∷ l) (calls-parts table a b)
+calls-parts table (i ∷ a) b = rw (calls-parts table a b) refl
 
 lines-parts : (table : List Row) (a b : List (Item Content)) → item_lines table (a ++ b) ≡ item_lines table a ++ item_lines table b
-lines-parts table [] b = refl
-lines-parts table (i ∷ a) b =
-    let line : List ℕ = item_text (view_of table i.spec i.content) ++ 10 ∷ [] in ap (λ l. line ++ l) (lines-parts table a b) ∙ sym (append_assoc line (item_lines table a) (item_lines table b))
+lines-parts table a b = grind (arith, common_steps)
 
 module _ (p : PackedValues) (j from mid to : ℕ) (first : from ≤ mid) (last : mid ≤ to) where
   items-at : items_between p j from to ≡ items_between p j from mid ++ items_between p j mid to
-  items-at = ap (items_of_subset j) (between p.items from mid to first last) ∙ items-parts j (drop from (take mid p.items)) (drop mid (take to p.items))
+  items-at = cc (between p.items from mid to first last, items-parts j (drop from (take mid p.items)) (drop mid (take to p.items)))
 
   pub range-at : range_calls p j from to ≡ range_calls p j from mid ++ range_calls p j mid to
-  range-at = ap (item_calls p.table 0 without_turns) items-at ∙ calls-parts p.table (items_between p j from mid) (items_between p j mid to)
+  range-at = rw (items-at, calls-parts)
 
   pub lines-at : lines_between p j from to ≡ lines_between p j from mid ++ lines_between p j mid to
-  lines-at = ap (item_lines p.table) items-at ∙ lines-parts p.table (items_between p j from mid) (items_between p j mid to)
+  lines-at = cc (items-at, lines-parts p.table (items_between p j from mid) (items_between p j mid to))
 
 -- There are no lines from an index to the same index.
 pub lines-none : (p : PackedValues) (j from : ℕ) → from ≤ length p.items → lines_between p j from from ≡ []
@@ -84,25 +82,22 @@ holding a text = record {
 -- the effect of a push if no write has failed
 moves-of : (a b : LineModel) (t : List ℕ) (q : Result Unit RunFault) → q ≡ Ok tt → PushesFrom q a t b → MovesOn a t b
 moves-of a b t (Ok x) is from = from
-moves-of a b t (Err f) is from = absurd (let no : Err f ≡ Ok tt = is in cc)
+moves-of a b t (Err f) is from = absurd (cc)
 
 pushes-of : (a b : LineModel) (t : List ℕ) (q : Result Unit RunFault) → q ≡ Ok tt → MovesOn a t b → PushesFrom q a t b
 pushes-of a b t (Ok x) is moves = moves
-pushes-of a b t (Err f) is moves = absurd (let no : Err f ≡ Ok tt = is in cc)
+pushes-of a b t (Err f) is moves = absurd (cc)
 
 prefix-of : (old new : Option (List ℕ)) (text held : List ℕ) (r : Result Unit RunFault) → r ≡ Ok tt → Moves old new text held r → MovesPrefix old new text held
 prefix-of old new text held (Ok x) is moves = moves
-prefix-of old new text held (Err f) is moves = absurd (let no : Err f ≡ Ok tt = is in cc)
+prefix-of old new text held (Err f) is moves = absurd (cc)
 
 -- If a text was pushed, its second part was pushed after its first part.
 pushed-after : {a b : LineModel} (s t : List ℕ) → a.status ≡ Ok tt → Pushes a (s ++ t) b → Pushes (holding a s) t b
 pushed-after {a = a} {b = b} s t ok pushes =
     let from = moves-of a b (s ++ t) a.status ok pushes.somehow.from in
-    let on : MovesOn (holding a s) t b = record { moves = subst (λ l. Moves a.taken b.taken l b.held b.status) (sym (append_assoc a.held s t)) from.moves; counts = from.counts } in
-    record {
-      somehow = record { from = pushes-of (holding a s) b t a.status ok on; flushes = pushes.somehow.flushes; sink = pushes.somehow.sink; size = pushes.somehow.size };
-      few = subst (λ l. b.whole_writes * gathered_by a.size + 2 * length b.held ≤ a.whole_writes * gathered_by a.size + 2 * length l) (sym (append_assoc a.held s t)) pushes.few;
-    }
+    let on : MovesOn (holding a s) t b = record { moves = rw (← append_assoc a.held s t) at from.moves; counts = from.counts } in
+    grind (arith, pushes-of, append_assoc)
 
 -- the result of a showing, given the status of the writer
 abbrev answered : Result Unit RunFault → Result Unit (ShowFault RunFault)
@@ -135,16 +130,16 @@ no-lines table i items =
 pub made-none : (text : List ℕ) (a : LineModel) → length text ≤ 0 → (table : List Row) (items : List (Item Content)) → text ≡ item_lines table items
     → Shows PushesCall a (item_calls table 0 without_turns items) 0 (Ok tt) a 0
 made-none text a none table [] is = (refl, refl)
-made-none text a none table (i ∷ items) is = absurd (omega (arith, no-lines table i items, ap length is, none))
+made-none text a none table (i ∷ items) is = absurd (omega (arith, no-lines, ap length is))
 
 pub made-shown : (text : List ℕ) (a b : LineModel) (r : Result Unit RunFault) → 1 ≤ length text → a.status ≡ Ok tt → Pushes a text b → b.status ≡ r → (table : List Row) (items : List (Item Content))
     → text ≡ item_lines table items → Shows PushesCall a (item_calls table 0 without_turns items) 0 (answered r) b 0
-made-shown text a b r some ok pushes at table [] is = absurd (omega (arith, ap length is, some))
+made-shown text a b r some ok pushes at table [] is = absurd (omega (arith, ap length is))
 made-shown text a b r some ok pushes at table (i ∷ items) is = made-on table i items a b r ok (retold pushes is) at
 
 -- If all calls succeeded, no write has failed.
 pub shown-status : (a : LineModel) (calls : List Timed) (b : LineModel) → a.status ≡ Ok tt → Shows PushesCall a calls 0 (Ok tt) b 0 → b.status ≡ Ok tt
-shown-status a [] b ok (same, made) = subst (λ x. x.status ≡ Ok tt) (sym same) ok
+shown-status a [] b ok (same, made) = rw same ok
 shown-status a (t ∷ calls) b ok (mid, one, more) = shown-status mid calls b (sym one.status) more
 
 -- ---- One subset, stretch by stretch.
@@ -163,14 +158,14 @@ module _ (p : PackedValues) (j from to : ℕ) (a b c : LineModel) (order : from 
   parted = subst (Sofar PushesCall a (range_calls p j 0 (length p.items)) b) (range-at p j from to (length p.items) order within) calls
 
   calls-go : Shows PushesCall b (range_calls p j from to) 0 (Ok tt) c 0 → Sofar PushesCall a (range_calls p j 0 (length p.items)) c (range_calls p j to (length p.items))
-  calls-go shows = sofar_then PushesCall a b c _ _ _ parted (sofar_all PushesCall b c (range_calls p j from to) (range_calls p j to (length p.items)) shows)
+  calls-go shows = search (rules, sofar_then, parted, sofar_all)
 
   calls-stop : (e : ShowFault RunFault) → Shows PushesCall b (range_calls p j from to) 0 (Err e) c 0 → Shows PushesCall a (range_calls p j 0 (length p.items)) 0 (Err e) c 0
   calls-stop e shows = parted.on 0 (Err e) c 0 (shows_before PushesCall b c (range_calls p j from to) (range_calls p j to (length p.items)) e shows)
 
 module _ (p : PackedValues) (text : List ℕ) (j : ℕ) (a b : LineModel) (at : ℕ) (s : Stretch) (more : List Stretch) (h : SubsetSoFar p text j a b at (s ∷ more)) where
   pub stop-made : (c : LineModel) (e : ShowFault RunFault) → Shows PushesCall b (range_calls p j h.index s.from) 0 (Err e) c 0 → Shows PushesCall a (range_calls p j 0 (length p.items)) 0 (Err e) c 0
-  stop-made c e shows = calls-stop p j h.index s.from a b c h.left.0.first (omega (arith, h.left.0.order, h.left.0.within)) h.calls e shows
+  stop-made c e shows = grind (arith, calls-stop)
 
   made-go : (c : LineModel) → Shows PushesCall b (range_calls p j h.index s.from) 0 (Ok tt) c 0 → Sofar PushesCall a (range_calls p j 0 (length p.items)) c (range_calls p j s.from (length p.items))
   made-go c shows = calls-go p j h.index s.from a b c h.left.0.first (omega (arith, h.left.0.order, h.left.0.within)) h.calls shows
@@ -190,7 +185,7 @@ module _ (p : PackedValues) (text : List ℕ) (j : ℕ) (a b : LineModel) (at : 
 
 -- the next stretch
 pub next-stretch : (stretches : List Stretch) (i : ℕ) (s : Stretch) → i < length stretches → s ≡ get_or stretches i s → drop i stretches ≡ s ∷ drop (i + 1) stretches
-next-stretch stretches i s below is = drop-cons stretches i s below ∙ ap (λ x. x ∷ drop (suc i) stretches) (sym is) ∙ ap (λ k. s ∷ drop k stretches) (sym (add-one i))
+next-stretch stretches i s below is = cc (drop-cons stretches i s below, add-one i)
 
 -- ---- The lines are gathered.
 
@@ -202,7 +197,7 @@ alike-more p from to a b c some below h same shows =
     let text : calls_text (range_calls p 0 to (to + 1)) ≡ lines_between p 0 to (to + 1) = items-text p.table 0 without_turns (items_between p 0 to (to + 1)) in
     record {
       order = omega (arith, h.order);
-      within = omega (arith, below);
+      within = omega arith;
       pushes = retold (h.pushes ⨾ retold (calls-pushed b (range_calls p 0 to (to + 1)) 0 (Ok tt) c 0 shows) text) (sym (join 0));
       status = shown-status b (range_calls p 0 to (to + 1)) c h.status shows;
       alike = λ j less. join j ∙ ap (λ l. l ++ lines_between p j to (to + 1)) (h.alike j less) ∙ ap (λ l. lines_between p 0 from to ++ l) (ap (item_lines p.table) (same j less)) ∙ sym (join 0);
@@ -220,16 +215,12 @@ pub record GatheredSoFar (p : PackedValues) (lines : LineModel) (index : ℕ) (s
 pub gathered-all : (p : PackedValues) (lines : LineModel) (index : ℕ) (stretches : List Stretch) (text : List ℕ) → GatheredSoFar p lines index stretches → length p.items ≤ index → text ≡ lines.held
     → AreStretches p text 0 0 stretches
 gathered-all p lines index stretches text h ended is =
-    subst (λ t. AreStretches p t 0 0 stretches) (append-nil lines.held ∙ sym is) (subst (λ ss. AreStretches p (lines.held ++ []) 0 0 ss) (append-nil stretches) (h.on [] [] ended))
+    rw (← append-nil lines.held ∙ sym is) (rw (← append-nil stretches) (h.on [] [] ended))
 
 -- The buffered octets were appended to an empty text.
 pub appended : (all text held back : List ℕ) (done : Bool) → all ≡ (if done then text ++ held else text) → done ≡ true → text ≡ [] → held ≡ back → all ≡ back
-appended all text held back done is ok none same = is ∙ ap (λ b. if b then text ++ held else text) ok ∙ ap (λ t. t ++ held) none ∙ same
+appended all text held back done is ok none same = cc (is)
 
 -- A reading of compressed data is shown in only one way.
 pub same-packed : (p q : PackedValues) (r : Read) → IsPackedOf p r → IsPackedOf q r → p ≡ q
-same-packed p q r a b =
-    let both : together p.items ≡ together q.items = sym a.values ∙ b.values in
-    let items : p.items ≡ q.items = cc in
-    ap (λ t. record { table = t; subsets = p.subsets; items = p.items }) (a.table ∙ sym b.table) ∙ ap (λ n. record { table = q.table; subsets = n; items = p.items }) (a.subsets ∙ sym b.subsets)
-    ∙ ap (λ is. record { table = q.table; subsets = q.subsets; items = is }) items
+same-packed p q r a b = grind (arith, common_steps, a.table ∙ sym b.table)

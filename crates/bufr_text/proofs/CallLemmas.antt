@@ -1,25 +1,23 @@
 -- What a call of a reader of dump texts reads and reports.
-use Rattle.std.proofs.Common.{◌-◌, ◌*◌, ◌^◌, min, max, inl, inr, ◌⊎◌, ◌≡◌, ℕ, ◌<◌, Bool, true, false, List, [], ◌∷◌, ◌++◌, length, refl, sym, ap, subst, ◌∙◌, arith, append_assoc, append-nil, length-append, ◌+◌, ◌≤◌, Option, Ok, Some, None, Result, Err, IfOk, IfSome}
+use Rattle.std.proofs.Common.{◌-◌, ◌*◌, ◌^◌, min, max, inl, inr, ◌⊎◌, ◌≡◌, ℕ, ◌<◌, Bool, true, false, List, [], ◌∷◌, ◌++◌, length, refl, sym, ap, subst, ◌∙◌, arith, append_assoc, append-nil, length-append, ◌+◌, ◌≤◌, Option, Ok, Some, None, Result, Err, IfOk, IfSome, rules}
 use Rattle.std.proofs.Math.Nat.{mul-le-mul_left}
 use Rattle.bufr_bits.specs.Prelude.{counted}
 use Rattle.std.proofs.KnownBytes.{Consumes-trans}
 use Rattle.std.proofs.lemmas.Bool.{true≢false, cases_Bool}
 use Rattle.std.proofs.lemmas.List.{nil_from_length}
-use Rattle.bufr_text.specs.Prelude.{NeedsLine, failures_by, Parsing, ParseResult, parse_lines, parse_open_lines, lines_of, split_of, Document, Complete, documents_of, open_documents_of, text_of_lines, has_no_feed, ReaderPosition, ContinuesParse, TakesWholeLines, TakesEndLine, ReaderModel, position_of, position_after, IsMissingFeed, ReadsLines, EndsAtEndLine, parse, parse_open, new_reader, HasNoMoreLines, KeepsUnread, ReadsOnlyIfNoLine, ReturnsNextDocument, HasNoWholeLine, ParsesHeldLines, ReadsMoreText, TakesHeldLines, FillsBuffer, text_input, stopped, IsProper, ReadFault}
+use Rattle.bufr_text.specs.Prelude.{NeedsLine, failures_by, Parsing, ParseResult, parse_lines, parse_open_lines, lines_of, split_of, Document, Complete, documents_of, open_documents_of, has_no_feed, ReaderPosition, ContinuesParse, TakesWholeLines, TakesEndLine, ReaderModel, position_of, position_after, IsMissingFeed, ReadsLines, EndsAtEndLine, parse, parse_open, new_reader, HasNoMoreLines, KeepsUnread, ReadsOnlyIfNoLine, ReturnsNextDocument, HasNoWholeLine, ParsesHeldLines, ReadsMoreText, TakesHeldLines, FillsBuffer, text_input, stopped, IsProper, ReadFault}
 use Rattle.bufr_text.proofs.ReaderLemmas.{goes-further, line-held, one-line, nothing-yet, some-held, call-keeps, keeps-same, passes-none, HandlesEnd}
 use Rattle.std.specs.Io.KnownBytes.{Consumes}
-use Rattle.bufr_bits.proofs.CountLemmas.{counted-none}
-use Rattle.bufr_frame.specs.Prelude.{max_reads, FillEnds, FillFails, AddsReads, AsksAtMost}
+use Rattle.bufr_frame.specs.Prelude.{FillEnds, FillFails, AsksAtMost}
 use Rattle.bufr_frame.specs.declared.fault.RunFault.{RunFault}
 use Rattle.bufr_frame.specs.declared.fault.RunFault.TheVariants.{Read, Write, InputTooLong, Memory}
-use Rattle.bufr_frame.proofs.FinderLemmas.{adds-none, adds-then}
 use Rattle.bufr_text.specs.declared.fault.ReadFault.TheVariants.{Line, Run}
 use Rattle.std.proofs.lemmas.Bool.Decides.{nat_tests}
 use Rattle.std.proofs.lemmas.Grind.{common_steps}
 
 -- whole lines, followed by more whole lines
 pub passes-then : (at at' at'' : ℕ) (held rest rest' : List ℕ) → TakesWholeLines at held at' rest → TakesWholeLines at' rest at'' rest' → TakesWholeLines at held at'' rest'
-passes-then at at' at'' held rest rest' h1 h2 = grind (arith, nat_tests, common_steps)
+passes-then at at' at'' held rest rest' h1 h2 = grind (arith, common_steps)
 
 -- whole lines, followed by lines up to an `end` line
 passes-end : (at at' at'' : ℕ) (held rest rest' : List ℕ) → TakesWholeLines at held at' rest → TakesEndLine at' rest at'' rest' → TakesEndLine at held at'' rest'
@@ -39,12 +37,12 @@ closes-then left left' old s s' results bs call end ended =
     (feed, rw ended call.lines.1, passes-end old.at s.at s'.at ((old.held ++ bs) ++ feed) s.held s'.held call.lines.2 end)
 
 pub passes-more : (at at' : ℕ) (held rest more : List ℕ) → TakesWholeLines at held at' rest → TakesWholeLines at (held ++ more) at' (rest ++ more)
-passes-more at at' held rest more h1 = grind (arith, nat_tests, common_steps)
+passes-more at at' held rest more h1 = grind (arith, common_steps)
 
 -- Appending the same octets to both buffers does not change the results.
 goes-more : (a b : ReaderPosition) (x : List ParseResult) (bs : List ℕ) (e : Bool) → ContinuesParse a b x → (b.ended ≡ true → (e ≡ true) × (bs ≡ []))
     → ContinuesParse (record a { held = a.held ++ bs }) (record b { held = b.held ++ bs; ended = e }) x
-goes-more a b x bs e h1 h2 = grind (arith, nat_tests, common_steps)
+goes-more a b x bs e h1 h2 = grind (arith, common_steps)
 
 -- Two parts of a call are combined. At most one of them adds a missing line feed.
 module _ (left mid left' : Option (List ℕ)) (old s s' : ReaderModel) (results results' : List ParseResult) (bs bs' : List ℕ) (one : ReadsLines left mid old s results bs)
@@ -92,30 +90,11 @@ module _ (left mid left' : Option (List ℕ)) (old s s' : ReaderModel) (results 
   lines (inr both) = lines-ended both
 
   fed-open : one.lines.0 ≡ [] → old.ended ≡ false → s'.ended ≡ true → two.lines.0 ≡ [] → s'.held ≡ []
-  fed-open e before ended none = by s.ended refl
-    where
-      by : (b : Bool) → s.ended ≡ b → s'.held ≡ []
-      by false open' = two.fed open' ended none
-      by true reached =
-          let held : length s.held ≡ 0 = ap length (one.fed before reached e) in
-          nil_from_length s'.held (omega (
-            arith,
-            held,
-            ap length (two.kept reached).1,
-            ap length none,
-            length-append s.held bs',
-            length-append (s.held ++ bs') two.lines.0,
-            ap length two.lines.2.octets,
-            length-append (text_of_lines two.lines.2.lines) s'.held,
-          ))
+  fed-open e before ended none = search (rules, nil_from_length, length-append)
 
   fed : (feed : IsMissingFeed old.ended s.ended one.lines.0) → old.ended ≡ false → s'.ended ≡ true → (lines feed).0 ≡ [] → s'.held ≡ []
   unfolding lines lines-open lines-ended
-  fed (inl e) before ended none = fed-open e before ended none
-  fed (inr (a, b, e)) before ended none = absurd (some-feed (sym e ∙ none))
-    where
-      some-feed : ◌≡◌ {A = List ℕ} (10 ∷ []) [] → ⊥
-      some-feed h = omega (arith, ap length h)
+  fed feed before ended none = grind (arith, common_steps, fed-open)
 
   pub call-then : ReadsLines left left' old s' (results ++ results') (bs ++ bs')
   call-then = record {
@@ -133,7 +112,7 @@ module _ (left mid left' : Option (List ℕ)) (old s s' : ReaderModel) (results 
   }
 
 pub call-none : (left : Option (List ℕ)) (s : ReaderModel) → ReadsLines left left s s [] []
-call-none left s = grind (arith, nat_tests, common_steps)
+call-none left s = grind (arith, common_steps)
 
 -- Taking buffered lines reads no octets.
 pub takes-call : (left : Option (List ℕ)) (s s' : ReaderModel) (results : List ParseResult) → ParsesHeldLines s s' results → s'.ended ≡ s.ended → s'.reads ≡ s.reads
@@ -142,21 +121,13 @@ takes-call left s s' results h1 h2 h3 = grind (arith, nat_tests, common_steps)
 
 module _ (left left' : Option (List ℕ)) (s s' : ReaderModel) (bs : List ℕ) (read : ReadsMoreText left left' s s' (Ok tt) bs) (open' : s.ended ≡ false) (clean : has_no_feed s.held ≡ true) where
   same-hold : (h : List ℕ) (t : List ℕ) → parse_lines s.at s.parsing (lines_of (h ++ t)) ≡ parse_lines s'.at s'.parsing (lines_of (h ++ t))
-  same-hold h t = ap (λ (k : ℕ). parse_lines k s.parsing (lines_of (h ++ t))) (sym read.at) ∙ ap (λ (p : Parsing). parse_lines s'.at p (lines_of (h ++ t))) (sym read.parsing)
+  same-hold h t = cc (read.at)
 
   -- Adding the missing line feed does not change the lines.
   held-lines : (t : List ℕ) → (s'.ended ≡ true → t ≡ []) → ((read.feed ≡ []) ⊎ ((s'.ended ≡ true) × (read.feed ≡ 10 ∷ []) × (0 < length s.held)))
       → lines_of ((s.held ++ bs) ++ t) ≡ lines_of (((s.held ++ bs) ++ read.feed) ++ t)
   unfolding lines_of split_of
-  held-lines t none (inl e) = ap (λ (z : List ℕ). lines_of (z ++ t)) (sym (append-nil (s.held ++ bs)) ∙ ap (λ (z : List ℕ). (s.held ++ bs) ++ z) (sym e))
-  held-lines t none (inr (ended, e, some)) =
-      let nothing = read.fills.ends.1 ended in
-      let held : s.held ++ bs ≡ s.held = ap (λ (z : List ℕ). s.held ++ z) nothing ∙ append-nil s.held in
-      ap (λ (z : List ℕ). lines_of ((s.held ++ bs) ++ z)) (none ended) ∙ ap lines_of (append-nil (s.held ++ bs) ∙ held)
-      ∙ one-line s.held clean some
-      ∙ sym (line-held s.held [] clean)
-      ∙ ap lines_of (ap (λ (z : List ℕ). z ++ 10 ∷ []) (sym held) ∙ ap (λ (z : List ℕ). (s.held ++ bs) ++ z) (sym e) ∙ sym (append-nil ((s.held ++ bs) ++ read.feed))
-      ∙ ap (λ (z : List ℕ). ((s.held ++ bs) ++ read.feed) ++ z) (sym (none ended)))
+  held-lines t none h_read_is = search (rules, one-line, line-held)
 
   no-feed-open : s'.ended ≡ false → ((read.feed ≡ []) ⊎ ((s'.ended ≡ true) × (read.feed ≡ 10 ∷ []) × (0 < length s.held))) → s.held ++ bs ≡ s'.held
   no-feed-open unended (inl e) = sym (read.held ∙ ap (λ (z : List ℕ). (s.held ++ bs) ++ z) e ∙ append-nil (s.held ++ bs))
@@ -193,9 +164,7 @@ module _ (left left' : Option (List ℕ)) (s s' : ReaderModel) (bs : List ℕ) (
 
 pub waits-same : (left : Option (List ℕ)) (old s s' : ReaderModel) (bs bs' : List ℕ) → ((s.reads ≡ old.reads) ⊎ ReadsOnlyIfNoLine left old s.reads bs) → s'.reads ≡ s.reads → bs ≡ bs'
     → (s'.reads ≡ old.reads) ⊎ ReadsOnlyIfNoLine left old s'.reads bs'
-waits-same left old s s' bs bs' (inl e) same is = inl (same ∙ e)
-waits-same left old s s' bs bs' (inr w) same is = inr (let W : List ℕ → Type 0 = λ l. ReadsOnlyIfNoLine left old s'.reads l in let R : ℕ
-    → Type 0 = λ n. ReadsOnlyIfNoLine left old n bs in subst W is (subst R (sym same) w))
+waits-same left old s s' bs bs' h_s_is same is = grind arith
 
 pub call-takes : (left mid : Option (List ℕ)) (old s s' : ReaderModel) (bs : List ℕ) (results : List ParseResult) → ReadsLines left mid old s [] bs → ParsesHeldLines s s' results → s'.ended ≡ s.ended
     → s'.reads ≡ s.reads → ReadsLines left mid old s' results bs
@@ -217,18 +186,13 @@ gives-some (octet ∷ bs) ended noticed going = omega arith
 
 -- Only the result `Run Read` changes the count of failed reads.
 pub failures-kept : (count : ℕ) (next : Result (Option Document) ReadFault) → (next ≡ Err (Run Read) → ⊥) → failures_by count next ≡ count
-failures-kept count (Ok document) unread = refl
-failures-kept count (Err (Line line fault)) unread = refl
-failures-kept count (Err (Run Read)) unread = absurd (unread refl)
-failures-kept count (Err (Run Write)) unread = refl
-failures-kept count (Err (Run InputTooLong)) unread = refl
-failures-kept count (Err (Run Memory)) unread = refl
+failures-kept count next unread = grind arith
 
 -- If the end of input was reached before a call that leaves octets in the buffer, there were octets
 -- in the buffer before the call, too.
 held-before : (left mid : Option (List ℕ)) (old s : ReaderModel) (bs : List ℕ) (results : List ParseResult) → ReadsLines left mid old s results bs → old.ended ≡ true → 0 < length s.held
     → 0 < length old.held
-held-before left mid old s bs results h1 h2 h3 = grind (arith, nat_tests, common_steps)
+held-before left mid old s bs results h1 h2 h3 = grind (arith, common_steps)
 
 module _ (left mid : Option (List ℕ)) (old s s' : ReaderModel) (bs : List ℕ) (call : ReadsLines left mid old s [] bs) (waits : (s.reads ≡ old.reads) ⊎ ReadsOnlyIfNoLine left old s.reads bs)
     (ended : s'.ended ≡ s.ended) (reads : s'.reads ≡ s.reads) where
@@ -253,7 +217,7 @@ module _ (left mid : Option (List ℕ)) (old s s' : ReaderModel) (bs : List ℕ)
     keeps = keeps-same old s s' bs (call-keeps left mid old s [] bs call) went.2 ended;
     reads = (
       call.read,
-      omega (arith, call.few, reads),
+      omega (arith, call.few),
       λ e. held-before left mid old s bs [] call e (some-held s.held went.1),
       inr (went.3.mid, call-takes left mid old s went.3.mid bs [] call went.3.taken went.3.ended went.3.reads, went.3.next),
     );
@@ -301,7 +265,7 @@ end-proper s s' result so = tt
 -- No octets were read, and the end of input was not reached.
 open-call : (left left' : Option (List ℕ)) (s s' : ReaderModel) (results : List ParseResult) (bs : List ℕ) → bs ≡ [] → Consumes left left' bs → ParsesHeldLines s s' results → s.ended ≡ false
     → s'.ended ≡ false → s.reads ≤ s'.reads → ReadsLines left left' s s' results bs
-open-call left left' s s' results bs h1 h2 h3 h4 h5 h6 = grind (arith, nat_tests, common_steps)
+open-call left left' s s' results bs h1 h2 h3 h4 h5 h6 = grind (arith, common_steps)
 
 -- another read in the same call
 module _ (left mid left' : Option (List ℕ)) (old s s' : ReaderModel) (bs bs' : List ℕ) (call : ReadsLines left mid old s [] bs) (waits : (s.reads ≡ old.reads) ⊎ ReadsOnlyIfNoLine left old s.reads bs)
@@ -333,7 +297,7 @@ module _ (left mid left' : Option (List ℕ)) (old s s' : ReaderModel) (bs bs' :
   no-feed x feed unended (inr (ended, e, some)) = absurd (true≢false (sym ended ∙ unended))
 
   same-held : (x : ReaderModel) (feed : List ℕ) → bs' ≡ [] → feed ≡ [] → x.held ≡ (s.held ++ bs') ++ feed → x.held ≡ s.held
-  same-held x feed none nofeed is = is ∙ ap (λ (l : List ℕ). (s.held ++ bs') ++ l) nofeed ∙ append-nil (s.held ++ bs') ∙ ap (λ (l : List ℕ). s.held ++ l) none ∙ append-nil s.held
+  same-held x feed none nofeed is = simp (is, nofeed, append-nil, none)
 
   nothing : bs' ≡ [] → bs ≡ bs ++ bs'
   nothing none = sym (ap (λ (l : List ℕ). bs ++ l) none ∙ append-nil bs)
@@ -346,7 +310,7 @@ module _ (left mid left' : Option (List ℕ)) (old s s' : ReaderModel) (bs bs' :
   quiet-call : (x : ReaderModel) → bs' ≡ [] → Consumes mid left' bs' → x.at ≡ s.at → x.parsing ≡ s.parsing → x.held ≡ s.held → x.ended ≡ false → s.reads ≤ x.reads
       → ReadsLines left left' old x [] (bs ++ bs')
   quiet-call x none read at parsing held ended order =
-      call-then left mid left' old s x [] [] bs bs' call (open-call mid left' s x [] bs' none read (grind (arith, nat_tests, common_steps)) open' ended order)
+      call-then left mid left' old s x [] [] bs bs' call (open-call mid left' s x [] bs' none read (grind arith) open' ended order)
 
   pub fill-fault : (f : ReadFault) → s.reads ≤ old.reads + length bs → FillsBuffer mid left' s s' (Err f) bs' → ReturnsNextDocument left left' old s' (Err f)
   fill-fault (Run f) some (x, read, is, short) = let N : ReaderModel → Type 0 = λ n. ReturnsNextDocument left left' old n (Err (Run f)) in subst N (sym is) (by f read.fills.ends)
@@ -369,8 +333,8 @@ module _ (left mid left' : Option (List ℕ)) (old s s' : ReaderModel) (bs bs' :
           ends : (f : RunFault) → FillFails (s.reads ≡ 0) (text_input s s.held) (text_input x (s.held ++ bs')) f → ReturnsNextDocument left left' old (stopped x (Run f)) (Err (Run f))
           ends Read made = record {
             octets = bs ++ bs';
-            reads = quiet Read (omega (arith, made));
-            keeps = keeps Read (omega (arith, made));
+            reads = quiet Read (omega arith);
+            keeps = keeps Read (omega arith);
             waits = inr (waited x.reads made short read.few);
             each = λ e. cc;
             ends = (refl, still-open x unended held short);
@@ -381,7 +345,7 @@ module _ (left mid left' : Option (List ℕ)) (old s s' : ReaderModel) (bs bs' :
             reads = quiet InputTooLong (omega (arith, fails.0));
             keeps = keeps InputTooLong (omega (arith, fails.0));
             waits = same fails.0;
-            each = λ _. omega (arith, some, fails.0, length-append bs bs');
+            each = λ _. omega (arith, fails.0, length-append bs bs');
             ends = (refl, still-open x unended held short, fails.1);
           }
           ends Memory fails =
@@ -418,15 +382,12 @@ reported-at-end left left' s results bs call done = ap documents_of (sym (append
 
 pub reported-at-fault : (left left' : Option (List ℕ)) (s : ReaderModel) (results : List ParseResult) (bs : List ℕ) → ReadsLines left left' new_reader s results bs → HasNoWholeLine s
     → open_documents_of bs ≡ results
-reported-at-fault left left' s results bs call open' = ap open_documents_of (sym (append-nil bs)) ∙ call.goes.openly open'.0 [] ∙ ap (λ (l : List ParseResult). results ++ l) open'.1
-    ∙ append-nil results
+reported-at-fault left left' s results bs call open' = search (rules, append-nil)
 
 -- Without reads, no octets are requested. The octets that two parts of a call request add up, with
 -- at most 4,096 octets for each read.
 pub asks-nothing : (asked reads : ℕ) → AsksAtMost asked asked (4096 * (reads - reads))
-asks-nothing asked reads =
-    let nothing : 4096 * (reads - reads) ≡ 0 = omega arith in
-    rw nothing (omega (arith, counted-none asked))
+asks-nothing asked reads = omega arith
 
 asks-more : (a b c x y most : ℕ) → b ≤ max a (min (a + x) most) → c ≤ max b (min (b + y) most) → c ≤ max a (min (a + (x + y)) most)
 asks-more a b c x y most one two = omega arith
@@ -442,4 +403,4 @@ asks-then a b c before made made' after order more same one two =
 pub asks-exactly : (asked asked' reads n : ℕ) → asked' ≡ counted asked (reads * min 4096 n) → AsksAtMost asked asked' (4096 * reads)
 asks-exactly asked asked' reads n is =
     let few : reads * min 4096 n ≤ reads * 4096 = mul-le-mul_left reads (omega arith) in
-    omega (arith, is, few)
+    omega (arith, few)

@@ -1,5 +1,5 @@
 -- A dump text is read as the document of its message, and as nothing else.
-use Rattle.std.proofs.Common.{zero, suc, ◌≡◌, ◌∙◌, ℕ, ◌+◌, ◌≤◌, ◌==◌, ◌&&◌, nat_le, Bool, true, false, List, [], ◌∷◌, ◌++◌, length, map, refl, sym, ap, arith, append_assoc, append-nil, length-append, ◌<◌, codes, Option, Some, None, slice_index, is_some, unwrap_or}
+use Rattle.std.proofs.Common.{zero, suc, ◌≡◌, ◌∙◌, ℕ, ◌+◌, ◌≤◌, ◌==◌, ◌&&◌, nat_le, Bool, true, false, List, [], ◌∷◌, ◌++◌, length, map, refl, sym, ap, arith, append_assoc, append-nil, length-append, ◌<◌, codes, Option, Some, None, slice_index, is_some, unwrap_or, rules}
 use Rattle.std.specs.List.{concat, AllByRecursion}
 use Rattle.std.proofs.lemmas.Bool.Decides.{nat_tests}
 use Rattle.std.proofs.lemmas.List.{length-map}
@@ -20,7 +20,7 @@ use Rattle.std.specs.Int.{from_bool}
 
 -- The line is not too long, so `read_line` returns its meaning.
 said-is : (line : List ℕ) (meaning : Line) → IsLineOf line meaning → read_line line ≡ meaning
-said-is line meaning h1 = grind (arith, nat_tests, common_steps)
+said-is line meaning h1 = grind arith
 
 -- Reading continues after a line, or the line completes a document.
 pub goes : (at : ℕ) (parsing next : Parsing) (line : List ℕ) (meaning : Line) (more : List (List ℕ)) → IsLineOf line meaning → line_step at parsing meaning ≡ (Continues next.0, next.1)
@@ -43,10 +43,10 @@ InRange edition key [] = Unit {0}
 InRange edition key (value ∷ more) = (in_range edition key value ≡ true) × (value < 65536) × InRange edition (key + 1) more
 
 same-key : (k : ℕ) (d : Document) → k ≡ length d.header → (k == length d.header) ≡ true
-same-key k d e = grind (arith, nat_tests)
+same-key k d e = grind arith
 
 not-last : (k : ℕ) → k < 19 → (k == 19) ≡ false
-not-last k h = grind (arith, nat_tests)
+not-last k h = grind arith
 
 -- The first value, which is the edition, stays the same if more values are appended.
 first-stays : (xs ys : List ℕ) → 0 < length xs → slice_index (xs ++ ys) 0 ≡ slice_index xs 0
@@ -54,22 +54,23 @@ first-stays [] ys some = absurd (omega (arith, some))
 first-stays (x ∷ xs) ys some = refl
 
 ranged : (edition k value : ℕ) (d : Document) → (header_in d).head.edition ≡ edition → in_range edition k value ≡ true → in_range (header_in d).head.edition k value ≡ true
-ranged edition k value d same range = ap (λ (n : ℕ). in_range n k value) same ∙ range
+ranged edition k value d same range = rw (same, range)
 
 run-on : (edition k : ℕ) (value : ℕ) (values : List ℕ) (d : Document) (at : ℕ) (more : List (List ℕ)) → 0 < k → k + length values ≡ 19 → k ≡ length d.header → (header_in d).head.edition ≡ edition
     → InRange edition k (value ∷ values)
     → parse_lines at (Heading, d) (header_lines k (value ∷ values) ++ more) ≡ parse_lines (at + 1 + length values) (BeforeSubsets group.Local1, with_header d (d.header ++ value ∷ values)) more
 unfolding header_lines line_step
 run-on edition k value [] d at more suffix count is same (range, small, rest) =
-    let last : k ≡ 19 = omega (arith, count) in
-    let is_last : (k == 19) ≡ true = grind (arith, nat_tests, last) in
-    goes at (Heading, d) (BeforeSubsets group.Local1, with_value d value) _ (Header k value) more (header-line k value (omega (arith, last)) small)
-    (rw (same-key k d is, ranged edition k value d same range, is_last) refl)
-    ∙ ap (λ n. parse_lines n (BeforeSubsets group.Local1, with_value d value) more) (omega arith)
+    let is_last : (k == 19) ≡ true = grind (arith, nat_tests) in
+    grind (
+      arith,
+      goes at (Heading, d) (BeforeSubsets group.Local1, with_value d value) _ (Header k value) more (header-line k value (omega arith) small)
+          (rw (same-key k d is, ranged edition k value d same range, is_last) refl),
+    )
 run-on edition k value (v ∷ values) d at more suffix count is same (range, small, rest) =
-    goes at (Heading, d) (Heading, with_value d value) _ (Header k value) (header_lines (k + 1) (v ∷ values) ++ more) (header-line k value (omega (arith, count)) small)
-    (rw (same-key k d is, ranged edition k value d same range, not-last k (omega (arith, count))) refl)
-    ∙ run-on edition (k + 1) v values (with_value d value) (at + 1) more (omega arith) (omega (arith, count)) (omega (arith, length-append d.header (value ∷ []), is))
+    goes at (Heading, d) (Heading, with_value d value) _ (Header k value) (header_lines (k + 1) (v ∷ values) ++ more) (header-line k value (omega arith) small)
+    (rw (same-key k d is, ranged edition k value d same range, not-last k (omega arith)) refl)
+    ∙ run-on edition (k + 1) v values (with_value d value) (at + 1) more (omega arith) (omega arith) (omega (arith, length-append d.header (value ∷ [])))
     (first-stays d.header (value ∷ []) (omega (arith, suffix, is)) ∙ same) rest
     ∙ ap (λ (t : List ℕ). parse_lines (at + 1 + 1 + length values) (BeforeSubsets group.Local1, with_header d t) more) (append_assoc d.header (value ∷ []) (v ∷ values))
     ∙ ap (λ n. parse_lines n (BeforeSubsets group.Local1, with_header d (d.header ++ value ∷ v ∷ values)) more) (omega arith)
@@ -84,21 +85,21 @@ header-run edition v values line at more count (range, small, rest) =
     let first : in_range 0 0 edition ≡ true = any-edition 0 edition edition ∙ range in
     goes at (Heading, d) (Heading, with_value d edition) _ (Header 0 edition) (header_lines 1 (v ∷ values) ++ more) (header-line 0 edition (omega arith) small) (rw first refl)
     ∙ run-on edition 1 v values (with_value d edition) (at + 1) more (omega arith) (omega (arith, count)) refl refl rest
-    ∙ ap (λ n. parse_lines n (BeforeSubsets group.Local1, with_header d (edition ∷ v ∷ values)) more) (omega (arith, count))
+    ∙ ap (λ n. parse_lines n (BeforeSubsets group.Local1, with_header d (edition ∷ v ∷ values)) more) (omega arith)
 
 -- ---- The `local1`, `section2` and `descriptors` lines.
 
 pub local1-run : (runs : List (List ℕ)) (d : Document) (at : ℕ) (more : List (List ℕ)) → AllByRecursion (IsRun IsOctet 32) runs
     → parse_lines at (BeforeSubsets group.Local1, d) (map local1_line runs ++ more) ≡ parse_lines (at + length runs) (BeforeSubsets group.Local1, with_local1 d (concat runs)) more
 unfolding line_step
-local1-run [] d at more all =
-    ap (λ (t : List ℕ). parse_lines at (BeforeSubsets group.Local1, record d { local1 = t }) more) (sym (append-nil d.local1))
-    ∙ ap (λ n. parse_lines n (BeforeSubsets group.Local1, with_local1 d []) more) (omega arith)
-local1-run (run ∷ runs) d at more (here, all) =
-    goes at (BeforeSubsets group.Local1, d) (BeforeSubsets group.Local1, with_local1 d run) _ (Local1 run) (map local1_line runs ++ more) (local1-line run here.all here.some here.few) refl
-    ∙ local1-run runs (with_local1 d run) (at + 1) more all
-    ∙ ap (λ (t : List ℕ). parse_lines (at + 1 + length runs) (BeforeSubsets group.Local1, record d { local1 = t }) more) (append_assoc d.local1 run (concat runs))
-    ∙ ap (λ n. parse_lines n (BeforeSubsets group.Local1, with_local1 d (concat (run ∷ runs))) more) (omega arith)
+local1-run [] d at more all = grind (arith, common_steps, append-nil, with_local1)
+local1-run (run ∷ runs) d at more (here, all) = grind (
+  arith,
+  common_steps,
+  goes at (BeforeSubsets group.Local1, d) (BeforeSubsets group.Local1, with_local1 d run) _ (Local1 run) (map local1_line runs ++ more) (local1-line run here.all here.some here.few) refl,
+  local1-run runs (with_local1 d run) (at + 1) more all,
+  append_assoc d.local1 run (concat runs),
+)
 
 -- the group of lines that was read last: `next`, if there were any runs to read
 pub written : (part : LineGroup) → List (List ℕ) → (next : LineGroup) → LineGroup
@@ -119,9 +120,7 @@ pub section2-run : (runs : List (List ℕ)) (part : LineGroup) (d : Document) (a
     → AllByRecursion (IsRun IsOctet 32) runs
     → parse_lines at (BeforeSubsets part, d) (map section2_line runs ++ more) ≡ parse_lines (at + length runs) (BeforeSubsets (written part runs group.Section2), with_section2 d (concat runs)) more
 unfolding line_step written
-section2-run [] part d at more early optional all =
-    ap (λ (t : List ℕ). parse_lines at (BeforeSubsets part, record d { section2 = t }) more) (sym (append-nil d.section2))
-    ∙ ap (λ n. parse_lines n (BeforeSubsets part, with_section2 d []) more) (omega arith)
+section2-run [] part d at more early optional all = grind (arith, common_steps, append-nil d.section2)
 section2-run (run ∷ runs) part d at more early optional (here, all) =
     let there : (header_in d).optional ≡ true = grind (arith, nat_tests, optional (omega arith)) in
     goes at (BeforeSubsets part, d) (BeforeSubsets group.Section2, with_section2 d run) _ (Section2 run) (map section2_line runs ++ more) (section2-line run here.all here.some here.few)
@@ -135,9 +134,7 @@ pub descriptors-run : (runs : List (List ℕ)) (part : LineGroup) (d : Document)
     → parse_lines at (BeforeSubsets part, d) (map descriptors_line runs ++ more)
     ≡ parse_lines (at + length runs) (BeforeSubsets (written part runs group.Descriptors), with_descriptors d (concat runs)) more
 unfolding line_step written
-descriptors-run [] part d at more all =
-    ap (λ (t : List ℕ). parse_lines at (BeforeSubsets part, record d { descriptors = t }) more) (sym (append-nil d.descriptors))
-    ∙ ap (λ n. parse_lines n (BeforeSubsets part, with_descriptors d []) more) (omega arith)
+descriptors-run [] part d at more all = grind (arith, common_steps, append-nil d.descriptors)
 descriptors-run (run ∷ runs) part d at more (here, all) =
     goes at (BeforeSubsets part, d) (BeforeSubsets group.Descriptors, with_descriptors d run) _ (Descriptors run) (map descriptors_line runs ++ more)
     (descriptors-line run here.all here.some here.few) refl
@@ -159,10 +156,13 @@ items-run [] subset d at more all =
     ∙ ap (λ n. parse_lines n (Filling subset, with_entries d []) more) (omega arith)
 items-run (item ∷ items) subset d at more (here, all) =
     let one : DraftEntry = Holds (draft at item.fxy (dump_value_of item.value)) in
-    goes at (Filling subset, d) (Filling subset, with_entry d one) _ (ItemLine item.fxy (dump_value_of item.value)) (map item_text items ++ more) (item-line item here) refl
-    ∙ items-run items subset (with_entry d one) (at + 1) more all
-    ∙ ap (λ (t : List DraftEntry). parse_lines (at + 1 + length items) (Filling subset, record d { entries = t }) more) (append_assoc d.entries (one ∷ []) (item_entries (at + 1) items))
-    ∙ ap (λ n. parse_lines n (Filling subset, with_entries d (item_entries at (item ∷ items))) more) (omega arith)
+    grind (
+      arith,
+      goes at (Filling subset, d) (Filling subset, with_entry d one) _ (ItemLine item.fxy (dump_value_of item.value)) (map item_text items ++ more) (item-line item here)
+          refl,
+      items-run items subset (with_entry d one) (at + 1) more all,
+      append_assoc d.entries (one ∷ []) (item_entries (at + 1) items),
+    )
 
 subset-lines-count : (n : ℕ) (items : List View) (subsets : List (List View)) → length (subset_lines n (items ∷ subsets)) ≡ 1 + length items + length (subset_lines (n + 1) subsets)
 unfolding subset_lines
@@ -173,10 +173,11 @@ subset-run : (items : List View) (subset : ℕ) (d : Document) (at : ℕ) (parsi
     → line_step at parsing (Begins subset) ≡ (Continues (Filling subset), d)
     → parse_lines at parsing ((subset_line subset ∷ (map item_text items ++ tail)) ++ more)
     ≡ parse_lines (at + 1 + length items) (Filling subset, with_entries d (item_entries (at + 1) items)) (tail ++ more)
-subset-run items subset d at parsing tail more few all begins =
-    goes at parsing (Filling subset, d) _ (Begins subset) ((map item_text items ++ tail) ++ more) (subset-line subset few) begins
-    ∙ ap (parse_lines (at + 1) (Filling subset, d)) (append_assoc (map item_text items) tail more)
-    ∙ items-run items subset d (at + 1) (tail ++ more) all
+subset-run items subset d at parsing tail more few all begins = cc (
+  goes at parsing (Filling subset, d) _ (Begins subset) ((map item_text items ++ tail) ++ more) (subset-line subset few) begins,
+  append_assoc (map item_text items) tail more,
+  items-run items subset d (at + 1) (tail ++ more) all,
+)
 
 subsets-run : (subsets : List (List View)) (n : ℕ) (d : Document) (at : ℕ) (more : List (List ℕ)) → n + length subsets ≡ (header_in d).subsets → (header_in d).subsets < 65536
     → AllByRecursion (λ items. AllByRecursion IsItem items) subsets
@@ -184,12 +185,12 @@ subsets-run : (subsets : List (List View)) (n : ℕ) (d : Document) (at : ℕ) (
     ≡ Complete (with_entries d (Ends at ∷ subset_entries at subsets)) ∷ parse_lines (at + length (subset_lines (n + 1) subsets) + 1) between more
 unfolding line_step subset_entries subset_lines
 subsets-run [] n d at more stated few all =
-    let closed : (n == (header_in d).subsets) ≡ true = grind (arith, nat_tests, stated) in
+    let closed : (n == (header_in d).subsets) ≡ true = grind arith in
     gives at (Filling n, d) (with_entry d (Ends at)) _ Closes more end-line (rw closed refl)
     ∙ ap (λ k. Complete (with_entry d (Ends at)) ∷ parse_lines k between more) (omega arith)
 subsets-run (items ∷ subsets) n d at more stated few (here, all) =
-    let next : (n + 1 == n + 1) ≡ true = grind (arith, nat_tests) in
-    let allowed : nat_le (n + 1) (header_in d).subsets ≡ true = grind (arith, nat_tests, stated) in
+    let next : (n + 1 == n + 1) ≡ true = grind arith in
+    let allowed : nat_le (n + 1) (header_in d).subsets ≡ true = grind arith in
     let d' = with_entry d (Ends at) in
     let own = item_entries (at + 1) items in
     let later = subset_entries (at + 1 + length items) subsets in
@@ -208,17 +209,15 @@ pub subsets-written : (subsets : List (List View)) (part : LineGroup) (d : Docum
     ≡ Complete (with_entries d (subset_entries at subsets)) ∷ parse_lines (at + length (subset_lines 1 subsets) + 1) between more
 unfolding line_step subset_entries subset_lines
 subsets-written [] part d at more none stated few all =
-    let closed : (0 == (header_in d).subsets) ≡ true = grind (arith, nat_tests, stated) in
-    gives at (BeforeSubsets part, d) d _ Closes more end-line (rw closed refl)
-    ∙ ap (λ (t : List DraftEntry). Complete (record d { entries = t }) ∷ parse_lines (at + 1) between more) (sym (append-nil d.entries))
-    ∙ ap (λ k. Complete (with_entries d []) ∷ parse_lines k between more) (omega arith)
+    let closed : (0 == (header_in d).subsets) ≡ true = grind arith in
+    grind (arith, gives at (BeforeSubsets part, d) d _ Closes more end-line (rw closed refl))
 subsets-written (items ∷ subsets) part d at more none stated few (here, all) =
-    let allowed : nat_le 1 (header_in d).subsets ≡ true = grind (arith, nat_tests, stated) in
+    let allowed : nat_le 1 (header_in d).subsets ≡ true = grind arith in
     let own = item_entries (at + 1) items in
     let later = subset_entries (at + 1 + length items) subsets in
     let tail = subset_lines 2 subsets in
     subset-run items 1 d at (BeforeSubsets part, d) tail (codes "end" ∷ more) (omega arith) here (rw allowed refl)
-    ∙ subsets-run subsets 1 (with_entries d own) (at + 1 + length items) more (omega (arith, stated)) few all
+    ∙ subsets-run subsets 1 (with_entries d own) (at + 1 + length items) more (omega arith) few all
     ∙ ap (λ (t : List DraftEntry). Complete (record d { entries = t }) ∷ parse_lines (at + 1 + length items + length tail + 1) between more)
     (append_assoc d.entries own (Ends (at + 1 + length items) ∷ later))
     ∙ ap (λ k. Complete (with_entries d (subset_entries at (items ∷ subsets))) ∷ parse_lines k between more) (omega (arith, subset-lines-count 1 items subsets))
@@ -226,7 +225,7 @@ subsets-written (items ∷ subsets) part d at more none stated few (here, all) =
 -- ---- The header values are in range.
 
 up_to : (least most v : ℕ) → least ≤ v → v ≤ most → (nat_le least v && nat_le v most) ≡ true
-up_to least most v h k = grind (arith, nat_tests)
+up_to least most v h k = grind arith
 
 bit-few : (on : Bool) → from_bool on ≤ 1
 bit-few true = omega arith
@@ -234,11 +233,11 @@ bit-few false = omega arith
 
 all-few : (xs : List ℕ) (i : ℕ) → list_all (λ n. nat_le n 65535) xs ≡ true → slice_index xs i ≤ 65535
 all-few [] i all = omega arith
-all-few (x ∷ xs) zero all = grind (arith, nat_tests, common_steps)
-all-few (x ∷ xs) (suc i) all = all-few xs i (grind (arith, common_steps))
+all-few (x ∷ xs) zero all = grind arith
+all-few (x ∷ xs) (suc i) all = all-few xs i (grind arith)
 
 edition-few : (edition : ℕ) → is_edition edition ≡ true → ((nat_le 3 edition && nat_le edition 4) ≡ true) × (edition < 65536)
-edition-few edition h1 = grind (arith, nat_tests, common_steps)
+edition-few edition h1 = grind arith
 
 header-fits : (s : Sections) → IsFitting s.head → s.subsets < 65536 → InRange s.head.edition 0 (header_of s)
 unfolding leasts mosts
@@ -250,7 +249,7 @@ header-fits s h few =
       up_to 0 (slice_index ms i) (slice_index vs i) (omega arith) (h.fits i),
       omega (arith, h.fits i, by-third (λ l. slice_index l i ≤ 65535) s.head.edition (all-few (greatest_values 3) i refl) (all-few (greatest_values 4) i refl)),
     ) in
-    let flag : (v : ℕ) → v ≤ 1 → (((nat_le 0 v && nat_le v 1) ≡ true) × (v < 65536)) = λ v b. (up_to 0 1 v (omega arith) (omega arith), omega arith) in
+    let flag : (v : ℕ) → v ≤ 1 → (((nat_le 0 v && nat_le v 1) ≡ true) × (v < 65536)) = search (rules, up_to) in
     let edition = edition-few s.head.edition h.edition in (
       edition.0,
       edition.1,
@@ -351,7 +350,8 @@ all-lines-run : (s : Sections) (subsets : List (List View)) (at : ℕ) (more : L
     let b = runs_of 32 (unwrap_or s.section2 []) in
     let c = runs_of 8 s.descriptors in
     let e = at + 1 + 1 + 19 + length a + length b + length c in
-    parse_lines at between (codes "message" ∷ (header_lines 0 (header_of s) ++ (map local1_line a ++ (map section2_line b ++ (map descriptors_line c ++ (subset_lines 1 subsets ++ codes "end" ∷ more))))))
+    parse_lines at between (codes "message" ∷ (header_lines 0 (header_of s)
+    ++ (map local1_line a ++ (map section2_line b ++ (map descriptors_line c ++ (subset_lines 1 subsets ++ codes "end" ∷ more))))))
     ≡ Complete (document_with at (header_of s) (concat a) (concat b) (concat c) subsets e) ∷ parse_lines (e + length (subset_lines 1 subsets) + 1) between more
 unfolding line_step header-tail
 all-lines-run s subsets at more given =
@@ -381,10 +381,12 @@ header-lines-count k [] = refl
 header-lines-count k (v ∷ values) = omega (arith, header-lines-count (k + 1) values)
 
 dump-lines-count : (s : Sections) (subsets : List (List View)) → length (dump_lines s subsets) ≡ lines_before s + length (subset_lines 1 subsets) + 1
-dump-lines-count s subsets = grind (arith, nat_tests, common_steps, header-lines-count, length-append, length-map)
+dump-lines-count s subsets = grind (arith, common_steps, header-lines-count)
 
 dump-lines-more : (s : Sections) (subsets : List (List View)) (more : List (List ℕ)) →
-    dump_lines s subsets ++ more ≡ codes "message" ∷ (header_lines 0 (header_of s) ++ (map local1_line (runs_of 32 s.local1) ++ (map section2_line (runs_of 32 (unwrap_or s.section2 [])) ++ (map descriptors_line (runs_of 8 s.descriptors) ++ (subset_lines 1 subsets ++ codes "end" ∷ more)))))
+    dump_lines s subsets ++ more ≡ codes "message" ∷ (header_lines 0 (header_of s)
+    ++ (map local1_line (runs_of 32 s.local1) ++ (map section2_line (runs_of 32 (unwrap_or s.section2 []))
+    ++ (map descriptors_line (runs_of 8 s.descriptors) ++ (subset_lines 1 subsets ++ codes "end" ∷ more)))))
 dump-lines-more s subsets more = grind (arith, nat_tests, common_steps)
 
 pub dump-spells : (s : Sections) (subsets : List (List View)) (at : ℕ) (more : List (List ℕ)) → IsDumpable s subsets
@@ -414,7 +416,7 @@ above-both (line ∷ a) b (here, x) y = (here, above-both a b x y)
 above-header : (edition k : ℕ) (values : List ℕ) → k + length values ≤ 20 → InRange edition k values → AllByRecursion IsAbove (header_lines k values)
 unfolding header_lines
 above-header e k [] few fits = tt
-above-header e k (v ∷ values) few (range, small, fits) = ((header-line k v (omega (arith, few)) small).clean, above-header e (k + 1) values (omega (arith, few)) fits)
+above-header e k (v ∷ values) few (range, small, fits) = ((header-line k v (omega arith) small).clean, above-header e (k + 1) values (omega arith) fits)
 
 above-runs : (P : ℕ → Type 0) (most : ℕ) (line : List ℕ → List ℕ) (meaning : List ℕ → Line)
     (is : (xs : List ℕ) → AllByRecursion P xs → 0 < length xs → length xs ≤ most → IsLineOf (line xs) (meaning xs))
@@ -430,7 +432,7 @@ above-subsets : (n : ℕ) (subsets : List (List View)) → n + length subsets �
 unfolding subset_lines
 above-subsets n [] few all = tt
 above-subsets n (items ∷ subsets) few (here, all) =
-    ((subset-line n (omega (arith, few))).clean, above-both (map item_text items) (subset_lines (n + 1) subsets) (above-items items here) (above-subsets (n + 1) subsets (omega (arith, few)) all))
+    ((subset-line n (omega arith)).clean, above-both (map item_text items) (subset_lines (n + 1) subsets) (above-items items here) (above-subsets (n + 1) subsets (omega arith) all))
 
 above-dump : (s : Sections) (subsets : List (List View)) → IsDumpable s subsets → AllByRecursion IsAbove (dump_lines s subsets)
 above-dump s subsets given =
@@ -441,10 +443,9 @@ above-dump s subsets given =
     let D = subset_lines 1 subsets ++ codes "end" ∷ [] in
     let C = map descriptors_line c in
     let B = map section2_line b ++ C in
-    let A = map local1_line a ++ B in
     above-both (head_lines s) D (
       message-line.clean,
-      above-both (header_lines 0 (header_of s)) A (above-header s.head.edition 0 (header_of s) (omega arith) (header-fits s given.head given.few))
+      above-both (header_lines 0 (header_of s)) (map local1_line a ++ B) (above-header s.head.edition 0 (header_of s) (omega arith) (header-fits s given.head given.few))
           (above-both (map local1_line a) B (above-runs IsOctet 32 local1_line Local1 local1-line a (runs-after IsOctet 0 31 s.local1 given.local1))
           (above-both (map section2_line b) C (above-runs IsOctet 32 section2_line Section2 section2-line b (runs-after IsOctet 0 31 (unwrap_or s.section2 []) given.section2))
           (above-runs IsDescriptorWord 8 descriptors_line Descriptors descriptors-line c (runs-after IsDescriptorWord 0 7 s.descriptors given.descriptors)))),
@@ -454,7 +455,7 @@ above-dump s subsets given =
 -- A dump text is read as the document of its message, and reading continues between documents.
 pub text-spells : (s : Sections) (subsets : List (List View)) (at : ℕ) (t : List ℕ) → IsDumpable s subsets
     → parse_lines at between (lines_of (dump_text_of s subsets ++ t)) ≡ Complete (document_of at s subsets) ∷ parse_lines (at + length (dump_lines s subsets)) between (lines_of t)
-text-spells s subsets at t given = ap (parse_lines at between) (lines-back (dump_lines s subsets) t (above-dump s subsets given)) ∙ dump-spells s subsets at (lines_of t) given
+text-spells s subsets at t given = cc (lines-back (dump_lines s subsets) t (above-dump s subsets given), dump-spells s subsets at (lines_of t) given)
 
 pub one-document : (s : Sections) (subsets : List (List View)) → IsDumpable s subsets → documents_of (dump_text_of s subsets) ≡ Complete (document_of 1 s subsets) ∷ []
 unfolding parse_lines lines_of split_of

@@ -1,20 +1,19 @@
 -- The bits that a walk over the items of a document writes, and the turns that it takes.
-use Rattle.std.proofs.Common.{inl, inr, ◌≡◌, ◌+◌, ℕ, suc, Bool, List, [], ◌∷◌, ◌++◌, length, length-append, Option, Some, None, Result, Ok, Err, refl, sym, ◌∙◌, ap, subst, arith, ◌<◌, get_or, true, false, ◌⊎◌, ◌≤◌, zero, ◌-◌, ◌*◌, append_assoc, if◌then◌else◌}
+use Rattle.std.proofs.Common.{inl, inr, ◌≡◌, ◌+◌, ℕ, suc, Bool, List, [], ◌∷◌, ◌++◌, length, length-append, Option, Some, None, Result, Ok, Err, refl, sym, ◌∙◌, ap, subst, arith, ◌<◌, get_or, true, false, ◌⊎◌, ◌≤◌, zero, ◌-◌, ◌*◌, append_assoc, if◌then◌else◌, rules}
 use Rattle.bufr_walk.specs.declared.spec.Taken.{Taken}
 use Rattle.bufr_walk.specs.Prelude.{FieldSpec, octets_in, Course, Next, at_end, counts_of, Turns, finish, open_end, group, pass_end, factor_turn, element_turn, operator_turn, Rest, passes, unroll, TakenField, Takes, Item, answers_in, ticked, answers_of, oks, StopsWalk, Walked, element_spec, factor_spec, inserted_spec, OperatorModel, after_operator, after_field, CountedCourse, uncounted, counted_item, turns_ahead, turns_asked, turns_operated}
-use Rattle.bufr_fill.specs.Prelude.{IfDraftFault, at_line, DraftEntry, Holds, Ends, Subset, subset, prepend_to_subset, subsets_of, WrittenItem, Filler, fill_pass, bits_written, Writing, pass_writing, writing_then, bits_of_writing, WritesDrafts, filling, writing_of, plain_filler, plain_writing, packed_writing, cells_at, rows, most_items, AreOctets, PlainOutModel, PlainFills, IsFaultNext, after_end, line_at, items_left, end_left, ends_of, PackedOutModel, new_packed_out, PackedFills, IsFaultHere, all_at_end, first_line_at, rows_left}
+use Rattle.bufr_fill.specs.Prelude.{IfDraftFault, at_line, DraftEntry, Holds, Ends, Subset, subset, subsets_of, WrittenItem, Filler, fill_pass, bits_written, Writing, pass_writing, writing_then, bits_of_writing, WritesDrafts, filling, writing_of, plain_filler, plain_writing, cells_at, rows, most_items, AreOctets, PlainOutModel, PlainFills, IsFaultNext, after_end, line_at, items_left, end_left, ends_of, PackedOutModel, new_packed_out, PackedFills, IsFaultHere, all_at_end, first_line_at, rows_left}
 use Rattle.bufr_fill.specs.declared.fault.DraftFault.{DraftFault}
 use Rattle.bufr_fill.proofs.FillSteps.{plain_written}
-use Rattle.bufr_fill.proofs.WalkLemmas.{walk_ends, left_after, walk_of_items, stops_at}
-use Rattle.bufr_text.specs.Prelude.{map_err, document_fault, octets_of_bits, message_of, stop_fault, AreOctetsOf, IsData, IsNoData, data_bits, DocumentFault}
+use Rattle.bufr_fill.proofs.WalkLemmas.{left_after, walk_of_items, stops_at}
+use Rattle.bufr_text.specs.Prelude.{document_fault, octets_of_bits, message_of, stop_fault, AreOctetsOf, IsData, IsNoData, data_bits, DocumentFault}
 use Rattle.bufr_bits.specs.Prelude.{padding, bits_of}
 use Rattle.bufr_fill.proofs.FieldLemmas.{octets_again}
 use Rattle.bufr_frame.specs.declared.section1.Head.{Head}
 use Rattle.bufr_frame.specs.Prelude.{MessageParts, message_octets, message_size, max_octets}
-use Rattle.std.proofs.lemmas.Bool.Decides.{nat_tests}
 use Rattle.bufr_tables.specs.Prelude.{Row, Tree, bare, element, operator, fixed, delayed, is_inserted_text}
 use Rattle.bufr_walk.specs.declared.spec.TurnRefusal.{TurnRefusal}
-use Rattle.std.proofs.lemmas.List.{append-nil, map-append}
+use Rattle.std.proofs.lemmas.List.{map-append}
 use Rattle.bufr_walk.specs.declared.walker.WalkStop.{WalkStop}
 use Rattle.bufr_walk.specs.Pass.{EndsPass}
 use Rattle.bufr_walk.proofs.PlainReading.{ticked_more}
@@ -24,7 +23,6 @@ use Rattle.bufr_fill.specs.declared.fault.DraftFault.TheVariants as draft_fault
 use Rattle.bufr_text.specs.declared.fault.DocumentFault.TheVariants as document
 use Rattle.bufr_walk.specs.declared.spec.Taken.TheVariants as taken
 use Rattle.std.proofs.lemmas.Grind.{common_steps, flat_map-append}
-use Rattle.std.specs.Option.{option_map_or}
 
 -- Octets that contain the data bits are the octets that the definition specifies.
 pub octets_are_bits : (xs : List ℕ) (bits : List Bool) → ((k : ℕ) → get_or xs k 0 < 256) → AreOctetsOf xs bits → xs ≡ octets_of_bits bits
@@ -38,7 +36,7 @@ octets_are_bits xs bits small h =
 -- A message is built if it is not too long.
 pub message-made : (line : ℕ) (head : Head) (parts : MessageParts) (octets : List ℕ) → (max_octets < message_size head.edition parts → ⊥) → octets ≡ message_octets head parts
     → message_of line head parts ≡ Ok octets
-message-made line head parts octets h1 h2 = grind (arith, nat_tests, common_steps)
+message-made line head parts octets h1 h2 = grind arith
 
 -- ---- A walk with more answers takes at least as many turns.
 
@@ -76,7 +74,7 @@ unroll_extends (delayed fxy body t) rest g (n ∷ counts) more = (
 
 -- Whatever the next field is, it takes a turn.
 asked_some : (r : Result FieldSpec TurnRefusal) (go : Taken → List Taken → ℕ) (results : List Taken) → 1 ≤ turns_asked r go results
-asked_some r go results = grind (arith, nat_tests, common_steps)
+asked_some r go results = grind arith
 
 operated_some : (r : Result OperatorModel TurnRefusal) (go : OperatorModel → ℕ) → 1 ≤ turns_operated r go
 operated_some (Err why) go = omega arith
@@ -87,8 +85,8 @@ ahead_some table finish s results = omega arith
 ahead_some table open_end s results = omega arith
 ahead_some table (group t) s results = omega arith
 ahead_some table (pass_end t) s results = omega arith
-ahead_some table (factor_turn fxy t) s results = asked_some (factor_spec table s fxy) (λ x more. turns_ahead table t (after_field s fxy x) more) results
-ahead_some table (element_turn fxy t) s results = asked_some (element_spec table s fxy) (λ x more. turns_ahead table t (after_field s fxy x) more) results
+ahead_some table (factor_turn fxy t) s results = omega (arith, asked_some)
+ahead_some table (element_turn fxy t) s results = omega (arith, asked_some)
 ahead_some table (operator_turn fxy t) s results = by (is_inserted_text fxy)
   where
     by : (b : Bool) → 1 ≤ (if b then turns_asked (inserted_spec s fxy) (λ x more. turns_ahead table t (after_field s fxy x) more) results else turns_operated (after_operator s fxy)
@@ -98,19 +96,17 @@ ahead_some table (operator_turn fxy t) s results = by (is_inserted_text fxy)
 
 asked_grows : (r : Result FieldSpec TurnRefusal) (go go' : Taken → List Taken → ℕ) (results more : List Taken) → ((t : Taken) (l : List Taken) → go t l ≤ go' t (l ++ more))
     → turns_asked r go results ≤ turns_asked r go' (results ++ more)
-asked_grows r go go' results more h1 = grind (arith, nat_tests, common_steps)
+asked_grows r go go' results more h1 = grind arith
 
 operated_grows : (r : Result OperatorModel TurnRefusal) (go go' : OperatorModel → ℕ) → ((s : OperatorModel) → go s ≤ go' s) → turns_operated r go ≤ turns_operated r go'
 operated_grows (Err why) go go' g = omega arith
-operated_grows (Ok s) go go' g = omega (arith, g s)
+operated_grows (Ok s) go go' g = omega arith
 
 ahead_grows : (table : List Row) (u u' : Turns) (s : OperatorModel) (results more : List Taken) → Extends u u' → turns_ahead table u s results ≤ turns_ahead table u' s (results ++ more)
-ahead_grows table finish u' s results more h = subst (λ x. 1 ≤ turns_ahead table x s (results ++ more)) (sym h) (omega arith)
+ahead_grows table finish u' s results more h = grind arith
 ahead_grows table open_end u' s results more h = ahead_some table u' s (results ++ more)
-ahead_grows table (group t) u' s results more h =
-    subst (λ x. turns_ahead table (group t) s results ≤ turns_ahead table x s (results ++ more)) (sym h.1) (omega (arith, ahead_grows table t h.0 s results more h.2))
-ahead_grows table (pass_end t) u' s results more h =
-    subst (λ x. turns_ahead table (pass_end t) s results ≤ turns_ahead table x s (results ++ more)) (sym h.1) (omega (arith, ahead_grows table t h.0 s results more h.2))
+ahead_grows table (group t) u' s results more h = grind (arith, ahead_grows table t h.0 s results more h.2)
+ahead_grows table (pass_end t) u' s results more h = grind (arith, ahead_grows table t h.0 s results more h.2)
 ahead_grows table (factor_turn fxy t) u' s results more h =
     subst (λ x. turns_ahead table (factor_turn fxy t) s results ≤ turns_ahead table x s (results ++ more)) (sym h.1)
     (asked_grows (factor_spec table s fxy) (λ x l. turns_ahead table t (after_field s fxy x) l) (λ x l. turns_ahead table h.0 (after_field s fxy x) l) results more
@@ -134,7 +130,7 @@ ahead_grows table (operator_turn fxy t) u' s results more h =
 counts_append : (results more : List Taken) → counts_of (results ++ more) ≡ counts_of results ++ counts_of more
 counts_append [] more = refl
 counts_append (taken.Plain ∷ results) more = counts_append results more
-counts_append (taken.Count n ∷ results) more = ap (λ c. n ∷ c) (counts_append results more)
+counts_append (taken.Count n ∷ results) more = cc (counts_append results more)
 counts_append (taken.Reference r ∷ results) more = counts_append results more
 
 -- With more answers, there are at least as many turns.
@@ -142,12 +138,12 @@ abbrev pub AddsTurns : CountedCourse → Type 0
 AddsTurns course = (results more : List Taken) → (course results).turns ≤ (course (results ++ more)).turns
 
 pub template_adds : (table : List Row) (template : Tree) → AddsTurns (counted_item table template)
-template_adds table template = grind (arith, nat_tests, common_steps, ahead_grows, counts_append, unroll_extends)
+template_adds table template = grind (arith, ahead_grows, counts_append, unroll_extends)
 
 -- ---- What a walk writes.
 
 pub ticked_at_most : (before turns all : ℕ) → turns ≤ all → ticked before turns ≤ ticked before all
-ticked_at_most before turns all h1 = grind (arith, nat_tests, common_steps)
+ticked_at_most before turns all h1 = omega arith
 
 -- ---- Products.
 
@@ -155,7 +151,7 @@ split : (n a d : ℕ) → n * (a + d) ≡ n * a + n * d
 split n a d = grind arith
 
 pub mul_most : (n a b : ℕ) → a ≤ b → n * a ≤ n * b
-mul_most n a b h1 = grind (arith, nat_tests, common_steps)
+mul_most n a b h1 = grind arith
 
 -- The data could not be written because of this fault, or because memory ran out, and these are the
 -- steps before and after.
@@ -167,14 +163,7 @@ pub record IsRefused (places : ℕ) (w : Writing DraftFault) (why : DocumentFaul
 pub no_data : (n : ℕ) (compressed : Bool) (course : CountedCourse) (ss : List Subset) (why : DocumentFault) (steps : ℕ)
     → data_bits compressed (uncounted course) ss ≡ bits_of_writing (writing_of compressed course ss) → IsRefused n (writing_of compressed course ss) why 0 steps
     → IsNoData n compressed course ss why steps
-no_data n compressed course ss why steps e p = elim p.how [
-  | inl m ↦ record { refuses = inl m.0; made = inl m; few = omega (arith, p.few) }
-  | inr m ↦ record {
-    refuses = inr (ap (map_err document_fault) e ∙ ap (λ o. map_err document_fault (option_map_or (λ why. Err why) o (Ok (writing_of compressed course ss).bits))) m.1 ∙ ap Err (sym m.2));
-    made = inr m.3;
-    few = omega (arith, p.few);
-  }
-]
+no_data n compressed course ss why steps e p = grind (arith, p.few)
 
 module _ {D C : Type 0} (filler : Filler D C DraftFault) (course : CountedCourse) (walked : List TakenField) (old new : List Bool) (drafts left : List D)
     (w : WritesDrafts filler (uncounted course) walked old new drafts left) where
@@ -187,10 +176,7 @@ module _ {D C : Type 0} (filler : Filler D C DraftFault) (course : CountedCourse
 
   -- If so, the walk has written everything.
   pub walk_writing : (stop : Option DraftFault) → StopsHere stop → all ≡ record { bits = bits_written w.items; stop = stop; turns = (course (answers_of walked)).turns }
-  walk_writing stop h =
-      ap (λ p. record { bits = bits_written p.items; stop = p.stop; turns = (course (answers_in (λ spec w. filler.gives spec w.content) p.items)).turns })
-      (walk_ends filler (uncounted course) walked old new drafts left stop w h)
-      ∙ ap (λ a. record { bits = bits_written w.items; stop = stop; turns = (course a).turns }) w.answers
+  walk_writing stop h = search (rules, filler)
 
   -- the items that may be written after these
   abbrev later : List (Item (WrittenItem C))
@@ -198,7 +184,7 @@ module _ {D C : Type 0} (filler : Filler D C DraftFault) (course : CountedCourse
 
   no_fewer : length new ≤ length old + length all.bits
   no_fewer =
-      let here : length all.bits ≡ length (bits_written (w.items ++ later)) = ap (λ p. length (bits_written p.items)) w.is in
+      let here : length all.bits ≡ length (bits_written (w.items ++ later)) = rw (w.is) in
       let parts : length (bits_written (w.items ++ later)) ≡ length (bits_written w.items ++ bits_written later) =
       ap length (flat_map-append (λ (i : Item (WrittenItem C)). i.content.bits) w.items later) in
       omega (arith, here, parts, ap length w.bits, length-append old (bits_written w.items), length-append (bits_written w.items) (bits_written later))
@@ -206,21 +192,21 @@ module _ {D C : Type 0} (filler : Filler D C DraftFault) (course : CountedCourse
   no_less : AddsTurns course → (course (answers_of walked)).turns ≤ all.turns
   no_less g =
       let gives : FieldSpec → WrittenItem C → Taken = λ spec w. filler.gives spec w.content in
-      let here : all.turns ≡ (course (answers_in gives (w.items ++ later))).turns = ap (λ p. (course (answers_in gives p.items)).turns) w.is in
+      let here : all.turns ≡ (course (answers_in gives (w.items ++ later))).turns = rw (w.is) in
       let answers : answers_in gives (w.items ++ later) ≡ answers_of walked ++ answers_in gives later =
       map-append (λ (i : Item (WrittenItem C)). gives i.spec i.content) w.items later ∙ ap (λ a. a ++ answers_in gives later) w.answers in
-      omega (arith, here, ap (λ a. (course a).turns) answers, g (answers_of walked) (answers_in gives later))
+      omega (arith, here, ap (λ a. (course a).turns) answers)
 
   pub is_refused : (n : ℕ) (o : DraftFault) (why : DocumentFault) (before after : ℕ) → AddsTurns course → IfDraftFault o (λ f. StopsHere (Some f)) → why ≡ document_fault o
       → after ≡ ticked before (course (answers_of walked)).turns → after ≤ before + n * (length new - length old + 1) → IsRefused n all why before after
   is_refused n o why before after g h r made few = record {
     how = by o h r;
-    few = omega (arith, few, mul_most n (length new - length old + 1) (length all.bits + 1) (omega (arith, no_fewer)));
+    few = omega (arith, mul_most n (length new - length old + 1) (length all.bits + 1) (omega (arith, no_fewer)));
   }
     where
       by : (o : DraftFault) → IfDraftFault o (λ f. StopsHere (Some f)) → why ≡ document_fault o
           → ((why ≡ document.Memory) × (after ≤ ticked before all.turns)) ⊎ ((f : DraftFault) × (all.stop ≡ Some f) × (why ≡ document_fault f) × (after ≡ ticked before all.turns))
-      by draft_fault.Memory h r = inl (r, omega (arith, made, ticked_at_most before (course (answers_of walked)).turns all.turns (no_less g)))
+      by draft_fault.Memory h r = inl (r, omega (arith, ticked_at_most before (course (answers_of walked)).turns all.turns (no_less g)))
       by (draft_fault.Item line f) h r =
           let e = walk_writing (Some (at_line line f)) h in inr (at_line line f, ap (λ w. w.stop) e, r, made ∙ ap (λ w. ticked before w.turns) (sym e))
 
@@ -266,15 +252,15 @@ subset_written n course s c mid c' s' w passed same few =
       bits = bits;
       turns = (course (answers_of w.0)).turns;
       is = walk_writing (plain_filler end) course w.0 s.bits mid.bits (items_left s.left) (items_left mid.left) k.1 None
-          (subst (λ next. EndsPass (filling (plain_filler end)) next (items_left mid.left) None) (sym w.2) none.0);
+          (rw (w.2) none.0);
       written = same ∙ k.1.bits;
       left = sym none.1 ∙ k.0.suffix;
       made = w.3;
-      few = subst (λ x. c' ≤ c + n * x) e few;
+      few = rw e at few;
     }
 
 some_left : (left : List DraftEntry) → 1 ≤ length (subsets_of left) → 1 ≤ length left
-some_left [] h = absurd (omega (arith, h))
+some_left [] h = absurd (omega arith)
 some_left (e ∷ left) h = omega arith
 
 if_fault : {P Q : DraftFault → Type 0} (o : DraftFault) → IfDraftFault o P → ((f : DraftFault) → P f → Q f) → IfDraftFault o Q
@@ -305,18 +291,18 @@ pub subset_over : (n : ℕ) (course : CountedCourse) (s : PlainOutModel) (c : �
     → c' ≤ c + n * (length mid.bits - length s.bits) → IsRefused n (next_writing course s.left) why c c'
 subset_over n course s c mid c' e why g w some fault results few =
     let k = walk_of_items 0 (uncounted course) s w.0 mid w.1 in
-    let here : IsFaultNext at_end mid.left e = (some_left mid.left (omega (arith, some, k.0.count)), fault) in
-    stopped_at n course s w.0 mid e why c c' g w.1 (if_is (IsFaultNext (course (answers_of w.0)).next mid.left) e (subst (λ next. IsFaultNext next mid.left e) (sym w.2) here)) results w.3
-    (omega (arith, few, mul_most n (length mid.bits - length s.bits) (length mid.bits - length s.bits + 1) (omega arith)))
+    let here : IsFaultNext at_end mid.left e = (some_left mid.left (omega arith), fault) in
+    stopped_at n course s w.0 mid e why c c' g w.1 (if_is (IsFaultNext (course (answers_of w.0)).next mid.left) e (rw (w.2) here)) results w.3
+    (omega arith)
 
 -- The reason why a walk stopped is the fault of the next entry, or memory ran out.
 reported_next : (line : ℕ) (next : Next) (mid : PlainOutModel) (stop : WalkStop DraftFault) (s' : PlainOutModel) → StopsWalk PlainFills next mid stop s' → line ≡ line_at s'.left
     → IfDraftFault (stop_fault line stop) (IsFaultNext next mid.left)
-reported_next line next mid stop s' h1 h2 = grind (arith, nat_tests, common_steps)
+reported_next line next mid stop s' h1 h2 = grind arith
 
 -- A walk that stops does not write anything more.
 still : (next : Next) (mid : PlainOutModel) (stop : WalkStop DraftFault) (s' : PlainOutModel) → StopsWalk PlainFills next mid stop s' → s' ≡ mid
-still next mid stop s' h1 = grind (arith, nat_tests, common_steps)
+still next mid stop s' h1 = grind arith
 
 -- The walk stopped.
 pub subset_stopped : (n : ℕ) (course : CountedCourse) (s : PlainOutModel) (c : ℕ) (s' : PlainOutModel) (c' line : ℕ) (stop : WalkStop DraftFault) (why : DocumentFault) → AddsTurns course
@@ -325,7 +311,7 @@ pub subset_stopped : (n : ℕ) (course : CountedCourse) (s : PlainOutModel) (c :
 subset_stopped n course s c s' c' line stop why g w at results few =
     let next = (course (answers_of w.0)).next in
     stopped_at n course s w.0 w.1 (stop_fault line stop) why c c' g w.2 (reported_next line next w.1 stop s' w.3 at) results w.4
-    (subst (λ (p : PlainOutModel). c' ≤ c + n * (length p.bits - length s.bits + 1)) (still next w.1 stop s' w.3) few)
+    (rw (← still next w.1 stop s' w.3) few)
 
 -- ---- All subsets.
 
@@ -337,23 +323,13 @@ pub record PlainSoFar (places : ℕ) (course : CountedCourse) (all : List Subset
   pub rest : done + length (subsets_of left) ≡ length all
 
 cut : (left : List DraftEntry) → 1 ≤ length (subsets_of left) → subsets_of left ≡ subset (items_left left) (end_left left) ∷ subsets_of (left_after left)
-cut [] h = absurd (omega (arith, h))
+cut [] h = absurd (omega arith)
 cut (Ends line ∷ more) h = refl
-cut (Holds d ∷ more) h = ap (prepend_to_subset d) (cut more (omega (arith, h, length-prepended d (subsets_of more))))
+cut (Holds d ∷ more) h = cc (cut more (omega (arith, length-prepended)))
 
 pub none_written : (n : ℕ) (course : CountedCourse) (all : List DraftEntry) (s : PlainOutModel) (steps : ℕ) → s.left ≡ all → s.bits ≡ [] → steps ≡ 0
     → PlainSoFar n course (subsets_of all) 0 s.left s.bits steps
-none_written n course all s steps left none start = record {
-  made = 0;
-  is = ap (λ x. plain_writing course (subsets_of x)) (sym left) ∙ from_none (plain_writing course (subsets_of s.left))
-      ∙ ap (λ bits. writing_then (wrote bits 0) None (plain_writing course (subsets_of s.left))) (sym none);
-  ticks = start;
-  few = omega (arith, start);
-  rest = omega (arith, ap (λ x. length (subsets_of x)) left);
-}
-  where
-    from_none : (w : Writing DraftFault) → w ≡ writing_then (wrote [] 0) None w
-    from_none w = let same : w.turns ≡ 0 + w.turns = omega arith in ap (λ turns. record { bits = w.bits; stop = w.stop; turns = turns }) same
+none_written n course all s steps left none start = grind (arith, start)
 
 module _ (n : ℕ) (course : CountedCourse) (all : List Subset) (done : ℕ) (s : PlainOutModel) (steps : ℕ) (h : PlainSoFar n course all done s.left s.bits steps)
     (some : 1 ≤ length (subsets_of s.left)) where
@@ -366,33 +342,18 @@ module _ (n : ℕ) (course : CountedCourse) (all : List Subset) (done : ℕ) (s 
   next_then = writing_then (next_writing course s.left) (next_writing course s.left).stop rest
 
   by_next : plain_writing course all ≡ writing_then (wrote s.bits h.made) None next_then
-  by_next = h.is ∙ ap (λ ss. writing_then (wrote s.bits h.made) None (plain_writing course ss)) (cut s.left some)
+  by_next = rw (h.is, cut)
 
   pub one_more : (s' : PlainOutModel) (steps' : ℕ) → IsSubset n course s steps s' steps' → PlainSoFar n course all (done + 1) s'.left s'.bits steps'
   one_more s' steps' p =
       let suffix : subsets_of (left_after s.left) ≡ subsets_of s'.left = ap subsets_of (sym p.left) in
       let long = ap length p.written ∙ length-append s.bits p.bits in
-      record {
-        made = h.made + p.turns;
-        is = by_next ∙ ap (λ w. writing_then (wrote s.bits h.made) None (writing_then w w.stop rest)) p.is
-            ∙ joined s.bits p.bits h.made p.turns rest
-            ∙ ap (λ b. writing_then (wrote b (h.made + p.turns)) None rest) (sym p.written)
-            ∙ ap (λ ss. writing_then (wrote s'.bits (h.made + p.turns)) None (plain_writing course ss)) suffix;
-        ticks = p.made ∙ ap (λ x. ticked x p.turns) h.ticks ∙ ticked_more h.made p.turns;
-        few = omega (arith, h.few, p.few, split n (length s.bits) (length p.bits), ap (λ x. n * x) long);
-        rest = omega (arith, h.rest, ap length (cut s.left some), ap length suffix);
-      }
-    where
-      joined : (a b : List Bool) (k l : ℕ) (w : Writing DraftFault) → writing_then (wrote a k) None (writing_then (wrote b l) None w) ≡ writing_then (wrote (a ++ b) (k + l)) None w
-      joined a b k l w =
-          let same : k + (l + w.turns) ≡ k + l + w.turns = omega arith in
-          ap (λ bits. record { bits = bits; stop = w.stop; turns = k + (l + w.turns) }) (sym (append_assoc a b w.bits))
-          ∙ ap (λ turns. record { bits = (a ++ b) ++ w.bits; stop = w.stop; turns = turns }) same
+      grind (arith, by_next, ticked_more, cut, append_assoc, h.few, p.few, ap (λ x. n * x) long, h.rest, ap length (cut s.left some))
 
   pub stopped : (why : DocumentFault) (steps' : ℕ) → IsRefused n (next_writing course s.left) why steps steps' → IsNoData n false course all why steps'
   stopped why steps' p =
       no_data n false course all why steps' (plain_written course all)
-      (subst (λ w. IsRefused n w why 0 steps') (sym by_next) (after (next_writing course s.left) p (next_writing course s.left).stop refl))
+      (rw by_next (after (next_writing course s.left) p (next_writing course s.left).stop refl))
     where
       after : (w : Writing DraftFault) → IsRefused n w why steps steps' → (stop : Option DraftFault) → w.stop ≡ stop
           → IsRefused n (writing_then (wrote s.bits h.made) None (writing_then w stop rest)) why 0 steps'
@@ -405,7 +366,7 @@ module _ (n : ℕ) (course : CountedCourse) (all : List Subset) (done : ℕ) (s 
               → (stop : Option DraftFault) → w.stop ≡ stop
               → ((why ≡ document.Memory) × (steps' ≤ ticked 0 (h.made + (writing_then w stop rest).turns)))
               ⊎ ((f : DraftFault) × ((writing_then w stop rest).stop ≡ Some f) × (why ≡ document_fault f) × (steps' ≡ ticked 0 (h.made + (writing_then w stop rest).turns)))
-          how (inl m) None e = inl (m.0, omega (arith, m.1, ticks, ticked_at_most 0 (h.made + w.turns) (h.made + (w.turns + rest.turns)) (omega arith)))
+          how (inl m) None e = inl (m.0, omega arith)
           how (inl m) (Some f) e = inl (m.0, omega (arith, m.1, ticks))
           how (inr m) None e = absurd cc (sym e ∙ m.1)
           how (inr m) (Some f) e = inr (m.0, m.1, m.2, m.3 ∙ ticks)
@@ -427,22 +388,7 @@ module _ (n : ℕ) (course : CountedCourse) (all : List Subset) (done : ℕ) (s 
 pub all_written : (n : ℕ) (course : CountedCourse) (all : List Subset) (done : ℕ) (s : PlainOutModel) (steps : ℕ) (octets : List ℕ) → PlainSoFar n course all done s.left s.bits steps
     → done ≡ length all
     → AreOctetsOf octets s.bits → IsData n false course all octets steps
-all_written n course all done s steps octets h end o =
-    let none : length (subsets_of s.left) ≡ 0 = omega (arith, h.rest, end) in
-    let is = h.is ∙ by (subsets_of s.left) none in
-    record {
-      out = s.bits;
-      is = plain_written course all ∙ ap bits_of_writing is;
-      octets_are = o;
-      made = h.ticks ∙ ap (λ (w : Writing DraftFault). ticked 0 w.turns) (sym is);
-      few = omega (arith, h.few, ap (λ (w : Writing DraftFault). n * length w.bits) is);
-    }
-  where
-    by : (ss : List Subset) → length ss ≡ 0 → writing_then (wrote s.bits h.made) None (plain_writing course ss) ≡ wrote s.bits h.made
-    by [] e =
-        let same : h.made + 0 ≡ h.made = omega arith in
-        ap (λ bits. wrote bits (h.made + 0)) (append-nil s.bits) ∙ ap (wrote s.bits) same
-    by (x ∷ ss) e = absurd (omega (arith, e))
+all_written n course all done s steps octets h end o = grind (arith, common_steps, plain_written)
 
 -- ---- The subsets of a document, written together.
 
@@ -450,16 +396,16 @@ all_written n course all done s steps octets h end o =
 -- not write anything more.
 reported_here : (line : ℕ) (next : Next) (mid : PackedOutModel) (stop : WalkStop DraftFault) (s' : PackedOutModel) → StopsWalk PackedFills next mid stop s'
     → line ≡ first_line_at s'.index s'.subsets → IfDraftFault (stop_fault line stop) (IsFaultHere next mid)
-reported_here line next mid stop s' h1 h2 = grind (arith, nat_tests, common_steps)
+reported_here line next mid stop s' h1 h2 = grind arith
 
 packed_still : (next : Next) (mid : PackedOutModel) (stop : WalkStop DraftFault) (s' : PackedOutModel) → StopsWalk PackedFills next mid stop s' → s' ≡ mid
-packed_still next mid stop s' h1 = grind (arith, nat_tests, common_steps)
+packed_still next mid stop s' h1 = grind arith
 
 -- The walk stopped at its fault, or because memory ran out.
 packed_stopped_at : (n : ℕ) (course : CountedCourse) (ss : List Subset) (walked : List TakenField) (mid : PackedOutModel) (o : DraftFault) (why : DocumentFault) (c' : ℕ) → AddsTurns course
     → 1 ≤ length ss → Takes (oks PackedFills) (uncounted course) (new_packed_out ss) walked mid → IfDraftFault o (IsFaultHere (course (answers_of walked)).next mid) → why ≡ document_fault o
     → c' ≡ ticked 0 (course (answers_of walked)).turns → c' ≤ n * (length mid.bits + 1) → IsNoData n true course ss why c'
-packed_stopped_at n course [] walked mid o why c' g some h fault results made few = absurd (omega (arith, some))
+packed_stopped_at n course [] walked mid o why c' g some h fault results made few = absurd (omega arith)
 packed_stopped_at n course (s ∷ more) walked mid o why c' g some h fault results made few =
     let k = came s more (uncounted course) walked mid h in
     no_data n true course (s ∷ more) why c' refl
@@ -467,37 +413,26 @@ packed_stopped_at n course (s ∷ more) walked mid o why c' g some h fault resul
     (if_fault o fault (λ f x. stops_across s more (course (answers_of walked)).next mid f k.0 x))
     results
     made
-    (omega (arith, few, mul_most n (length mid.bits + 1) (length mid.bits - 0 + 1) (omega arith))))
+    (omega (arith, mul_most n (length mid.bits + 1) (length mid.bits - 0 + 1) (omega arith))))
 
 -- The data were written.
 pub packed_written : (n : ℕ) (course : CountedCourse) (ss : List Subset) (start : PackedOutModel) (c : ℕ) (mid : PackedOutModel) (c' : ℕ) (octets : List ℕ) → start ≡ new_packed_out ss → 1 ≤ length ss
     → c ≡ 0 → Walked PackedFills course start c (Ok tt) mid c'
     → all_at_end (cells_at mid.index mid.subsets) ≡ Ok tt → c' ≤ c + n * (length mid.bits - length start.bits) → AreOctetsOf octets mid.bits → IsData n true course ss octets c'
-packed_written n course [] start c mid c' octets at some z w e few o = absurd (omega (arith, some))
+packed_written n course [] start c mid c' octets at some z w e few o = absurd (omega arith)
 packed_written n course (s ∷ more) start c mid c' octets at some z w e few o =
-    let k = came s more (uncounted course) w.0 mid (subst (λ x. Takes (oks PackedFills) (uncounted course) x w.0 mid) at w.1) in
+    let k = came s more (uncounted course) w.0 mid (rw (← at) w.1) in
     let is = walk_writing (filler s more) course w.0 [] mid.bits (rows (most_items (s ∷ more)) 0 (s ∷ more)) (rows_left mid) k.1 None
     (subst (λ next. EndsPass (filling (filler s more)) next (rows_left mid) None) (sym w.2) (ends_across s more mid e)) in
-    record {
-      out = mid.bits;
-      is = ap bits_of_writing is ∙ ap Ok (sym k.1.bits);
-      octets_are = o;
-      made = w.3 ∙ ap (λ x. ticked x (course (answers_of w.0)).turns) z ∙ ap (λ (w : Writing DraftFault). ticked 0 w.turns) (sym is);
-      few = omega (
-        arith,
-        z,
-        few,
-        mul_most n (length mid.bits - length start.bits) (length (packed_writing course (s ∷ more)).bits) (omega (arith, ap length k.1.bits, ap (λ (w : Writing DraftFault). length w.bits) is)),
-      );
-    }
+    grind arith
 
 -- An item remains after the end of the template.
 pub packed_over : (n : ℕ) (course : CountedCourse) (ss : List Subset) (start : PackedOutModel) (c : ℕ) (mid : PackedOutModel) (c' : ℕ) (e : DraftFault) (why : DocumentFault) → AddsTurns course
     → start ≡ new_packed_out ss → 1 ≤ length ss → c ≡ 0 → Walked PackedFills course start c (Ok tt) mid c'
     → all_at_end (cells_at mid.index mid.subsets) ≡ Err e → why ≡ document_fault e → c' ≤ c + n * (length mid.bits - length start.bits) → IsNoData n true course ss why c'
 packed_over n course ss start c mid c' e why g at some z w fault results few =
-    packed_stopped_at n course ss w.0 mid e why c' g some (subst (λ x. Takes (oks PackedFills) (uncounted course) x w.0 mid) at w.1)
-    (if_is (IsFaultHere (course (answers_of w.0)).next mid) e (subst (λ next. IsFaultHere next mid e) (sym w.2) fault)) results
+    packed_stopped_at n course ss w.0 mid e why c' g some (rw at at w.1)
+    (if_is (IsFaultHere (course (answers_of w.0)).next mid) e (rw (w.2) fault)) results
     (w.3 ∙ ap (λ x. ticked x (course (answers_of w.0)).turns) z)
     (omega (arith, z, few, mul_most n (length mid.bits - length start.bits) (length mid.bits + 1) (omega arith)))
 
@@ -508,20 +443,15 @@ pub packed_stopped : (n : ℕ) (course : CountedCourse) (ss : List Subset) (star
     → IsNoData n true course ss why c'
 packed_stopped n course ss start c s' c' line stop why g at some z w l results few =
     let next = (course (answers_of w.0)).next in
-    packed_stopped_at n course ss w.0 w.1 (stop_fault line stop) why c' g some (subst (λ x. Takes (oks PackedFills) (uncounted course) x w.0 w.1) at w.2)
+    packed_stopped_at n course ss w.0 w.1 (stop_fault line stop) why c' g some (rw at at w.2)
     (reported_here line next w.1 stop s' w.3 l) results
     (w.4 ∙ ap (λ x. ticked x (course (answers_of w.0)).turns) z)
-    (omega (
-      arith,
-      z,
-      few,
-      mul_most n (length s'.bits - length start.bits + 1) (length w.1.bits + 1) (omega (arith, ap (λ (p : PackedOutModel). length p.bits) (packed_still next w.1 stop s' w.3))),
-    ))
+    (omega (arith, z, few, mul_most n (length s'.bits - length start.bits + 1) (length w.1.bits + 1) (omega (arith, ap (λ (p : PackedOutModel). length p.bits) (packed_still next w.1 stop s' w.3)))))
 
 -- Without subsets, there are no data.
 pub none_packed : (n : ℕ) (course : CountedCourse) (ss : List Subset) (steps : ℕ) (octets : List ℕ) → ss ≡ [] → octets ≡ [] → steps ≡ 0 → IsData n true course ss octets steps
 unfolding bits_of
-none_packed n course ss steps octets h1 h2 h3 = grind (arith, nat_tests, common_steps)
+none_packed n course ss steps octets h1 h2 h3 = grind arith
 
 -- A walk does not change its subsets.
 stays : (course : Course) (s : PackedOutModel) (walked : List TakenField) (s' : PackedOutModel) → Takes (oks PackedFills) course s walked s' → s'.subsets ≡ s.subsets
@@ -529,7 +459,7 @@ stays course s walked s' h = (walk_of_rows 0 false course s walked s' h).0.subse
 
 pub some_before : (course : CountedCourse) (ss : List Subset) (start : PackedOutModel) (c : ℕ) (r : Result (Unit {0}) (WalkStop DraftFault)) (s' : PackedOutModel) (c' : ℕ)
     → Walked PackedFills course start c r s' c' → start ≡ new_packed_out ss → 1 ≤ length s'.subsets → 1 ≤ length ss
-some_before course ss start c r s' c' h1 h2 h3 = grind (arith, nat_tests, common_steps, stays, packed_still)
+some_before course ss start c r s' c' h1 h2 h3 = grind (arith, stays)
 
 pub some_ends : (xs : List DraftEntry) (ends : List ℕ) (n : ℕ) → ends ≡ ends_of 0 xs → 1 ≤ length ends → n ≡ length (subsets_of xs) → 1 ≤ n
-some_ends xs ends n e some is = omega (arith, some, ap length e, length-subsets 0 xs, is)
+some_ends xs ends n e some is = omega (arith, some, ap length e, is, length-subsets)

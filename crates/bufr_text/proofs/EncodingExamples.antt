@@ -85,7 +85,8 @@ documents_encoded :
     × (encoded (document 0 1 (0x4100 ∷ 0x1F01 ∷ 0x0101 ∷ []) (missing 24 0x1F01 ∷ Ends 25 ∷ [])) ≡ Err (fault.Item 24 wrong.MissingForbidden))
     × (encoded (document 0 1 (0x010F ∷ []) (text 24 0x010F (replicate 21 65) ∷ Ends 25 ∷ [])) ≡ Err (fault.Item 24 wrong.TextLong))
     -- items that compressed data cannot represent
-    × (encoded (document 1 2 (0x4100 ∷ 0x1F01 ∷ 0x0101 ∷ []) (number 24 0x1F01 (codes "1") ∷ number 25 0x0101 (codes "10") ∷ Ends 26 ∷ number 27 0x1F01 (codes "2") ∷ number 28 0x0101 (codes "10") ∷ number 29 0x0101 (codes "11") ∷ Ends 30 ∷ []))
+    × (encoded (document 1 2 (0x4100 ∷ 0x1F01 ∷ 0x0101 ∷ []) (number 24 0x1F01 (codes "1") ∷ number 25 0x0101 (codes "10") ∷ Ends 26 ∷ number 27 0x1F01 (codes "2") ∷ number 28 0x0101 (codes "10")
+    ∷ number 29 0x0101 (codes "11") ∷ Ends 30 ∷ []))
     ≡ Err (fault.Item 27 wrong.UnequalFactor))
     × (encoded (document 1 2 (0x8540 ∷ []) (text 24 0x8540 (replicate 64 65) ∷ Ends 25 ∷ text 26 0x8540 (replicate 63 65 ++ 66 ∷ []) ∷ Ends 27 ∷ [])) ≡ Err (fault.Item 24 wrong.Increment))
     -- faults in the template, and in the walk over it
@@ -147,7 +148,8 @@ turns_made :
     × (turns (document 0 3 (0x0101 ∷ []) (block 24 (codes "10") ∷ Ends 25 ∷ block 26 (codes "x") ∷ Ends 27 ∷ block 28 (codes "10") ∷ Ends 29 ∷ [])) ≡ 3)
     -- one pass for all subsets of compressed data: fails if each subset is a pass
     × (turns (document 1 2 (0x0C65 ∷ []) (number 24 0x0C65 (codes "288.15") ∷ Ends 25 ∷ missing 26 0x0C65 ∷ Ends 27 ∷ [])) ≡ 2)
-    × (turns (document 1 2 (0x4100 ∷ 0x1F01 ∷ 0x0101 ∷ []) (factor 24 (codes "1") ∷ block 25 (codes "10") ∷ Ends 26 ∷ factor 27 (codes "2") ∷ block 28 (codes "10") ∷ block 29 (codes "11") ∷ Ends 30 ∷ [])) ≡ 2)
+    × (turns (document 1 2 (0x4100 ∷ 0x1F01 ∷ 0x0101 ∷ []) (factor 24 (codes "1") ∷ block 25 (codes "10") ∷ Ends 26 ∷ factor 27 (codes "2") ∷ block 28 (codes "10") ∷ block 29 (codes "11") ∷ Ends 30
+    ∷ [])) ≡ 2)
     × (turns (document 1 2 (0x0101 ∷ []) (block 24 (codes "10") ∷ Ends 25 ∷ block 26 (codes "10") ∷ block 27 (codes "11") ∷ Ends 28 ∷ [])) ≡ 2)
     -- There is no pass without a subset, and none without a template.
     × (turns (document 0 0 (0x0101 ∷ []) []) ≡ 0)
@@ -172,10 +174,12 @@ documents_formed :
     × (formed Compressed (document 0 2 (0x0C65 ∷ []) (number 24 0x0C65 (codes "288.15") ∷ Ends 25 ∷ missing 26 0x0C65 ∷ Ends 27 ∷ []))
     ≡ message 50 (0 ∷ 0 ∷ 9 ∷ 0 ∷ 0 ∷ 2 ∷ 0xC0 ∷ 0x0C ∷ 0x65 ∷ 0 ∷ 0 ∷ 7 ∷ 0 ∷ 0x70 ∷ 0x8F ∷ 5 ∷ []))
     × (formed Compressed (document 0 0 (0x0101 ∷ []) []) ≡ message 47 (0 ∷ 0 ∷ 9 ∷ 0 ∷ 0 ∷ 0 ∷ 0xC0 ∷ 1 ∷ 1 ∷ 0 ∷ 0 ∷ 4 ∷ 0 ∷ []))
-    × (formed Compressed (document 0 2 (0x4100 ∷ 0x1F01 ∷ 0x0101 ∷ []) (number 24 0x1F01 (codes "1") ∷ number 25 0x0101 (codes "10") ∷ Ends 26 ∷ number 27 0x1F01 (codes "2") ∷ number 28 0x0101 (codes "10") ∷ number 29 0x0101 (codes "11") ∷ Ends 30 ∷ []))
+    × (formed Compressed (document 0 2 (0x4100 ∷ 0x1F01 ∷ 0x0101 ∷ [])
+    (number 24 0x1F01 (codes "1") ∷ number 25 0x0101 (codes "10") ∷ Ends 26 ∷ number 27 0x1F01 (codes "2") ∷ number 28 0x0101 (codes "10") ∷ number 29 0x0101 (codes "11") ∷ Ends 30 ∷ []))
     ≡ Err (fault.Item 27 wrong.UnequalFactor))
     -- 2 03 010, 0 12 101, 2 03 255: reference values that differ between the subsets
-    × (formed Compressed (document 0 2 (0x830A ∷ 0x0C65 ∷ 0x83FF ∷ []) (Holds (draft 24 0x0C65 (reference_token (codes "-400"))) ∷ Ends 25 ∷ Holds (draft 26 0x0C65 (reference_token (codes "-401"))) ∷ Ends 27 ∷ []))
+    × (formed Compressed (document 0 2 (0x830A ∷ 0x0C65 ∷ 0x83FF ∷ [])
+    (Holds (draft 24 0x0C65 (reference_token (codes "-400"))) ∷ Ends 25 ∷ Holds (draft 26 0x0C65 (reference_token (codes "-401"))) ∷ Ends 27 ∷ []))
     ≡ Err (fault.Item 24 wrong.Increment))
 unfolding listed table document number formed message encoding_in tree_of level part_of inner_of next_item decimal_value_of bits_in bits_of missing min_section_1
 documents_formed = (refl, refl, refl, refl, refl, refl)

@@ -53,7 +53,8 @@ lines_read :
     (item_text (record { fxy = 0x8504; entry = None; value = shown_text inserted }) ≡ inserted_line)
     × (all_said (
     inserted_line ∷ codes "012101 MISSING" ∷ codes "R 012101 -400" ∷ codes "005002 -0.05 #" ∷ codes "005002 -0.05  # LATITUDE [degree]" ∷ [])
-    ≡ ItemLine 0x8504 (text_form inserted) ∷ ItemLine 0x0C65 missing_form ∷ ItemLine 0x0C65 (reference_token (codes "-400")) ∷ ItemLine 0x0502 (number_token (codes "-0.05")) ∷ ItemLine 0x0502 (number_token (codes "-0.05")) ∷ [])
+    ≡ ItemLine 0x8504 (text_form inserted) ∷ ItemLine 0x0C65 missing_form ∷ ItemLine 0x0C65 (reference_token (codes "-400")) ∷ ItemLine 0x0502 (number_token (codes "-0.05"))
+    ∷ ItemLine 0x0502 (number_token (codes "-0.05")) ∷ [])
     × (all_said (
     codes "001001 10 " ∷ codes "001001 10# x" ∷ codes "001001  10" ∷ codes "001001 " ∷ codes "001001 x" ∷ codes "R 012101 MISSING" ∷ codes "064001 1" ∷ codes "01001 1"
     ∷ (codes "205001 " ++ 34 ∷ 65 ∷ []) ∷ (codes "205001 " ++ 34 ∷ 92 ∷ codes "xfe" ++ 34 ∷ []) ∷ (codes "205001 " ++ 34 ∷ 9 ∷ 34 ∷ []) ∷ [])
@@ -62,7 +63,8 @@ lines_read :
     [] ∷ codes "#" ∷ (35 ∷ 13 ∷ []) ∷ codes "local1 abCD" ∷ codes "section2 0102" ∷ codes "descriptors 001001 363255" ∷ codes "subset 01" ∷ codes "year 99999999999999999999999" ∷ [])
     ≡ Passed ∷ Passed ∷ Passed ∷ Local1 (0xAB ∷ 0xCD ∷ []) ∷ Section2 (1 ∷ 2 ∷ []) ∷ Descriptors (257 ∷ 65535 ∷ []) ∷ Begins 1 ∷ Header 10 65536 ∷ [])
     × (all_said (
-    (13 ∷ []) ∷ codes " " ∷ codes "message " ∷ codes "local1 ABC" ∷ codes "local1 " ∷ codes "local1" ∷ codes "descriptors" ∷ codes "descriptors  001001" ∷ codes "subset " ∷ codes "subset -1" ∷ codes "years 1" ∷ codes "end." ∷ [])
+    (13 ∷ []) ∷ codes " " ∷ codes "message " ∷ codes "local1 ABC" ∷ codes "local1 " ∷ codes "local1" ∷ codes "descriptors" ∷ codes "descriptors  001001" ∷ codes "subset " ∷ codes "subset -1"
+    ∷ codes "years 1" ∷ codes "end." ∷ [])
     ≡ Wrong ∷ Wrong ∷ Wrong ∷ Wrong ∷ Wrong ∷ Wrong ∷ Wrong ∷ Wrong ∷ Wrong ∷ Wrong ∷ Wrong ∷ Wrong ∷ [])
     -- A line has at most 32 octets, or at most 8 descriptors.
     × (all_said (local1_line (replicate 32 255) ∷ local1_line (replicate 33 255) ∷ descriptors_line (replicate 8 257) ∷ descriptors_line (replicate 9 257) ∷ [])
@@ -80,12 +82,14 @@ lines_read :
     × (all_said (codes "local1 0aF9" ∷ codes "local1 0aF" ∷ codes "local1 0g" ∷ codes "section2 ff" ∷ codes "section2 f" ∷ codes "local1  0a" ∷ codes "local1 0a " ∷ [])
     ≡ Local1 (10 ∷ 249 ∷ []) ∷ Wrong ∷ Wrong ∷ Section2 (255 ∷ []) ∷ Wrong ∷ Wrong ∷ Wrong ∷ [])
     -- On every line, a descriptor has six digits, and its F, X and Y fit their bits.
-    × (all_said (codes "descriptors 001001" ∷ codes "descriptors 0010010" ∷ codes "descriptors 00100" ∷ codes "descriptors 363255" ∷ codes "descriptors 364255" ∷ codes "descriptors 363256" ∷ codes "descriptors 463255" ∷ codes "363255 10" ∷ codes "363256 10" ∷ codes "0010010 10" ∷ [])
+    × (all_said (codes "descriptors 001001" ∷ codes "descriptors 0010010" ∷ codes "descriptors 00100" ∷ codes "descriptors 363255" ∷ codes "descriptors 364255" ∷ codes "descriptors 363256"
+    ∷ codes "descriptors 463255" ∷ codes "363255 10" ∷ codes "363256 10" ∷ codes "0010010 10" ∷ [])
     ≡ Descriptors (257 ∷ []) ∷ Wrong ∷ Wrong ∷ Descriptors (65535 ∷ []) ∷ Wrong ∷ Wrong ∷ Wrong ∷ ItemLine 65535 (number_token (codes "10")) ∷ Wrong ∷ Wrong ∷ [])
     -- In a text, any octet may be written as an escape with upper-case digits, and octets that are
     -- not printed must be. The closing quote is required.
     × (all_said (
-    (codes "205001 " ++ 34 ∷ 92 ∷ codes "x41" ++ 34 ∷ []) ∷ (codes "205001 " ++ 34 ∷ 92 ∷ codes "xaf" ++ 34 ∷ []) ∷ (codes "205001 " ++ 34 ∷ 92 ∷ codes "n" ++ 34 ∷ []) ∷ (codes "205001 " ++ 34 ∷ 126 ∷ 34 ∷ []) ∷ (codes "205001 " ++ 34 ∷ 127 ∷ 34 ∷ [])
+    (codes "205001 " ++ 34 ∷ 92 ∷ codes "x41" ++ 34 ∷ []) ∷ (codes "205001 " ++ 34 ∷ 92 ∷ codes "xaf" ++ 34 ∷ []) ∷ (codes "205001 " ++ 34 ∷ 92 ∷ codes "n" ++ 34 ∷ [])
+    ∷ (codes "205001 " ++ 34 ∷ 126 ∷ 34 ∷ []) ∷ (codes "205001 " ++ 34 ∷ 127 ∷ 34 ∷ [])
     ∷ (codes "205001 " ++ 34 ∷ 254 ∷ 34 ∷ []) ∷ (codes "205001 " ++ 34 ∷ 65 ∷ []) ∷ (codes "205001 " ++ 34 ∷ 34 ∷ 34 ∷ []) ∷ [])
     ≡ ItemLine 0x8501 (text_form (65 ∷ [])) ∷ Wrong ∷ Wrong ∷ ItemLine 0x8501 (text_form (126 ∷ [])) ∷ Wrong ∷ Wrong ∷ Wrong ∷ Wrong ∷ [])
     -- Any line of octets or of descriptors may be short. The groups of lines have a fixed order.
@@ -100,7 +104,8 @@ lines_read :
     × (none_with (codes "subset x" ∷ []) ≡ Refused 22 NotAllowed ∷ [])
     × (none_with (codes "subset 1" ∷ []) ≡ Refused 22 SubsetCount ∷ [])
     -- Line numbers continue in the next document, and comments between documents count.
-    × (documents_of (document_with (codes "centre 98") (codes "optional 1") (codes "subsets 0") (codes "end" ∷ codes "# x" ∷ []) ++ document_with (codes "centre 98") (codes "optional 1") (codes "subsets 0") (codes "end" ∷ []))
+    × (documents_of (document_with (codes "centre 98") (codes "optional 1") (codes "subsets 0") (codes "end" ∷ codes "# x" ∷ [])
+    ++ document_with (codes "centre 98") (codes "optional 1") (codes "subsets 0") (codes "end" ∷ []))
     ≡ Complete (record { line = 1; header = header_written; local1 = []; section2 = []; descriptors = []; entries = [] })
     ∷ Complete (record { line = 24; header = header_written; local1 = []; section2 = []; descriptors = []; entries = [] }) ∷ [])
 unfolding quoted line_of worded without_prefix fxy_read value_read quoted_read is_hashed keys leasts mosts hex_read descriptors_read hex_text descriptors_text ten
@@ -359,7 +364,8 @@ header_heard =
     ∷ numbered_line 17 (Header 15 5) ∷ numbered_line 18 (Header 16 1) ∷ numbered_line 19 (Header 17 0) ∷ numbered_line 20 (Header 18 0) ∷ numbered_line 21 (Header 19 1) ∷ []
 
 one_document : IsDocument (document 0 1 (257 ∷ []) (number 24 257 (codes "10") ∷ Ends 25 ∷ []))
-    (numbered_line 1 Opens ∷ header_heard ++ numbered_line 22 (Descriptors (257 ∷ [])) ∷ numbered_line 23 (Begins 1) ∷ numbered_line 24 (ItemLine 257 (number_token (codes "10"))) ∷ numbered_line 25 Closes ∷ [])
+    (numbered_line 1 Opens ∷ header_heard ++ numbered_line 22 (Descriptors (257 ∷ [])) ∷ numbered_line 23 (Begins 1) ∷ numbered_line 24 (ItemLine 257 (number_token (codes "10")))
+    ∷ numbered_line 25 Closes ∷ [])
 unfolding document number
 one_document = record {
   header = header_heard;

@@ -1,9 +1,7 @@
 -- The document of an accepted message is encoded in each form. The document of a canonical message
 -- is encoded to the same octets.
 use Rattle.std.proofs.lemmas.Bool.{ltb-false}
-use Rattle.std.proofs.Common.{◌≡◌, ℕ, ◌+◌, ◌≤◌, Bool, true, false, List, [], ◌∷◌, ◌++◌, length, take, drop, map, Result, Ok, Err, refl, sym, ◌∙◌, ap, subst, arith, append_assoc, ◌⊎◌, inl, inr, ◌*◌, nat_lt, if◌then◌else◌, flat_map, Vec, IfOk, IfErr}
-use Rattle.std.proofs.lemmas.Bool.Decides.{nat_tests}
-use Rattle.std.proofs.lemmas.List.{take-append-drop}
+use Rattle.std.proofs.Common.{◌≡◌, ℕ, ◌+◌, ◌≤◌, Bool, true, false, List, [], ◌∷◌, ◌++◌, length, take, drop, map, Result, Ok, Err, refl, sym, ◌∙◌, ap, subst, arith, append_assoc, ◌⊎◌, inl, inr, ◌*◌, nat_lt, if◌then◌else◌, flat_map, Vec, IfOk, IfErr, rules}
 use Rattle.bufr_bits.specs.Prelude.{bits_of}
 use Rattle.bufr_tables.specs.Prelude.{Row, AreRows, Sequence, Tree, IsLegal, tables_of, Record}
 use Rattle.bufr_walk.specs.Prelude.{FieldSpec, IsSpec, Content, content_in, bits_for, found, plain_field, Course, next_item, Item, plain, ReadsItems, after, apart, together, Values, max_values, data_of, View, subsets_from, each_subset}
@@ -15,10 +13,10 @@ use Rattle.bufr_frame.proofs.AgainLemmas.{not-too-long, written-again}
 use Rattle.bufr_frame.proofs.LayoutLemmas.{even-least, message_size_is, written-even, length-evened}
 use Rattle.bufr_walk.proofs.NextField.{AreRead, table_read}
 use Rattle.bufr_fill.proofs.WholeLaws.{bits_again, each_count, follows, said_again, written_apart, written_together}
-use Rattle.bufr_fill.proofs.FormLaws.{subsets_said, subset_bits, bits_or_none, row_bits}
-use Rattle.bufr_text.specs.Prelude.{header_in, subset_entries, document_of, lines_before, items_shown, IsAccepted, dump_items, HaveNoMinusZero, ArePacked, AreWritten, IsCanonical, IsEncodedAgain, HasReadingIn, IsForForm, IsFormed, IsFaultIn, EncodesForm, EncodesAgain, HasSameReading, data_bits, octets_of_bits, encoding_of, map_err, parts_as, compressed_as, message_of, encoding_in, IsDocumentRefusal, compressed_by, form_of_flag, Document, DocumentFault, Form, document_fault}
+use Rattle.bufr_fill.proofs.FormLaws.{subsets_said, subset_bits, row_bits}
+use Rattle.bufr_text.specs.Prelude.{header_in, subset_entries, document_of, lines_before, items_shown, IsAccepted, dump_items, HaveNoMinusZero, ArePacked, AreWritten, IsCanonical, IsEncodedAgain, HasReadingIn, IsForForm, IsFormed, IsFaultIn, EncodesForm, EncodesAgain, data_bits, octets_of_bits, encoding_of, map_err, parts_as, compressed_as, message_of, encoding_in, IsDocumentRefusal, compressed_by, form_of_flag, Document, DocumentFault, Form, document_fault}
 use Rattle.bufr_text.proofs.DumpableLemmas.{sections_given}
-use Rattle.bufr_text.proofs.RoundTripLemmas.{all_apart, encoded_to, parts_back, parts_with, size_least, fills_as, bit_back, section2_back, enough, suffix, encoded_again, as_written, data_refused, parts_of_document, filled, is_message, reads_octets, all_dumped}
+use Rattle.bufr_text.proofs.RoundTripLemmas.{all_apart, encoded_to, parts_back, parts_with, size_least, bit_back, section2_back, suffix, encoded_again, as_written, data_refused, parts_of_document, filled, is_message, reads_octets, all_dumped}
 use Rattle.std.specs.Global.{Global}
 use Rattle.bufr_bits.proofs.BitLemmas.{length-bits_of}
 use Rattle.bufr_tables.proofs.SoundLemmas.{tree_fine}
@@ -39,11 +37,11 @@ record IsTaken (spec : FieldSpec) (bits mid : List Bool) (c : Content) : Type 0 
   enough : length (take spec.width bits) ≡ spec.width
 
 field_taken : (spec : FieldSpec) (bits mid : List Bool) (c : Content) → plain_field spec bits ≡ Ok (found c mid) → IsTaken spec bits mid c
-field_taken spec bits mid c h1 = grind (arith, nat_tests, common_steps)
+field_taken spec bits mid c h1 = grind (arith, common_steps)
 
 field_bits : (spec : FieldSpec) → IsSpec spec → (bits mid : List Bool) (c : Content) → IsTaken spec bits mid c → (IsMinusZero spec.role (take spec.width bits) → ⊥)
     → bits ≡ bits_for spec.width c ++ mid
-field_bits spec h1 bits mid c h2 h3 = grind (arith, nat_tests, common_steps, take-append-drop, same_bits, enough, suffix)
+field_bits spec h1 bits mid c h2 h3 = grind (arith, common_steps, same_bits)
 
 -- ---- The items of one subset.
 
@@ -53,7 +51,7 @@ items_split course [] bits suffix fields h plus = h
 items_split course (i ∷ items) bits suffix fields h plus =
     let t = field_taken i.spec bits h.0 i.content h.2 in
     let rest = items_split (after plain course i) items h.0 suffix fields.1 h.3 (subst (HaveNoMinusZero items) t.suffix plus.1) in
-    field_bits i.spec fields.0.spec bits h.0 i.content t plus.0 ∙ ap (λ x. item_bits i ++ x) rest ∙ sym (append_assoc (item_bits i) (flat_map item_bits items) suffix)
+    grind (arith, common_steps, field_bits, append_assoc, item_bits, suffix)
 
 -- ---- The items of all subsets.
 
@@ -67,16 +65,13 @@ first_zeros course (i ∷ a) b bits mid h plus =
 subset_split : (course : Course) (items : List (Item Content)) (subsets : List (List (Item Content))) (bits mid suffix : List Bool) → AllFields items → ReadsItems plain course items bits mid
     → (HaveNoMinusZero (flat_map (λ x. x) subsets) mid → mid ≡ subset_bits subsets ++ suffix) → HaveNoMinusZero (flat_map (λ x. x) (items ∷ subsets)) bits
     → bits ≡ subset_bits (items ∷ subsets) ++ suffix
-subset_split course items subsets bits mid suffix fields r rest plus =
-    let zeros = first_zeros course items (flat_map (λ x. x) subsets) bits mid r plus in
-    items_split course items bits mid fields r zeros.0 ∙ ap (λ x. flat_map item_bits items ++ x) (rest zeros.1) ∙ sym (append_assoc (flat_map item_bits items) (subset_bits subsets) suffix)
+subset_split course items subsets bits mid suffix fields r rest plus = search (rules, first_zeros, items_split, append_assoc)
 
 -- ---- Compressed data.
 
 rows_split : (items : List (Item (List Content))) (bits suffix : List Bool) → ArePacked items bits suffix → bits ≡ flat_map row_bits items ++ suffix
 rows_split [] bits suffix c = c
-rows_split (i ∷ items) bits suffix c =
-    c.3 ∙ ap (λ w. w ++ c.1) (sym (ap bits_or_none c.2)) ∙ ap (λ x. row_bits i ++ x) (rows_split items c.1 suffix c.4) ∙ sym (append_assoc (row_bits i) (flat_map row_bits items) suffix)
+rows_split (i ∷ items) bits suffix c = cc (c.3, rows_split items c.1 suffix c.4, append_assoc (row_bits i) (flat_map row_bits items) suffix)
 
 -- ---- The whole message.
 
@@ -107,7 +102,7 @@ data_filled table template s values used at rows legal read writes =
     }
 
 prefix_is : (bits out : List Bool) (used : ℕ) → used ≤ length bits → bits ≡ out ++ drop used bits → out ≡ take used bits
-prefix_is bits out used h1 h2 = grind (arith, nat_tests, common_steps)
+prefix_is bits out used h1 h2 = grind (arith, common_steps)
 
 pub canonical_encoded : (table : List Row) (sequences : List Sequence) (m : List ℕ) (s : Sections) (template : Tree) (values : Values) (used at : ℕ) → AreRead table → IsLegal template
     → IsAccepted table sequences m s template values used → IsCanonical m s values used → encoding_of table sequences (document_of at s (dump_items table s.subsets values)) ≡ Ok m
@@ -120,14 +115,13 @@ canonical_encoded table sequences m s template values used at rows legal a c =
     let f = data_filled table template s values used (at + lines_before s) rows legal a.read c.bits in
     let edition = s.head.edition in
     let made = octets_of_bits f.out in
-    let payload : s.payload ≡ with_even_length edition 4 made = c.least
-    ∙ ap (λ (b : List Bool). with_even_length edition 4 (octets_of_bits b)) (sym (prefix_is bits f.out used a.read.within f.splits)) in
+    let payload : s.payload ≡ with_even_length edition 4 made = cc (c.least, prefix_is bits f.out used a.read.within f.splits) in
     let same : parts_of_document d made ≡ parts_with s made = parts_back at s items made in
-    let short : length made ≤ length s.payload = omega (arith, ap length payload, length-evened edition 4 made, even-least edition (4 + length made)) in
+    let short : length made ≤ length s.payload = omega (arith, ap length payload, length-evened, even-least) in
     let most : message_size edition (parts_with s made) ≤ max_octets = size_least s made max_octets short (not-too-long m s a.sections a.few) in
     let few : message_size edition (parts_of_document d made) ≤ max_octets = subst (λ (p : layout.MessageParts). message_size edition p ≤ max_octets) (sym same) most in
     let fills : data_bits (header_in d).compressed course (subsets_of d.entries)
-    ≡ Ok f.out = fills_as (header_in d).compressed s.compressed course (subsets_of d.entries) f.out (bit_back s.compressed) f.fills in
+    ≡ Ok f.out = search (rules, bit_back) in
     encoded_to table sequences d template f.out a.expands fills few
     ∙ ap (λ (p : layout.MessageParts). Ok (message_octets s.head p)) same
     ∙ ap Ok (sym (written-even s.head s.local1 s.section2 s.descriptors s.subsets s.observed s.compressed made)
@@ -158,7 +152,7 @@ module _ (table : List Row) (template : Tree) (s : Sections) (used at : ℕ) (ro
       → IsFilled b table template s values (subset_entries at (dump_items table s.subsets values))
   in_own_form b values own read =
       let f = filled table template s values used at rows legal read in
-      subst (λ b. IsFilled b table template s values (subset_entries at (dump_items table s.subsets values))) own (record {
+      rw (← own) (record {
         found = values;
         out = f.out;
         fills = f.fills;
@@ -203,7 +197,7 @@ parts_for b s payload = parts_of s.local1 s.section2 s.descriptors s.subsets s.o
 parts_back_as : (form : Form) (at : ℕ) (s : Sections) (items : List (List View)) (payload : List ℕ)
     → parts_as (compressed_as form (document_of at s items)) (document_of at s items) payload ≡ parts_for (compressed_by form s.compressed) s payload
 unfolding parts_for
-parts_back_as form at s items payload = λ j. parts_of s.local1 (section2_back s.section2 j) s.descriptors s.subsets (bit_back s.observed j) (compressed_by form (bit_back s.compressed j)) payload
+parts_back_as form at s items payload = grind (arith, common_steps, section2_back, bit_back)
 
 bits_few : (m : List ℕ) (s : Sections) → sections_of m ≡ Ok s → length m ≤ max_octets → length (bits_of s.payload) ≤ max_values
 bits_few m s e few =
@@ -230,7 +224,7 @@ module _ (form : Form) (table : List Row) (sequences : List Sequence) (m : List 
       let given = sections_given m s a.octets a.sections in
       let w = is_message s.head parts f.out given.head given.local1 given.section2 given.descriptors given.few refl few in
       record {
-        few = omega (arith, few, w.long);
+        few = omega (arith, w.long);
         octets = w.octets;
         framed = w.framed;
         sections = sections_from s.head parts;
@@ -276,12 +270,12 @@ not_written table sequences m s template values used at a f =
     let d = document_of at s (dump_items table s.subsets values) in
     let is : encoding_in form.Compressed table sequences d ≡ Err (fault.Item f.line f.why) =
     data_refused form.Compressed table sequences d template (fault.Item f.line f.why) a.expands (ap (map_err document_fault) f.is) in
-    subst (IsFormed form.Compressed table s template values) (sym is) f.unlike
+    grind (arith, common_steps)
 
 as_it_is : (table : List Row) (m : List ℕ) (s : Sections) (template : Tree) (values : Values) (used at : ℕ) (sequences : List Sequence) → length m ≤ max_octets
     → IsEncodedAgain table sequences m s template values (document_of at s (dump_items table s.subsets values))
     → IsFormed form.AsWritten table s template values (encoding_in form.AsWritten table sequences (document_of at s (dump_items table s.subsets values)))
-as_it_is table m s template values used at sequences h1 h2 = grind (arith, nat_tests, common_steps)
+as_it_is table m s template values used at sequences h1 h2 = grind arith
 
 -- In each form, the document of an accepted message is encoded to a message with the same items, or
 -- it has a fault that is possible in this form.
@@ -306,7 +300,7 @@ formed form.Compressed table sequences m s template values used at rows legal a 
 pub answered : (form : Form) (table : List Row) (s : Sections) (template : Tree) (values : Values) (defined : Result (List ℕ) DocumentFault) (why : DocumentFault)
     → IsFormed form table s template values defined → IsDocumentRefusal why defined → IsFaultIn form why
 answered form table s template values defined why h (inl out) = inl out
-answered form table s template values defined why h (inr is) = inr (subst (IsFormed form table s template values) is h)
+answered form table s template values defined why h (inr is) = grind arith
 
 -- the same for a table that was read from records
 pub formed_of : (form : Form) (records : List Record) (table : List Row) (sequences : List Sequence) (m : List ℕ) (s : Sections) (template : Tree) (values : Values) (used at : ℕ) (d : Document)
@@ -319,22 +313,17 @@ formed_of form records table sequences m s template values used at d rows a same
 pub form_so : (form : Form) (table : List Row) (s : Sections) (template : Tree) (values : Values) (defined : Result (List ℕ) DocumentFault) (r : Result (Vec ℕ Global) DocumentFault)
     → IfOk r (λ octets. defined ≡ Ok octets.items) → IfErr r (λ why. IsDocumentRefusal why defined)
     → IsFormed form table s template values defined → EncodesForm form table s template values r
-form_so form table s template values defined (Ok octets) ok err h = subst (IsFormed form table s template values) ok h
-form_so form table s template values defined (Err why) ok err h = answered form table s template values defined why h err
+form_so form table s template values defined r ok err h = grind arith
 
 -- A document that can be encoded is rejected only if memory runs out.
 pub memory_alone : (why : DocumentFault) (defined : Result (List ℕ) DocumentFault) (octets : List ℕ) → defined ≡ Ok octets → IsDocumentRefusal why defined → why ≡ fault.Memory
 memory_alone why defined octets is (inl out) = out
-memory_alone why defined octets is (inr refused) = let both : ◌≡◌ {A = Result (List ℕ) DocumentFault} (Ok octets) (Err why) = sym is ∙ refused in cc
+memory_alone why defined octets is (inr refused) = cc
 
 pub again_so : (table : List Row) (sequences : List Sequence) (m : List ℕ) (s : Sections) (template : Tree) (values : Values) (d : Document) (r : Result (Vec ℕ Global) DocumentFault)
     → IfOk r (λ octets. encoding_of table sequences d ≡ Ok octets.items) → IfErr r (λ why. IsDocumentRefusal why (encoding_of table sequences d))
     → IsEncodedAgain table sequences m s template values d → EncodesAgain table m s template values r
-again_so table sequences m s template values d (Ok octets) ok err h =
-    let same : ◌≡◌ {A = Result (List ℕ) DocumentFault} (Ok h.octets) (Ok octets.items) = sym h.is ∙ ok in
-    let is : h.octets ≡ octets.items = cc in
-    subst (HasSameReading table m s template values) is h.same
-again_so table sequences m s template values d (Err why) ok err h = memory_alone why _ h.octets h.is err
+again_so table sequences m s template values d r ok err h = grind arith
 
 -- ---- A canonical message is encoded in another form, and back to the same octets.
 

@@ -2,17 +2,17 @@
 -- of the parser is valid after every line.
 use Rattle.bufr_text.proofs.LineLemmas.{both}
 use Rattle.bufr_fill.proofs.EntryLemmas.{length-prepended}
-use Rattle.std.proofs.Common.{◌≡◌, ℕ, ◌+◌, List, [], ◌∷◌, ◌++◌, length, refl, ap, ◌∙◌, subst, sym, arith, zero, suc, ◌-◌, ◌*◌, ◌<◌, ◌≤◌, ◌==◌, nat_le, nat_lt, Bool, true, false, Option, Some, None, codes, if◌then◌else◌, length-append, cond, map, take, drop, get_or, ◌&&◌, not, IfSome, slice_index, option_map, position}
-use Rattle.std.specs.List.{AllByRecursion, position_from, prefix_len}
+use Rattle.std.proofs.Common.{◌≡◌, ℕ, ◌+◌, List, [], ◌∷◌, ◌++◌, length, refl, ap, ◌∙◌, subst, sym, arith, zero, suc, ◌-◌, ◌*◌, ◌<◌, ◌≤◌, ◌==◌, nat_le, nat_lt, Bool, true, false, Option, Some, None, codes, if◌then◌else◌, length-append, cond, map, take, drop, get_or, ◌&&◌, not, IfSome, slice_index, option_map, position, rules}
+use Rattle.std.specs.List.{AllByRecursion, position_from}
 use Rattle.bufr_fill.specs.Prelude.{Draft, DraftEntry, Holds, Ends, Subset, prepend_to_subset, subsets_of, DraftValue, number_token, text_form, missing_form, reference_token, draft, HasOctets, AllHaveOctets, AreOctets}
-use Rattle.bufr_text.specs.Prelude.{header_in, Document, read_line, Between, Heading, BeforeSubsets, Filling, Stopped, LineEffect, Parsing, LineStep, IsLineStep, in_range, heading, before_subsets, in_subset, beginning, closing, with_entry, line_step, are_in_range, IsHeaded, IsOctet, IsDescriptorWord, AreEnded, IsBare, HasLineGroups, EntryHasOctets, HasSubsets, IsParsing, without_space, upper_value, either_value, pair_value, onto_read, hex_read, fxy_read, descriptors_read, number_read, QuotedToken, Octet, quoting_of, quoted_on, quoted_read, is_number_octet, is_passed_after, Line, Passed, Opens, Header, Local1, Section2, Descriptors, Begins, ItemLine, Closes, Wrong, keys, made, with_one_to, item_if_comment, number_value, value_read, valued, item_line, worded, line_of, leasts, mosts, is_named, lead_of}
+use Rattle.bufr_text.specs.Prelude.{header_in, Document, read_line, Between, Heading, BeforeSubsets, Filling, Stopped, LineEffect, Parsing, LineStep, IsLineStep, in_range, heading, before_subsets, in_subset, beginning, closing, with_entry, line_step, are_in_range, IsHeaded, IsOctet, IsDescriptorWord, AreEnded, IsBare, HasLineGroups, EntryHasOctets, HasSubsets, IsParsing, without_space, either_value, pair_value, onto_read, hex_read, fxy_read, descriptors_read, number_read, QuotedToken, Octet, quoting_of, quoted_on, quoted_read, is_passed_after, Line, Passed, Opens, Header, Local1, Section2, Descriptors, Begins, ItemLine, Closes, Wrong, keys, made, with_one_to, item_if_comment, number_value, value_read, valued, item_line, worded, line_of, leasts, mosts, is_named, lead_of}
 use Rattle.bufr_text.specs.declared.document.LineGroup.{LineGroup}
 use Rattle.bufr_text.specs.declared.document.LineGroup.TheVariants as group
 use Rattle.std.specs.Str.{bytes_eq}
 use Rattle.std.proofs.lemmas.Bool.Decides.{nat_tests}
 use Rattle.bufr_bits.proofs.DecimalLemmas.{and_first, and_second}
 use Rattle.bufr_tables.specs.Prelude.{fxy_of, is_fxy, f_in, x_in, y_in}
-use Rattle.bufr_frame.specs.Prelude.{IsFitting, is_edition, greatest_values, values_of, greatest, head_by}
+use Rattle.bufr_frame.specs.Prelude.{IsFitting, is_edition, greatest_values, values_of}
 use Rattle.bufr_frame.proofs.AgainLemmas.{at-most, by-third}
 use Rattle.std.proofs.lemmas.Iterator.Adapters.{position_from-zero}
 use Rattle.std.proofs.lemmas.Grind.{common_steps}
@@ -64,7 +64,7 @@ drafts-octets (Ends line ∷ es) (h, all) = (tt, drafts-octets es all)
 
 -- If nothing was read after the header, the groups of lines are valid.
 pub written-bare : (d : Document) → IsBare d → HasLineGroups d
-written-bare d h1 = grind (arith, nat_tests, common_steps)
+written-bare d h1 = grind arith
 
 -- ---- The contents of a line are octets and descriptors.
 
@@ -81,14 +81,13 @@ if-some P true x y p q = p refl
 if-some P false x y p q = q refl
 
 either-digit : (c : ℕ) → IfSome (either_value c) (λ n. n < 16)
-either-digit c = if-some (λ n. n < 16) (nat_le 97 c && nat_le c 102) (Some (c - 87)) (upper_value c)
-    (λ h. let le : nat_le c 102 ≡ true = and_second (nat_le 97 c) (nat_le c 102) h in grind (arith, nat_tests, le)) (λ _. grind (arith, nat_tests, common_steps))
+either-digit c = grind (arith, nat_tests)
 
 pair-octet : (high low : Option ℕ) → IfSome high (λ n. n < 16) → IfSome low (λ n. n < 16) → IfSome (pair_value high low) IsOctet
-pair-octet high low h1 h2 = grind (arith, nat_tests, common_steps)
+pair-octet high low h1 h2 = grind arith
 
 onto-all : (P : ℕ → Type 0) (x : Option ℕ) (xs : Option (List ℕ)) → IfSome x P → IfSome xs (λ l. AllByRecursion P l) → IfSome (onto_read x xs) (λ l. AllByRecursion P l)
-onto-all P x xs h1 h2 = grind (arith, nat_tests, common_steps)
+onto-all P x xs h1 h2 = grind arith
 
 hex-octets : (text : List ℕ) → IfSome (hex_read text) (λ l. AllByRecursion IsOctet l)
 unfolding hex_read
@@ -99,7 +98,7 @@ hex-octets text = tt
 -- ---- Descriptors.
 
 fxy-fits : (text : List ℕ) → is_fxy text ≡ true → 16384 * f_in text + 256 * x_in text + y_in text < 65536
-fxy-fits text h1 = grind (arith, nat_tests, common_steps, and_first, and_second)
+fxy-fits text h1 = grind arith
 
 descriptors-words : (text : List ℕ) → IfSome (descriptors_read text) (λ l. AllByRecursion IsDescriptorWord l)
 unfolding descriptors_read
@@ -117,11 +116,11 @@ SaysOctet (Octet octet written) = octet < 256
 SaysOctet other = Unit {0}
 
 quoting-says : (text : List ℕ) → SaysOctet (quoting_of text)
-quoting-says text = grind (arith, nat_tests, common_steps)
+quoting-says text = grind (arith, nat_tests)
 
 quoted-on : (q : QuotedToken) (closed : List ℕ) (more : ℕ → Option (List ℕ × List ℕ)) → SaysOctet q → ((skip : ℕ) → IfSome (more skip) (λ r. AreOctets (r.0)))
     → IfSome (quoted_on q closed more) (λ r. AreOctets (r.0))
-quoted-on q closed more h1 h2 = grind (arith, nat_tests, common_steps)
+quoted-on q closed more h1 h2 = grind arith
 
 quoted-octets : (skip : ℕ) (text : List ℕ) → IfSome (quoted_read skip text) (λ r. AreOctets (r.0))
 unfolding quoted_read
@@ -140,20 +139,14 @@ missing-sound (Some rest) = tt
 missing-sound None = tt
 
 number-sound : (text : List ℕ) → IfSome (number_value number_token text) (λ r. HasOctets (r.0))
-number-sound [] = tt
-number-sound (c ∷ more) =
-    let n = prefix_len is_number_octet (c ∷ more) in
-    if-some (λ r. HasOctets (r.0)) (is_number_octet c) (Some (number_token (take n (c ∷ more)), drop n (c ∷ more))) None (λ _. tt) (λ _. tt)
+number-sound text = grind (arith, common_steps, if-some)
 
 reference-sound : (text : List ℕ) → IfSome (number_value reference_token text) (λ r. HasOctets (r.0))
-reference-sound [] = tt
-reference-sound (c ∷ more) =
-    let n = prefix_len is_number_octet (c ∷ more) in
-    if-some (λ r. HasOctets (r.0)) (is_number_octet c) (Some (reference_token (take n (c ∷ more)), drop n (c ∷ more))) None (λ _. tt) (λ _. tt)
+reference-sound text = grind (arith, common_steps)
 
 value-sound : (text : List ℕ) → IfSome (value_read text) (λ r. HasOctets (r.0))
 unfolding value_read
-value-sound text = grind (arith, nat_tests, common_steps, if-some, text-sound, quoted-octets, number-sound, missing-sound)
+value-sound text = grind (arith, text-sound, quoted-octets)
 
 -- ---- Whole lines.
 
@@ -192,7 +185,8 @@ unfolding worded
 worded-sound word rest =
     if-line (bytes_eq word (codes "message")) _ _ (if-line (length rest == 0) Opens Wrong tt tt)
     (if-line (bytes_eq word (codes "local1")) _ _ (made-always (λ text. made (with_one_to 32 Local1) (hex_read text)) (without_space rest) (λ text. local1-sound (hex_read text) (hex-octets text)))
-    (if-line (bytes_eq word (codes "section2")) _ _ (made-always (λ text. made (with_one_to 32 Section2) (hex_read text)) (without_space rest) (λ text. section2-sound (hex_read text) (hex-octets text)))
+    (if-line (bytes_eq word (codes "section2")) _ _ (made-always (λ text. made (with_one_to 32 Section2) (hex_read text)) (without_space rest)
+    (λ text. section2-sound (hex_read text) (hex-octets text)))
     (if-line (bytes_eq word (codes "descriptors")) _ _ (descriptors-sound (descriptors_read rest) (descriptors-words rest))
     (if-line (bytes_eq word (codes "subset")) _ _ (made-always (λ text. made Begins (number_read text)) (without_space rest) (λ text. made-always Begins (number_read text) (λ n. tt)))
     (if-line (bytes_eq word (codes "R")) _ _ (made-always (item_line (number_value reference_token)) (without_space rest) (λ text. item-line-sound (number_value reference_token) text reference-sound))
@@ -202,7 +196,7 @@ worded-sound word rest =
 
 line-sound : (line : List ℕ) → IsSound (line_of line)
 unfolding line_of
-line-sound line = grind (arith, nat_tests, common_steps, if-line, item-line-sound, value-sound, worded-sound)
+line-sound line = grind (arith, if-line, item-line-sound, value-sound, worded-sound)
 
 pub said-sound : (line : List ℕ) → IsSound (read_line line)
 said-sound line = if-line (nat_lt 4096 (length line)) Wrong (line_of line) tt (line-sound line)
@@ -210,7 +204,7 @@ said-sound line = if-line (nat_lt 4096 (length line)) Wrong (line_of line) tt (l
 -- ---- A header value is at most the greatest value of its key.
 
 below : (a b c : ℕ) → (nat_le a b && nat_le b c) ≡ true → b ≤ c
-below a b c h = let le : nat_le b c ≡ true = and_second (nat_le a b) (nat_le b c) h in grind (arith, nat_tests, le)
+below a b c h = grind arith
 
 value-most : (e k i : ℕ) (xs : List ℕ) → are_in_range e k xs ≡ true → slice_index xs i ≤ slice_index (mosts e) (k + i)
 value-most e k i [] h = omega arith
@@ -224,11 +218,11 @@ value-most e k (suc i) (x ∷ xs) h =
 pub header-most : (d : Document) (i : ℕ) → IsHeaded d → slice_index d.header i ≤ slice_index (mosts (header_in d).head.edition) i
 header-most d i h =
     let same : 0 + i ≡ i = omega arith in
-    subst (λ (n : ℕ). slice_index d.header i ≤ slice_index (mosts (header_in d).head.edition) n) same (value-most (header_in d).head.edition 0 i d.header h.ranges)
+    search (rules, value-most)
 
 pub subsets-few : (d : Document) → IsHeaded d → (header_in d).subsets < 65536
 unfolding mosts
-subsets-few d h = let most : slice_index d.header 19 ≤ 65535 = header-most d 19 h in omega (arith, most)
+subsets-few d h = omega (arith, header-most)
 
 -- No greatest value of edition 3 is above that of edition 4.
 none-above : List ℕ → List ℕ → Bool
@@ -240,7 +234,7 @@ no-wider : (xs bs : List ℕ) (i : ℕ) → none-above xs bs ≡ true → slice_
 unfolding none-above
 no-wider [] bs i h = omega arith
 no-wider (a ∷ xs) [] i h = absurd cc
-no-wider (a ∷ xs) (b ∷ bs) zero h = let le : nat_le a b ≡ true = and_first (nat_le a b) (none-above xs bs) h in grind (arith, nat_tests, le)
+no-wider (a ∷ xs) (b ∷ bs) zero h = grind arith
 no-wider (a ∷ xs) (b ∷ bs) (suc i) h = no-wider xs bs i (and_second (nat_le a b) (none-above xs bs) h)
 
 widest : (e i : ℕ) → slice_index (mosts e) i ≤ slice_index (mosts 4) i
@@ -250,10 +244,7 @@ widest e i = by-third (λ l. slice_index (4 ∷ l ++ 1 ∷ 1 ∷ 1 ∷ 65535 ∷
 -- Any edition other than 3 has the greatest values of edition 4.
 pub mosts-of-4 : (e : ℕ) → (e ≡ 3 → ⊥) → mosts e ≡ mosts 4
 unfolding mosts
-mosts-of-4 e other =
-    let no : (e == 3) ≡ false = grind (arith, nat_tests, other) in
-    let P : Bool → Type 0 = λ third. 4 ∷ values_of (head_by e (λ key in_4 in_3. greatest (if third then in_3 else in_4))) ++ 1 ∷ 1 ∷ 1 ∷ 65535 ∷ [] ≡ mosts 4 in
-    subst P (sym no) refl
+mosts-of-4 e other = grind (arith, common_steps)
 
 pub header-widest : (d : Document) (i : ℕ) → IsHeaded d → slice_index d.header i ≤ slice_index (mosts 4) i
 header-widest d i h = omega (arith, header-most d i h, widest (header_in d).head.edition i)
@@ -261,11 +252,11 @@ header-widest d i h = omega (arith, header-most d i h, widest (header_in d).head
 -- ---- The header values fit in section 1.
 
 value-least : (e : ℕ) (xs : List ℕ) → 0 < length xs → are_in_range e 0 xs ≡ true → in_range e 0 (slice_index xs 0) ≡ true
-value-least e [] some h = absurd (omega (arith, some))
+value-least e [] some h = absurd (omega arith)
 value-least e (x ∷ xs) some h = and_first (in_range e 0 x) (are_in_range e 1 xs) h
 
 known : (n : ℕ) → (nat_le 3 n && nat_le n 4) ≡ true → is_edition n ≡ true
-known n h1 = grind (arith, nat_tests, common_steps)
+known n h1 = grind arith
 
 pub headed-fits : (d : Document) → IsHeaded d → IsFitting (header_in d).head
 unfolding leasts mosts
@@ -320,7 +311,7 @@ ranges-again (x ∷ xs) v h g =
     ranges-more x 0 (x ∷ xs) v h (ap (λ (n : ℕ). in_range x n v) (sym same) ∙ g)
 
 pub later : (at : ℕ) (parsing : Parsing) → IsParsing at parsing → IsParsing (at + 1) parsing
-later at parsing h1 = grind (arith, nat_tests, common_steps)
+later at parsing h1 = grind arith
 
 if-so : (at : ℕ) (b : Bool) (x y : LineStep) → (b ≡ true → IsLineStep at x) → (b ≡ false → IsLineStep at y) → IsLineStep at (if b then x else y)
 if-so at true x y p q = p refl
@@ -331,7 +322,7 @@ if-effect at true x y d p q = p refl
 if-effect at false x y d p q = q refl
 
 same-key : (key n : ℕ) → not (key == n) ≡ false → key ≡ n
-same-key key n h1 = grind (arith, nat_tests, common_steps)
+same-key key n h1 = grind arith
 
 not-false : (b : Bool) → not b ≡ false → b ≡ true
 not-false true e = refl
@@ -344,33 +335,33 @@ value-so : (at key value : ℕ) (d : Document) (b : Bool) → (key == 19) ≡ b 
     → key ≡ length d.header
     → in_range (header_in d).head.edition key value ≡ true → IsBare d
     → IsParsing (at + 1) (if b then BeforeSubsets group.Local1 else Heading, with_value d value)
-value-so at key value d b h1 h2 h3 h4 h5 h6 h7 = grind (arith, nat_tests, common_steps, length-append, ranges-again, written-bare, still-bare)
+value-so at key value d b h1 h2 h3 h4 h5 h6 h7 = grind (arith, length-append, ranges-again)
 
 heading-so : (at key value : ℕ) (d : Document) → length d.header < 20 → are_in_range (header_in d).head.edition 0 d.header ≡ true → length d.entries < at → IsBare d
     → IsLineStep (at + 1) (heading d (Header key value))
-heading-so at key value d h1 h2 h3 h4 = grind (arith, nat_tests, common_steps, if-so, value-so, same-key, not-false)
+heading-so at key value d h1 h2 h3 h4 = grind (arith, value-so)
 
 subset-few : (a b n : ℕ) → ((a == b) && nat_le a n) ≡ true → a ≤ n
-subset-few a b n h = let le : nat_le a n ≡ true = and_second (a == b) (nat_le a n) h in grind (arith, nat_tests, le)
+subset-few a b n h = grind arith
 
 same-number : (a b n : ℕ) → ((a == b) && nat_le a n) ≡ true → a ≡ b
-same-number a b n h = let is : (a == b) ≡ true = and_first (a == b) (nat_le a n) h in grind (arith, nat_tests, is)
+same-number a b n h = grind arith
 
 beginning-so : (at read subset : ℕ) (d : Document) → IsHeaded d → length d.entries < at + 1 → HasLineGroups d → HasSubsets read d → IsLineStep (at + 1) (beginning read d subset, d)
-beginning-so at read subset d h1 h2 h3 h4 = grind (arith, nat_tests, common_steps, if-effect, subset-few, subsets-few, same-number)
+beginning-so at read subset d h1 h2 h3 h4 = grind (arith, subsets-few)
 
 pub equal : (a b : ℕ) → (a == b) ≡ true → a ≡ b
-equal a b e = grind (arith, nat_tests, e)
+equal a b e = grind arith
 
 closing-so : (at read : ℕ) (d : Document) → IsHeaded d → length d.entries ≤ at → HasLineGroups d → HasSubsets read d → AreEnded d.entries → IsLineStep (at + 1) (closing read d, d)
-closing-so at read d h1 h2 h3 h4 h5 = grind (arith, nat_tests, common_steps, if-effect, drafts-octets, equal)
+closing-so at read d h1 h2 h3 h4 h5 = grind (arith, drafts-octets)
 
 before_subsets-so : (at : ℕ) (part : LineGroup) (d : Document) (line : Line) → IsSound line → IsHeaded d → length d.entries < at → HasLineGroups d → d.entries ≡ []
     → IsLineStep (at + 1) (before_subsets part d line)
-before_subsets-so at part d line h1 h2 h3 h4 h5 = grind (arith, nat_tests, common_steps)
+before_subsets-so at part d line h1 h2 h3 h4 h5 = grind (arith, common_steps)
 
 one-entry : (d : Document) (entry : DraftEntry) → length (with_entry d entry).entries ≡ length d.entries + 1
-one-entry d entry = omega (arith, length-append d.entries (entry ∷ []))
+one-entry d entry = simp length-append
 
 -- Another entry does not change the other parts of a document.
 still-headed : (d : Document) (entry : DraftEntry) → IsHeaded d → IsHeaded (with_entry d entry)
@@ -380,19 +371,19 @@ still-written : (d : Document) (entry : DraftEntry) → HasLineGroups d → HasL
 still-written d entry written = record { local1 = written.local1; section2 = written.section2; no_section2 = written.no_section2; descriptors = written.descriptors }
 
 one-more : (at ended : ℕ) (d : Document) → HasSubsets ended d → HasSubsets (ended + 1) (with_entry d (Ends at))
-one-more at ended d h1 = grind (arith, nat_tests, common_steps, all-more, end-ends-one)
+one-more at ended d h1 = grind (arith, all-more, end-ends-one)
 
 by-number : (subset ended : ℕ) (d : Document) → subset ≡ ended + 1 → HasSubsets (ended + 1) d → HasSubsets subset d
-by-number subset ended d is has = subst (λ (n : ℕ). HasSubsets n d) (sym is) has
+by-number subset ended d is has = rw is has
 
 in_subset-so : (at subset : ℕ) (d : Document) (line : Line) → IsSound line → IsHeaded d → length d.entries < at → subset < 65536 → HasLineGroups d
     → ((ended : ℕ) × (subset ≡ ended + 1) × HasSubsets ended d) → IsLineStep (at + 1) (in_subset at subset d line)
 in_subset-so at subset d (Begins next) sound h lines few written (ended, is, has) =
-    beginning-so at subset next (with_entry d (Ends at)) (still-headed d (Ends at) h) (omega (arith, lines, one-entry d (Ends at))) (still-written d (Ends at) written)
+    beginning-so at subset next (with_entry d (Ends at)) (still-headed d (Ends at) h) (omega (arith, one-entry)) (still-written d (Ends at) written)
     (by-number subset ended (with_entry d (Ends at)) is (one-more at ended d has))
 in_subset-so at subset d (ItemLine fxy form) sound h lines few written (ended, is, has) = (
   still-headed d (Holds (draft at fxy form)) h,
-  omega (arith, lines, one-entry d (Holds (draft at fxy form))),
+  omega (arith, one-entry),
   few,
   still-written d (Holds (draft at fxy form)) written,
   (
@@ -427,7 +418,7 @@ line_step-holds at parsing line some sound s = tt
 
 -- The lead of a key contains the name of this key.
 named : (key : List ℕ) (name : List ℕ) → is_named (lead_of key) name ≡ bytes_eq name key
-named key name = grind (arith, nat_tests, common_steps)
+named key name = grind (arith, common_steps)
 
 -- A key has the same index in the code's table as in the definition.
 module _ {Row : Type 0} (lead : Row → List ℕ) (name : List ℕ) where
@@ -448,16 +439,16 @@ module _ {Row : Type 0} (lead : Row → List ℕ) (name : List ℕ) where
 -- The lead of a key, without its first octet, is the key's name and a space.
 module _ {Row : Type 0} (lead : Row → List ℕ) where
   lead_at : (rows : List Row) (ks : List (List ℕ)) (i : ℕ) (d : Row) → map lead rows ≡ map lead_of ks → i < length rows → lead (get_or rows i d) ≡ lead_of (get_or ks i [])
-  lead_at [] ks i d same below = absurd (omega (arith, below))
+  lead_at [] ks i d same below = absurd (omega arith)
   lead_at (row ∷ rows) [] i d same below = absurd cc same
   lead_at (row ∷ rows) (k ∷ ks) zero d same below = cc
   lead_at (row ∷ rows) (k ∷ ks) (suc i) d same below =
       let rest : map lead rows ≡ map lead_of ks = cc in
-      lead_at rows ks i d rest (omega (arith, below))
+      lead_at rows ks i d rest (omega arith)
 
   take_all : (xs : List ℕ) → take (length xs) xs ≡ xs
   take_all [] = refl
-  take_all (x ∷ xs) = ap (λ l. x ∷ l) (take_all xs)
+  take_all (x ∷ xs) = cc (take_all xs)
 
   pub word_there : (rows : List Row) (i : ℕ) (row : Row) → map lead rows ≡ map lead_of keys → i < length rows → row ≡ get_or rows i row
       → take (length (lead row) - 1) (drop 1 (lead row)) ≡ get_or keys i [] ++ 32 ∷ []
@@ -465,12 +456,12 @@ module _ {Row : Type 0} (lead : Row → List ℕ) where
       let is_lead : lead row ≡ lead_of (get_or keys i []) = ap lead is ∙ lead_at rows keys i row same below in
       let word : List ℕ = get_or keys i [] ++ 32 ∷ [] in
       let count : length (10 ∷ word) - 1 ≡ length word = omega arith in
-      ap (λ l. take (length l - 1) (drop 1 l)) is_lead ∙ ap (λ n. take n word) count ∙ take_all word
+      cc (is_lead, count, take_all word)
 
 pub ruleset octet_steps = (header-widest)
 
 -- a value from a row of the table
 pub at-key : {X : Type 0} (f : X → ℕ) (rows : List X) (k : ℕ) (none : X) → k < length rows → f (get_or rows k none) ≡ slice_index (map f rows) k
-at-key f [] k none h = absurd (omega (arith, h))
+at-key f [] k none h = absurd (omega arith)
 at-key f (x ∷ rows) zero none h = refl
-at-key f (x ∷ rows) (suc k) none h = at-key f rows k none (omega (arith, h))
+at-key f (x ∷ rows) (suc k) none h = at-key f rows k none (omega arith)

@@ -54,7 +54,7 @@ fxy-six text h = absurd (omega arith)
 
 pub fxy-few : (text : List ℕ) → length text < 6 → fxy_read text ≡ None
 unfolding fxy_read
-fxy-few text h1 = grind (arith, nat_tests, common_steps)
+fxy-few text h1 = grind arith
 
 pub ruleset by_six = (fxy-six, fxy-few)
 
@@ -94,7 +94,7 @@ pub token-stop : (text : List ℕ) (at : ℕ) → IsTokenTo text at → at < len
 token-stop text at h some is = omega (arith, h.ahead, prefix_len-drop_no is_number_octet text at 0 some is)
 
 pub token-end : (text : List ℕ) (at : ℕ) → IsTokenTo text at → length text ≤ at → at ≡ prefix_len is_number_octet text
-token-end text at h past = omega (arith, h.ahead, prefix_len-drop_all is_number_octet text at past)
+token-end text at h past = omega (arith, h.ahead, prefix_len-drop_all)
 
 -- ---- Values.
 
@@ -107,21 +107,21 @@ missing_value text = option_map (λ rest. (missing_form, rest)) (without_prefix 
 pub value-quote : (text : List ℕ) → slice_index text 0 ≡ 34 → value_read text ≡ text_value (drop 1 text)
 unfolding value_read
 value-quote [] e = absurd (omega arith)
-value-quote (c ∷ more) e = let q : (c == 34) ≡ true = grind (arith, nat_tests, e) in rw q refl
+value-quote (c ∷ more) e = let q : (c == 34) ≡ true = grind arith in rw q refl
 
 pub value-token : (text : List ℕ) → is_number_octet (slice_index text 0) ≡ true
     → value_read text ≡ Some (number_token (take (prefix_len is_number_octet text) text), drop (prefix_len is_number_octet text) text)
 unfolding value_read
-value-token text h1 = grind (arith, nat_tests, common_steps)
+value-token text h1 = grind arith
 
 pub value-word : (text : List ℕ) → (slice_index text 0 ≡ 34 → ⊥) → is_number_octet (slice_index text 0) ≡ false → value_read text ≡ missing_value text
 unfolding value_read without_prefix
-value-word text h1 h2 = grind (arith, nat_tests, common_steps)
+value-word text h1 h2 = grind arith
 
 -- the value of a missing item, and the text after the word `MISSING`
 pub value-missing : (text rest : List ℕ) → Some rest ≡ without_prefix (codes "MISSING") text → value_read text ≡ Some (missing_form, rest)
 unfolding value_read without_prefix
-value-missing text rest h = grind (arith, nat_tests, common_steps, h)
+value-missing text rest h = grind (arith, h)
 
 pub word-is : (word text : List ℕ) (r : Option (Bor (List ℕ))) → MatchOption r (bytes_eq (take (length word) text) word ≡ false)
     (λ x. (bytes_eq (take (length word) text) word ≡ true) × (x.now ≡ drop (length word) text) × (length x.now + length word ≡ length text)) → option_map (λ s. s.now) r ≡ without_prefix word text
@@ -133,37 +133,35 @@ octets-while : (text : List ℕ) (count : ℕ) → count ≤ length text → lis
     → prefix_len is_number_octet text ≡ count
 octets-while [] zero le all stop = refl
 octets-while [] (suc count) le all stop = absurd (omega arith)
-octets-while (c ∷ text) zero le all stop = ap (λ b. if b then 1 + prefix_len is_number_octet text else 0) stop
+octets-while (c ∷ text) zero le all stop = rw stop
 octets-while (c ∷ text) (suc count) le all stop =
     let one = and_first (is_number_octet c) (list_all is_number_octet (take count text)) all in
     let rest = octets-while text count (omega arith) (and_second (is_number_octet c) (list_all is_number_octet (take count text)) all) stop in
     ap (λ b. if b then 1 + prefix_len is_number_octet text else 0) one ∙ omega (arith, rest)
 
 octet-first : (text : List ℕ) (count : ℕ) → 0 < count → count ≤ length text → list_all is_number_octet (take count text) ≡ true → is_number_octet (slice_index text 0) ≡ true
-octet-first text count h1 h2 h3 = grind (arith, nat_tests, common_steps)
+octet-first text count h1 h2 h3 = grind arith
 
 pub value-decimal : (text token : List ℕ) (count : ℕ) → 0 < count → count ≤ length text → take count text ≡ token → list_all is_number_octet (take count text) ≡ true
     → is_number_octet (slice_index (drop count text) 0) ≡ false → value_read text ≡ Some (number_token token, drop count text)
-value-decimal text token count some le is all stop =
-    value-token text (octet-first text count some le all) ∙ ap (λ n. Some (number_token (take n text), drop n text)) (octets-while text count le all stop)
-    ∙ ap (λ t. Some (number_token t, drop count text)) is
+value-decimal text token count some le is all stop = cc (value-token text (octet-first text count some le all), octets-while text count le all stop)
 
 -- ---- One space.
 
 pub space-none : (text : List ℕ) → length text ≡ 0 → without_space text ≡ None
 unfolding without_prefix
 space-none [] h = refl
-space-none (c ∷ more) h = absurd (omega (arith, h))
+space-none (c ∷ more) h = absurd (omega arith)
 
 pub space-there : (text : List ℕ) → slice_index text 0 ≡ 32 → without_space text ≡ Some (drop 1 text)
 unfolding without_prefix
 space-there [] e = absurd (omega arith)
-space-there (c ∷ more) e = let q : (c == 32) ≡ true = grind (arith, nat_tests, e) in rw q refl
+space-there (c ∷ more) e = let q : (c == 32) ≡ true = grind arith in rw q refl
 
 pub space-absent : (text : List ℕ) → (slice_index text 0 ≡ 32 → ⊥) → without_space text ≡ None
 unfolding without_prefix
 space-absent [] e = refl
-space-absent (c ∷ more) e = let q : (c == 32) ≡ false = grind (arith, nat_tests, e) in rw q refl
+space-absent (c ∷ more) e = let q : (c == 32) ≡ false = grind arith in rw q refl
 
 pub ruleset space_steps = (space-none, space-there, space-absent)
 
@@ -173,11 +171,11 @@ pub ruleset value_steps = (value-quote, value-token, value-word)
 
 hashed-one : (c : ℕ) (more : List ℕ) → c ≡ 32 → is_hashed (c ∷ more) ≡ is_hashed more
 unfolding is_hashed
-hashed-one c more e = let q : (c == 32) ≡ true = grind (arith, nat_tests, e) in rw q refl
+hashed-one c more e = let q : (c == 32) ≡ true = grind arith in rw q refl
 
 hashed-stop : (c : ℕ) (more : List ℕ) → (c ≡ 32 → ⊥) → is_hashed (c ∷ more) ≡ (c == 35)
 unfolding is_hashed
-hashed-stop c more e = let q : (c == 32) ≡ false = grind (arith, nat_tests, e) in rw q refl
+hashed-stop c more e = let q : (c == 32) ≡ false = grind arith in rw q refl
 
 pub hashed-space : (text : List ℕ) (at : ℕ) → at < length text → slice_index text at ≡ 32 → is_hashed (drop at text) ≡ is_hashed (drop (at + 1) text)
 hashed-space text at h e = ap is_hashed (one-on text at h) ∙ hashed-one (slice_index text at) (drop (at + 1) text) e
@@ -191,11 +189,11 @@ hashed-end text at h = ap is_hashed (drop_all at text h)
 
 pub passed-space : (text : List ℕ) → slice_index text 0 ≡ 32 → is_passed_after text ≡ is_hashed text
 passed-space [] e = absurd (omega arith)
-passed-space (c ∷ more) e = let q : (c == 32) ≡ true = grind (arith, nat_tests, e) in rw q (sym (hashed-one c more e))
+passed-space (c ∷ more) e = let q : (c == 32) ≡ true = grind arith in rw q (sym (hashed-one c more e))
 
 pub passed-other : (text : List ℕ) → 0 < length text → (slice_index text 0 ≡ 32 → ⊥) → is_passed_after text ≡ false
 passed-other [] some e = absurd (omega arith)
-passed-other (c ∷ more) some e = let q : (c == 32) ≡ false = grind (arith, nat_tests, e) in rw q refl
+passed-other (c ∷ more) some e = let q : (c == 32) ≡ false = grind arith in rw q refl
 
 pub passed-none : (text : List ℕ) → length text ≡ 0 → is_passed_after text ≡ true
 passed-none [] e = refl
@@ -203,7 +201,7 @@ passed-none (c ∷ more) e = absurd (omega arith)
 
 pub passed-comment : (text : List ℕ) → 3 ≤ length text → slice_index text 0 ≡ 32 → slice_index text 1 ≡ 32 → slice_index text 2 ≡ 35 → is_passed_after text ≡ true
 unfolding is_hashed
-passed-comment text h1 h2 h3 h4 = grind (arith, nat_tests, common_steps)
+passed-comment text h1 h2 h3 h4 = grind (arith, common_steps)
 
 pub ruleset hash_steps = (hashed-space, hashed-other, hashed-end, passed-space, passed-other, passed-none, passed-comment)
 
@@ -211,10 +209,7 @@ pub ruleset hash_steps = (hashed-space, hashed-other, hashed-end, passed-space, 
 
 pub reference-some : (text : List ℕ) → is_number_octet (slice_index text 0) ≡ true
     → number_value reference_token text ≡ Some (reference_token (take (prefix_len is_number_octet text) text), drop (prefix_len is_number_octet text) text)
-reference-some [] e = absurd cc
-reference-some (c ∷ more) e =
-    let n = prefix_len is_number_octet (c ∷ more) in
-    ap (λ b. if b then Some (reference_token (take n (c ∷ more)), drop n (c ∷ more)) else None) e
+reference-some text e = grind arith
 
 pub reference-none : (text : List ℕ) → is_number_octet (slice_index text 0) ≡ false → number_value reference_token text ≡ None
 reference-none [] e = refl
@@ -228,7 +223,7 @@ abbrev pub word_len : List ℕ → ℕ
 word_len line = position_or_len (λ octet. octet == 32) line
 
 no-space : (c : ℕ) → ((c == 32) ≡ true → ⊥) → not (c == 32) ≡ true
-no-space c h1 = grind (arith, nat_tests, common_steps)
+no-space c h1 = grind arith
 
 pub word-whole : (line : List ℕ) → ((k : ℕ) → 0 ≤ k → k < length line → (slice_index line k == 32) ≡ true → ⊥) → length line ≡ word_len line
 word-whole [] none = refl
@@ -238,7 +233,7 @@ word-whole (c ∷ line) none =
 
 pub word-to : (line : List ℕ) (n : ℕ) → n < length line → ((k : ℕ) → 0 ≤ k → k < n → (slice_index line k == 32) ≡ true → ⊥) → (slice_index line n == 32) ≡ true → n ≡ word_len line
 word-to [] n h none e = absurd (omega arith)
-word-to (c ∷ line) zero h none e = sym (ap (λ b. if not b then 1 + word_len line else 0) e)
+word-to (c ∷ line) zero h none e = rw e
 word-to (c ∷ line) (suc n) h none e =
     let rest = word-to line n (omega arith) (λ k low below. none (suc k) (omega arith) (omega arith)) e in
     omega (arith, rest) ∙ sym (ap (λ b. if b then 1 + word_len line else 0) (no-space c (none 0 (omega arith) (omega arith))))
@@ -252,23 +247,23 @@ word-at line (Some m) n h is = is ∙ word-to line m h.0.high h.0.before h.1
 pub line-none : (line : List ℕ) → length line ≡ 0 → line_of line ≡ Passed
 unfolding line_of
 line-none [] e = refl
-line-none (c ∷ line) e = absurd (omega (arith, e))
+line-none (c ∷ line) e = absurd (omega arith)
 
 pub line-note : (line : List ℕ) → slice_index line 0 ≡ 35 → line_of line ≡ Passed
 unfolding line_of
 line-note [] e = refl
-line-note (c ∷ line) e = let q : (c == 35) ≡ true = grind (arith, nat_tests, e) in rw q refl
+line-note (c ∷ line) e = let q : (c == 35) ≡ true = grind arith in rw q refl
 
 pub line-item : (line : List ℕ) → (slice_index line 0 ≡ 35 → ⊥) → is_ascii_digit (slice_index line 0) ≡ true → line_of line ≡ item_line value_read line
 unfolding line_of
 line-item [] e d = absurd cc
-line-item (c ∷ line) e d = let q : (c == 35) ≡ false = grind (arith, nat_tests, e) in rw (q, d) refl
+line-item (c ∷ line) e d = let q : (c == 35) ≡ false = grind arith in rw (q, d) refl
 
 pub line-word : (line : List ℕ) → 0 < length line → (slice_index line 0 ≡ 35 → ⊥) → is_ascii_digit (slice_index line 0) ≡ false
     → line_of line ≡ worded (take (word_len line) line) (drop (word_len line) line)
 unfolding line_of
-line-word [] some e d = absurd (omega (arith, some))
-line-word (c ∷ line) some e d = let q : (c == 35) ≡ false = grind (arith, nat_tests, e) in rw (q, d) refl
+line-word [] some e d = absurd (omega arith)
+line-word (c ∷ line) some e d = let q : (c == 35) ≡ false = grind arith in rw (q, d) refl
 
 -- ---- An item line, by its parts.
 
@@ -288,20 +283,17 @@ pub item-line : (line text : List ℕ) (fxy : ℕ) → 6 ≤ length line → Som
     → line_of line ≡ made (item_if_comment fxy) (value_read text)
 item-line line text fxy h space is =
     let digit = begins-by-digit line fxy h is in
-    line-item line (λ (e : slice_index line 0 ≡ 35). absurd (grind (arith, nat_tests, e, digit))) digit
+    line-item line (λ (e : slice_index line 0 ≡ 35). absurd (grind (arith, nat_tests, digit))) digit
     ∙ rw (fxy-six line h, sym is, sym space) refl
 
 -- Six digits are a descriptor if F, X and Y are not too large.
 fits-fxy : (text : List ℕ) (fxy : ℕ) → length text ≡ 6 → list_all is_ascii_digit text ≡ true → f_in text ≤ 3 → x_in text ≤ 63 → y_in text ≤ 255
     → fxy ≡ f_in text * 16384 + x_in text * 256 + y_in text → Some fxy ≡ fxy_of text
-fits-fxy text fxy h1 h2 h3 h4 h5 h6 = grind (arith, nat_tests, common_steps)
+fits-fxy text fxy h1 h2 h3 h4 h5 h6 = grind arith
 
 spaced-line : (line : List ℕ) (f x y fxy : ℕ) → 7 ≤ length line → slice_index line 6 ≡ 32 → list_all is_ascii_digit (take 6 line) ≡ true → f ≤ 3 → x ≤ 63 → y ≤ 255
     → f ≡ f_in line → x ≡ x_in line → y ≡ y_in line → fxy ≡ f * 16384 + x * 256 + y → line_of line ≡ made (item_if_comment fxy) (value_read (drop 7 line))
-spaced-line (a ∷ b ∷ c ∷ d ∷ e ∷ g ∷ s ∷ more) f x y fxy long space digits f-few x-few y-few f-is x-is y-is is =
-    let line = a ∷ b ∷ c ∷ d ∷ e ∷ g ∷ s ∷ more in
-    item-line line more fxy (omega arith) (sym (space-there (s ∷ more) space)) (fits-fxy (take 6 line) fxy refl digits (omega arith) (omega arith) (omega arith) (omega arith))
-spaced-line line f x y fxy long space digits f-few x-few y-few f-is x-is y-is is = absurd (omega arith)
+spaced-line line f x y fxy long space digits h_f_most h_x_most h_y_most h_f_is h_x_is h_y_is is = grind (arith, common_steps, item-line, space-there, fits-fxy)
 
 -- the difference of an octet and `0`, with wrapping
 abbrev pub wrapped : List ℕ → ℕ → ℕ
@@ -315,7 +307,7 @@ is_spaced line =
 
 seven-tests : (a b c d e g s : ℕ) → (nat_lt a 4 && nat_lt b 10 && nat_lt c 10 && nat_lt d 10 && nat_lt e 10 && nat_lt g 10 && (s == 32)) ≡ true
     → (a < 4) × (b < 10) × (c < 10) × (d < 10) × (e < 10) × (g < 10) × (s ≡ 32)
-seven-tests a b c d e g s h1 = grind (arith, nat_tests)
+seven-tests a b c d e g s h1 = grind arith
 
 -- An octet is a digit if this difference is less than 10.
 unwrapped : (line : List ℕ) (at : ℕ) → slice_index line at < 256 → wrapped line at < 10 → slice_index line at ≡ 48 + wrapped line at
@@ -334,7 +326,7 @@ y-is : (line : List ℕ) (d e g m n o : ℕ) → d ≡ m → e ≡ n → g ≡ o
 y-is line d e g m n o h1 h2 h3 h4 h5 h6 = omega arith
 
 is-digit : (c n : ℕ) → c ≡ 48 + n → n < 10 → is_ascii_digit c ≡ true
-is-digit c n h1 h2 = grind (arith, nat_tests)
+is-digit c n h1 h2 = grind arith
 
 all-digits : (line : List ℕ) → 7 ≤ length line → is_ascii_digit (slice_index line 0) ≡ true → is_ascii_digit (slice_index line 1) ≡ true → is_ascii_digit (slice_index line 2) ≡ true
     → is_ascii_digit (slice_index line 3) ≡ true → is_ascii_digit (slice_index line 4) ≡ true → is_ascii_digit (slice_index line 5) ≡ true → list_all is_ascii_digit (take 6 line) ≡ true
@@ -348,16 +340,16 @@ pub spaced-item : (line : List ℕ) (f b c d e g fxy : ℕ) → 8 ≤ length lin
 spaced-item line f b c d e g fxy long fits tests f-is b-is c-is d-is e-is g-is x-few y-few is =
     let (f-few, b-few, c-few, d-few, e-few, g-few, space) =
     seven-tests (wrapped line 0) (wrapped line 1) (wrapped line 2) (wrapped line 3) (wrapped line 4) (wrapped line 5) (slice_index line 6) tests in
-    let first = unwrapped line 0 (fits 0) (omega (arith, f-few)) in
+    let first = unwrapped line 0 (fits 0) (omega arith) in
     let second = unwrapped line 1 (fits 1) b-few in
     let third = unwrapped line 2 (fits 2) c-few in
     let fourth = unwrapped line 3 (fits 3) d-few in
     let fifth = unwrapped line 4 (fits 4) e-few in
     let sixth = unwrapped line 5 (fits 5) g-few in
     let digits =
-    all-digits line (omega (arith, long)) (is-digit _ _ first (omega (arith, f-few))) (is-digit _ _ second b-few) (is-digit _ _ third c-few) (is-digit _ _ fourth d-few)
+    all-digits line (omega arith) (is-digit _ _ first (omega arith)) (is-digit _ _ second b-few) (is-digit _ _ third c-few) (is-digit _ _ fourth d-few)
     (is-digit _ _ fifth e-few) (is-digit _ _ sixth g-few) in
-    spaced-line line f (10 * b + c) (100 * d + 10 * e + g) fxy (omega (arith, long)) space digits (at-most f _ f-is f-few) x-few y-few (digit-is f _ _ f-is first)
+    spaced-line line f (10 * b + c) (100 * d + 10 * e + g) fxy (omega arith) space digits (at-most f _ f-is f-few) x-few y-few (digit-is f _ _ f-is first)
     (x-is line b c _ _ b-is c-is second third) (y-is line d e g _ _ _ d-is e-is g-is fourth fifth sixth) is
 
 pub item-read : (text rest : List ℕ) (fxy : ℕ) (form : DraftValue) → value_read text ≡ Some (form, rest) → is_passed_after rest ≡ true
@@ -368,11 +360,13 @@ pub ruleset read_steps = (line-none, line-note, line-item, line-word)
 
 -- ---- Lines of octets.
 
-pub local1-worded : (word rest : List ℕ) → bytes_eq word (codes "message") ≡ false → bytes_eq word (codes "local1") ≡ true → worded word rest ≡ made (λ text. made (with_one_to 32 Local1) (hex_read text)) (without_space rest)
+pub local1-worded : (word rest : List ℕ) → bytes_eq word (codes "message") ≡ false → bytes_eq word (codes "local1") ≡ true
+    → worded word rest ≡ made (λ text. made (with_one_to 32 Local1) (hex_read text)) (without_space rest)
 unfolding worded
 local1-worded word rest a b = rw (a, b) refl
 
-pub section2-worded : (word rest : List ℕ) → bytes_eq word (codes "message") ≡ false → bytes_eq word (codes "local1") ≡ false → bytes_eq word (codes "section2") ≡ true → worded word rest ≡ made (λ text. made (with_one_to 32 Section2) (hex_read text)) (without_space rest)
+pub section2-worded : (word rest : List ℕ) → bytes_eq word (codes "message") ≡ false → bytes_eq word (codes "local1") ≡ false → bytes_eq word (codes "section2") ≡ true
+    → worded word rest ≡ made (λ text. made (with_one_to 32 Section2) (hex_read text)) (without_space rest)
 unfolding worded
 section2-worded word rest a b d = rw (a, b, d) refl
 
@@ -389,25 +383,25 @@ first-on t h = absurd (omega arith)
 
 few-none : (t : List ℕ) → 0 < length t → length t < 7 → descriptors_read t ≡ None
 unfolding descriptors_read
-few-none t h1 h2 = grind (arith, nat_tests, common_steps)
+few-none t h1 h2 = grind arith
 
 no-space-on : (t : List ℕ) → 7 ≤ length t → (slice_index t 0 ≡ 32 → ⊥) → descriptors_read t ≡ None
 no-space-on t h e =
-    let q : (slice_index t 0 == 32) ≡ false = grind (arith, nat_tests, e) in
+    let q : (slice_index t 0 == 32) ≡ false = grind arith in
     first-on t h ∙ rw q refl
 
 no-fxy-on : (t : List ℕ) → 7 ≤ length t → slice_index t 0 ≡ 32 → fxy_of (take 6 (drop 1 t)) ≡ None → descriptors_read t ≡ None
-no-fxy-on t h1 h2 h3 = grind (arith, nat_tests, common_steps, first-on)
+no-fxy-on t h1 h2 h3 = grind (arith, first-on)
 
 fxy-on : (t : List ℕ) (word : ℕ) → 7 ≤ length t → slice_index t 0 ≡ 32 → fxy_of (take 6 (drop 1 t)) ≡ Some word → descriptors_read t ≡ onto_read (Some word) (descriptors_read (drop 7 t))
-fxy-on t word h1 h2 h3 = grind (arith, nat_tests, common_steps, first-on)
+fxy-on t word h1 h2 h3 = grind (arith, first-on)
 
 onto-more : (xs : List ℕ) (word : ℕ) (read : Option (List ℕ)) → option_map (λ more. xs ++ more) (onto_read (Some word) read) ≡ option_map (λ more. (xs ++ word ∷ []) ++ more) read
 onto-more xs word None = refl
 onto-more xs word (Some read) = ap Some (sym (append_assoc xs (word ∷ []) read))
 
 wrong : (text : List ℕ) → descriptors_read text ≡ None → made (with_one_to 8 Descriptors) (descriptors_read text) ≡ Wrong
-wrong text e = ap (made (with_one_to 8 Descriptors)) e
+wrong text e = rw e
 
 module _ (text out : List ℕ) (count : ℕ) (is : IsDescribing text out count) where
   none-after : descriptors_read (drop (7 * count) text) ≡ None → Describes text out None
@@ -425,7 +419,6 @@ module _ (text out : List ℕ) (count : ℕ) (is : IsDescribing text out count) 
   pub describing-on : (word : ℕ) → 7 ≤ length (drop (7 * count) text) → slice_index (drop (7 * count) text) 0 ≡ 32 → fxy_of (take 6 (drop 1 (drop (7 * count) text))) ≡ Some word
       → IsDescribing text (slice_set out count word) (count + 1)
   describing-on word long e f =
-      let t = drop (7 * count) text in
       let long' = length-drop (7 * count) text in
       let next : 7 * count + 7 ≡ 7 * (count + 1) = omega arith in
       record {
@@ -434,7 +427,7 @@ module _ (text out : List ℕ) (count : ℕ) (is : IsDescribing text out count) 
         short = is.short;
         room = omega (arith, is.room, length-set out count word);
         read = is.read
-            ∙ ap (option_map (λ more. take count out ++ more)) (fxy-on t word long e f)
+            ∙ ap (option_map (λ more. take count out ++ more)) (fxy-on (drop (7 * count) text) word long e f)
             ∙ ap (λ (s : List ℕ). option_map (λ more. take count out ++ more) (onto_read (Some word) (descriptors_read s))) (drop-drop 7 (7 * count) text)
             ∙ onto-more (take count out) word (descriptors_read (drop (7 * count + 7) text))
             ∙ ap (λ (s : List ℕ). option_map (λ more. s ++ more) (descriptors_read (drop (7 * count + 7) text))) (sym (one-set out count word (omega (arith, is.room, is.short, long, long'))))
@@ -447,14 +440,13 @@ module _ (text out : List ℕ) (count : ℕ) (is : IsDescribing text out count) 
       let some : 0 < count = omega (arith, is.some, done) in
       let few : count ≤ 8 = omega (arith, is.within, is.short) in
       let long : length (take count out) ≡ count = omega (arith, length-take count out, is.room, few) in
-      let read : descriptors_read text ≡ Some (take count out) = is.read ∙ ap (λ (t : List ℕ). option_map (λ more. take count out ++ more) (descriptors_read t)) (drop_all (7 * count) text done)
-      ∙ ap Some (append-nil (take count out)) in
+      let read : descriptors_read text ≡ Some (take count out) = rw (is.read, drop_all, append-nil) in
       let bounds : (nat_lt 0 (length (take count out)) && nat_le (length (take count out)) 8) ≡ true = grind (arith, nat_tests, long, some, few) in
       (omega (arith, is.room, few), ap (made (with_one_to 8 Descriptors)) read ∙ rw bounds refl)
 
 -- If a text has no descriptors, or more than eight, the line is invalid.
 some-same : (a b : List ℕ) → Some a ≡ Some b → a ≡ b
-some-same a b e = ap (λ (o : Option (List ℕ)). unwrap_or o []) e
+some-same a b e = cc (e)
 
 onto-some : (b : Bool) (w : Option ℕ) (r : Option (List ℕ)) (xs : List ℕ) → (if b then onto_read w r else None) ≡ Some xs → (word : ℕ) × (ys : List ℕ) × (r ≡ Some ys) × (xs ≡ word ∷ ys)
 onto-some b w r xs h1 = grind (arith, nat_tests, common_steps)
@@ -468,12 +460,12 @@ length-read (s ∷ a ∷ b ∷ c ∷ d ∷ f ∷ g ∷ more) xs e =
 length-read t xs e = absurd cc
 
 pub describing-long : (text out : List ℕ) → 56 < length text → Describes text out None
-describing-long text out h1 = grind (arith, nat_tests, common_steps, length-read)
+describing-long text out h1 = grind (arith, length-read)
 
 pub describing-none : (text out : List ℕ) → length text ≡ 0 → Describes text out None
 unfolding descriptors_read
 describing-none [] out e = refl
-describing-none (x ∷ text) out e = absurd (omega (arith, e))
+describing-none (x ∷ text) out e = absurd (omega arith)
 
 -- ---- The octets of a line are read one at a time.
 
@@ -487,43 +479,37 @@ hex-two a b more = refl
 pub unhexing-on : (text out : List ℕ) (count high low : ℕ) → IsUnhexing text out count → 2 * count + 1 < length text → Some high ≡ either_value (slice_index text (2 * count))
     → Some low ≡ either_value (slice_index text (2 * count + 1))
     → IsUnhexing text (slice_set out count (16 * high + low)) (count + 1)
-unhexing-on text out count high low h1 h2 h3 h4 = grind (arith, nat_tests, common_steps, length-set, two-on, hex-two, onto-more, one-set)
+unhexing-on text out count high low h1 h2 h3 h4 = grind (arith, common_steps, hex-two)
 
 none-left : (v : Option ℕ) → pair_value v None ≡ None
 none-left (Some x) = refl
 none-left None = refl
 
 none-read : (read : Option (List ℕ)) (v : Option ℕ) → v ≡ None → onto_read v read ≡ None
-none-read read v e = ap (λ (t : Option ℕ). onto_read t read) e
+none-read read v e = rw e
 
 pub unhexing-wrong : (text out : List ℕ) (count : ℕ) → IsUnhexing text out count → 2 * count + 1 < length text
     → pair_value (either_value (slice_index text (2 * count))) (either_value (slice_index text (2 * count + 1))) ≡ None → hex_read text ≡ None
-unhexing-wrong text out count h1 h2 h3 = grind (arith, nat_tests, common_steps, two-on, hex-two, none-read)
+unhexing-wrong text out count h1 h2 h3 = grind (arith, two-on, hex-two)
 
 pub high-wrong : (text : List ℕ) (count : ℕ) → None ≡ either_value (slice_index text (2 * count))
     → pair_value (either_value (slice_index text (2 * count))) (either_value (slice_index text (2 * count + 1))) ≡ None
-high-wrong text count e = ap (λ (t : Option ℕ). pair_value t (either_value (slice_index text (2 * count + 1)))) (sym e)
+high-wrong text count e = cc (e)
 
 pub low-wrong : (text : List ℕ) (count : ℕ) → None ≡ either_value (slice_index text (2 * count + 1))
     → pair_value (either_value (slice_index text (2 * count))) (either_value (slice_index text (2 * count + 1))) ≡ None
-low-wrong text count e = ap (pair_value (either_value (slice_index text (2 * count)))) (sym e) ∙ none-left (either_value (slice_index text (2 * count)))
+low-wrong text count e = cc (e, none-left (either_value (slice_index text (2 * count))))
 
 pub unhexing-whole : (text out : List ℕ) (count : ℕ) → IsUnhexing text out count → 2 * count ≡ length text → Unhexes text out (Some count)
 unfolding hex_read
-unhexing-whole text out count is h = (
-  h,
-  omega (arith, is.room),
-  is.read ∙ ap (λ (t : List ℕ). option_map (λ more. take count out ++ more) (hex_read t)) (drop_all (2 * count) text (omega arith))
-      ∙ ap Some (append-nil (take count out)),
-)
+unhexing-whole text out count is h = grind (arith, common_steps, is.room)
 
 odd : (rest : List ℕ) → length rest ≡ 1 → hex_read rest ≡ None
 unfolding hex_read
-odd rest h1 = grind (arith, nat_tests, common_steps)
+odd rest h1 = grind arith
 
 pub unhexing-odd : (text out : List ℕ) (count : ℕ) → IsUnhexing text out count → length text ≤ 2 * count + 1 → (2 * count ≡ length text → ⊥) → hex_read text ≡ None
-unhexing-odd text out count is h e =
-    is.read ∙ ap (option_map (λ more. take count out ++ more)) (odd (drop (2 * count) text) (omega (arith, is.within, length-drop (2 * count) text)))
+unhexing-odd text out count is h e = cc (is.read, odd (drop (2 * count) text) (omega (arith, is.within, length-drop (2 * count) text)))
 
 -- ---- The octets of a quoted text are read one at a time.
 
@@ -548,7 +534,7 @@ IsIn text q = (1 ≤ written-in q) × (0 < length text → written-in q ≤ leng
 
 pair-in : (text : List ℕ) (high : Option ℕ) (c : ℕ) → c ≡ slice_index text 3 → IsIn text (says_pair (pair_value high (upper_value c)))
 unfolding IsIn written-in
-pair-in text high c h1 = grind (arith, nat_tests, common_steps)
+pair-in text high c h1 = grind (arith, common_steps)
 
 escape-by : (text : List ℕ) (a b : Bool) → ((slice_index text 1 == 34) || (slice_index text 1 == 92)) ≡ a → (slice_index text 1 == 120) ≡ b
     → IsIn text (if a then Octet (slice_index text 1) 2 else if b then says_pair (pair_value (upper_value (slice_index text 2)) (upper_value (slice_index text 3))) else Nothing)
@@ -587,16 +573,16 @@ says-on (c ∷ more) octet (suc k) e some =
 pub closed-on : (text : List ℕ) → Closed ≡ quoting_of text → 0 < length text → quoted_read 0 text ≡ Some ([], drop 1 text)
 unfolding quoted_read
 closed-on [] e some = absurd (omega arith)
-closed-on (c ∷ more) e some = ap (λ (q : QuotedToken). quoted_on q more (λ skip. quoted_read skip more)) (sym e)
+closed-on (c ∷ more) e some = cc (e)
 
 pub nothing-on : (text : List ℕ) → Nothing ≡ quoting_of text → 0 < length text → quoted_read 0 text ≡ None
 unfolding quoted_read
 nothing-on [] e some = absurd (omega arith)
-nothing-on (c ∷ more) e some = ap (λ (q : QuotedToken). quoted_on q more (λ skip. quoted_read skip more)) (sym e)
+nothing-on (c ∷ more) e some = cc (e)
 
 pub onto-one-more : (xs : List ℕ) (octet : ℕ) (read : Option (List ℕ × List ℕ)) → octets_onto xs (octet_onto octet read) ≡ octets_onto (xs ++ octet ∷ []) read
 onto-one-more xs octet None = refl
-onto-one-more xs octet (Some read) = ap (λ (t : List ℕ). Some (t, read.1)) (sym (append_assoc xs (octet ∷ []) read.0))
+onto-one-more xs octet (Some read) = rw append_assoc
 
 left-some : (text : List ℕ) (at : ℕ) → at < length text → 0 < length (drop at text)
 left-some text at h = omega (arith, length-drop at text)
@@ -629,12 +615,11 @@ unquoting-closed text out count at is h e = (
 )
 
 pub unquoting-nothing : (text out : List ℕ) (count at : ℕ) → IsUnquoting text out count at → at < length text → Nothing ≡ quoting_of (drop at text) → quoted_read 0 text ≡ None
-unquoting-nothing text out count at is h e = is.read ∙ ap (octets_onto (take count out)) (nothing-on (drop at text) e (left-some text at h))
+unquoting-nothing text out count at is h e = cc (is.read, nothing-on (drop at text) e (left-some text at h))
 
 pub unquoting-end : (text out : List ℕ) (count at : ℕ) → IsUnquoting text out count at → length text ≤ at → quoted_read 0 text ≡ None
 unfolding quoted_read
-unquoting-end text out count at is h =
-    is.read ∙ ap (λ (t : List ℕ). octets_onto (take count out) (quoted_read 0 t)) (drop_all at text h)
+unquoting-end text out count at is h = rw (is.read, drop_all)
 
 -- rules for the goals of single functions
 pub ruleset describing_steps = (describing-none, describing-long, describing-short, describing-no-space, describing-no-fxy, describing-on, describing-whole)

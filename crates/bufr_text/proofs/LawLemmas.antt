@@ -1,7 +1,6 @@
 -- The results of parsing a text match its lines, and every document among them is proper.
-use Rattle.std.proofs.Common.{slice_index, inl, inr, ◌⊎◌, ◌≡◌, ◌∙◌, ℕ, ◌+◌, ◌==◌, ◌&&◌, nat_le, not, Bool, true, false, if◌then◌else◌, List, [], ◌∷◌, ◌++◌, length, map, refl, sym, ap, subst, arith, append_assoc, append-nil, length-append, ◌<◌}
+use Rattle.std.proofs.Common.{slice_index, inl, inr, ◌⊎◌, ◌≡◌, ◌∙◌, ℕ, ◌+◌, ◌==◌, ◌&&◌, nat_le, not, Bool, true, false, if◌then◌else◌, List, [], ◌∷◌, ◌++◌, length, map, refl, sym, ap, subst, arith, append_assoc, append-nil, length-append, ◌<◌, rules}
 use Rattle.std.specs.List.{concat}
-use Rattle.std.proofs.lemmas.Bool.Decides.{nat_tests}
 use Rattle.std.proofs.lemmas.List.{map-append}
 use Rattle.bufr_bits.proofs.DecimalLemmas.{and_first}
 use Rattle.bufr_fill.specs.Prelude.{DraftValue, draft, DraftEntry, Holds, Ends}
@@ -25,14 +24,14 @@ onto-one at line more = refl
 
 -- Another value adds a header line at the end.
 headers-more : (key : ℕ) (values : List ℕ) (value : ℕ) → header_says key (values ++ value ∷ []) ≡ header_says key values ++ Header (key + length values) value ∷ []
-headers-more key [] value = let e : key ≡ key + 0 = omega arith in ap (λ (k : ℕ). Header k value ∷ []) e
+headers-more key [] value = grind arith
 headers-more key (v ∷ more) value =
     let e : key + 1 + length more ≡ key + length (v ∷ more) = omega arith in
-    ap (λ (t : List Line). Header key v ∷ t) (headers-more (key + 1) more value ∙ ap (λ (k : ℕ). header_says (key + 1) more ++ Header k value ∷ []) e)
+    cc (headers-more (key + 1) more value ∙ ap (λ (k : ℕ). header_says (key + 1) more ++ Header k value ∷ []) e)
 
 concat-more : (xs : List (List ℕ)) (x : List ℕ) → concat (xs ++ x ∷ []) ≡ concat xs ++ x
 concat-more [] x = append-nil x
-concat-more (y ∷ xs) x = ap (λ (t : List ℕ). y ++ t) (concat-more xs x) ∙ sym (append_assoc y (concat xs) x)
+concat-more (y ∷ xs) x = cc (concat-more xs x, append_assoc y (concat xs) x)
 
 abbrev element : (at fxy : ℕ) → DraftValue → Element
 element at fxy form = record { at = at; fxy = fxy; form = form }
@@ -51,16 +50,13 @@ abbrev bare_subset : ℕ → SubsetHeard
 bare_subset at = record { at = at; items = [] }
 
 item-more : (k : ℕ) (done : List SubsetHeard) (last : SubsetHeard) (i : Element) → subsets_heard k (done ++ with_item last i ∷ []) ≡ subsets_heard k (done ++ last ∷ []) ++ item_line i ∷ []
-item-more k [] last i =
-    ap (λ (t : List NumberedLine). numbered_line last.at (Begins k) ∷ t)
-    (append-nil (map item_line (last.items ++ i ∷ [])) ∙ map-append item_line last.items (i ∷ [])
-    ∙ ap (λ (t : List NumberedLine). t ++ item_line i ∷ []) (sym (append-nil (map item_line last.items))))
+item-more k [] last i = search (rules, map-append)
 item-more k (part ∷ done) last i =
     ap (λ (t : List NumberedLine). numbered_line part.at (Begins k) ∷ t) (ap (λ (t : List NumberedLine). map item_line part.items ++ t) (item-more (k + 1) done last i)
     ∙ sym (append_assoc (map item_line part.items) (subsets_heard (k + 1) (done ++ last ∷ [])) (item_line i ∷ [])))
 
 part-more : (k : ℕ) (done : List SubsetHeard) (at : ℕ) → subsets_heard k (done ++ bare_subset at ∷ []) ≡ subsets_heard k done ++ numbered_line at (Begins (k + length done)) ∷ []
-part-more k [] at = let e : k ≡ k + 0 = omega arith in ap (λ (n : ℕ). numbered_line at (Begins n) ∷ []) e
+part-more k [] at = grind arith
 part-more k (part ∷ done) at =
     let e : k + 1 + length done ≡ k + length (part ∷ done) = omega arith in
     ap (λ (t : List NumberedLine). numbered_line part.at (Begins k) ∷ t)
@@ -73,15 +69,7 @@ first-more (part ∷ done) last end = refl
 
 entries-more : (done : List SubsetHeard) (last : SubsetHeard) (end : ℕ) → entries_heard (done ++ last ∷ []) end ≡ (entries_heard done last.at ++ map item_entry last.items) ++ Ends end ∷ []
 entries-more [] last end = refl
-entries-more (part ∷ done) last end =
-    let here = map item_entry part.items in
-    let f = first_at done last.at in
-    let rest = entries_heard done last.at in
-    let items = map item_entry last.items in
-    ap (λ (n : ℕ). here ++ Ends n ∷ entries_heard (done ++ last ∷ []) end) (first-more done last end)
-    ∙ ap (λ (t : List DraftEntry). here ++ Ends f ∷ t) (entries-more done last end)
-    ∙ sym (append_assoc here (Ends f ∷ rest ++ items) (Ends end ∷ []))
-    ∙ ap (λ (t : List DraftEntry). t ++ Ends end ∷ []) (sym (append_assoc here (Ends f ∷ rest) items))
+entries-more (part ∷ done) last end = grind (arith, entries-more done last end, append_assoc)
 
 -- These lines are `message`, header lines in order, and then `local1`, `section2` and `descriptors`
 -- lines in order. The document has their content.
@@ -153,18 +141,17 @@ not-false false e = absurd cc
 
 -- A skipped line adds nothing to the lines of the document.
 passed : (parsing : Parsing) (own : List NumberedLine) → IsOpen parsing own → IsOpen parsing (own ++ [])
-passed parsing own is = subst (λ (t : List NumberedLine). IsOpen parsing t) (sym (append-nil own)) is
+passed parsing own is = rw (append-nil own) is
 
 -- The header lines are still in order after a line with the next key.
 in-order : (d : Document) (at key value : ℕ) (header : List NumberedLine) → key ≡ length d.header → says header ≡ header_says 0 d.header
     → says (header ++ numbered_line at (Header key value) ∷ []) ≡ header_says 0 (d.header ++ value ∷ [])
-in-order d at key value header h1 h2 = grind (arith, nat_tests, common_steps, map-append, headers-more)
+in-order d at key value header h1 h2 = grind (arith, map-append, headers-more)
 
 heading-open : (at key value : ℕ) (d : Document) (own : List NumberedLine) → IsHeading d own → IsOpenAfter (heading d (Header key value)) (own ++ numbered_line at (Header key value) ∷ [])
 heading-open at key value d own is =
     let here = own ++ numbered_line at (Header key value) ∷ [] in
-    let next = with_value d value in
-    let taken : LineStep = (Continues (if key == 19 then BeforeSubsets group.Local1 else Heading), next) in
+    let taken : LineStep = (Continues (if key == 19 then BeforeSubsets group.Local1 else Heading), with_value d value) in
     let ranged : LineStep = if not (in_range (header_in d).head.edition key value) then (Refuses HeaderRange, d) else taken in
     if-open here (not (key == length d.header)) (Refuses NotAllowed, d) ranged (λ e. tt) (λ e.
     if-open here (not (in_range (header_in d).head.edition key value)) (Refuses HeaderRange, d) taken (λ f. tt)
@@ -200,19 +187,17 @@ heading-open at key value d own is =
 
 -- Another line before the subsets is appended to `written`.
 written-more : (d : Document) (own : List NumberedLine) (b : IsBegun d own) (x : NumberedLine) → own ++ x ∷ [] ≡ (numbered_line d.line Opens ∷ b.header) ++ (b.written ++ x ∷ [])
-written-more d own b x = ap (λ (t : List NumberedLine). t ++ x ∷ []) b.are ∙ append_assoc (numbered_line d.line Opens ∷ b.header) b.written (x ∷ [])
+written-more d own b x = rw (b.are, append_assoc)
 
 says-more : (written : List NumberedLine) (x : NumberedLine) (lines : List Line) → says written ≡ lines → says (written ++ x ∷ []) ≡ lines ++ x.says ∷ []
-says-more written x lines is = map-append (λ (l : NumberedLine). l.says) written (x ∷ []) ∙ ap (λ (t : List Line). t ++ x.says ∷ []) is
+says-more written x lines is = rw (map-append, is)
 
 local1-open : (at : ℕ) (d : Document) (octets : List ℕ) (own : List NumberedLine) → IsBeforeSubsets group.Local1 d own
     → IsBeforeSubsets group.Local1 (with_local1 d octets) (own ++ numbered_line at (Local1 octets) ∷ [])
 local1-open at d octets own is =
     let b = is.with_open_group in
-    let none2 = is.before_section2 refl in
     let none3 = is.before_descriptors (λ e. cc) in
-    let before : says b.written ≡ map Local1 b.local1 = b.parts ∙ ap (λ (t : List (List ℕ)). map Local1 b.local1 ++ (map Section2 t ++ map Descriptors b.descriptors)) none2
-    ∙ ap (λ (t : List (List ℕ)). map Local1 b.local1 ++ map Descriptors t) none3 ∙ append-nil (map Local1 b.local1) in
+    let before : says b.written ≡ map Local1 b.local1 = grind (arith, common_steps) in
     record {
       with_open_group = record {
         header = b.header;
@@ -225,7 +210,7 @@ local1-open at d octets own is =
         parts = says-more b.written (numbered_line at (Local1 octets)) (map Local1 b.local1) before ∙ sym (map-append Local1 b.local1 (octets ∷ []))
             ∙ sym (append-nil (map Local1 (b.local1 ++ octets ∷ [])));
         local1_is = ap (λ (t : List ℕ). t ++ octets) b.local1_is ∙ sym (concat-more b.local1 octets);
-        section2_is = b.section2_is ∙ ap (λ (t : List (List ℕ)). concat t) none2;
+        section2_is = b.section2_is ∙ ap (λ (t : List (List ℕ)). concat t) (is.before_section2 refl);
         descriptors_are = b.descriptors_are ∙ ap (λ (t : List (List ℕ)). concat t) none3;
         flagged = inl refl;
       };
@@ -333,11 +318,11 @@ none-open at part d own is =
     }) (λ e. tt)
 
 begun-still : (d : Document) (entry : DraftEntry) (own : List NumberedLine) → IsBegun d own → IsBegun (with_entry d entry) own
-begun-still d entry own h1 = grind (arith, nat_tests, common_steps)
+begun-still d entry own h1 = grind arith
 
 -- If the last subset ends at this line, the entries are those of all subsets.
 ended-entries : (at subset : ℕ) (d : Document) (own : List NumberedLine) (is : IsFilling subset d own) → d.entries ++ Ends at ∷ [] ≡ entries_heard (is.done ++ is.last ∷ []) at
-ended-entries at subset d own is = ap (λ (t : List DraftEntry). t ++ Ends at ∷ []) is.entries ∙ sym (entries-more is.done is.last at)
+ended-entries at subset d own is = rw (is.entries, entries-more)
 
 next-open : (at subset next : ℕ) (d : Document) (own : List NumberedLine) → IsFilling subset d own
     → IsOpenAfter (beginning subset d next, with_entry d (Ends at)) (own ++ numbered_line at (Begins next) ∷ [])
@@ -390,7 +375,7 @@ end-open at subset d own is =
       section2_is = b.section2_is;
       descriptors_are = b.descriptors_are;
       flagged = b.flagged;
-      counted = omega (arith, equal subset (header_in d).subsets e, is.counted, length-append is.done (is.last ∷ []));
+      counted = omega (arith, is.counted, length-append is.done (is.last ∷ []), equal);
       entries = ended-entries at subset d own is;
     }) (λ e. tt)
 
@@ -439,11 +424,10 @@ line_step-opens at parsing line own is = tt
 
 on : (at : ℕ) (line : List ℕ) (more : List (List ℕ)) (own : List NumberedLine) → (own ++ one at (read_line line)) ++ numbered_lines (at + 1) more ≡ own ++ numbered_lines at (line ∷ more)
 unfolding numbered_lines
-on at line more own = append_assoc own (one at (read_line line)) (numbered_lines (at + 1) more)
-    ∙ ap (λ (t : List NumberedLine). own ++ t) (sym (onto-one at (read_line line) (numbered_lines (at + 1) more)))
+on at line more own = grind (arith, common_steps, onto-one at (read_line line) (numbered_lines (at + 1) more))
 
 end-reported : (at : ℕ) (parsing : Parsing) (own : List NumberedLine) → IsOpen parsing own → AreReported (own ++ []) (reported_at_end at parsing.0)
-end-reported at parsing own h1 = grind (arith, nat_tests, common_steps)
+end-reported at parsing own h1 = grind arith
 
 reported-on : (at : ℕ) (line : List ℕ) (more : List (List ℕ)) (own : List NumberedLine) (here : LineStep) → IsOpenAfter here (own ++ one at (read_line line))
     → ((next : Parsing) (own' : List NumberedLine) → IsOpen next own' → AreReported (own' ++ numbered_lines (at + 1) more) (parse_lines (at + 1) next more))
@@ -465,10 +449,10 @@ text-reported text = lines-reported 1 between (lines_of text) [] refl
 -- ---- Every document of a text is proper.
 
 end-proper : (at : ℕ) (state : ParserState) → AreProper (reported_at_end at state)
-end-proper at state = grind (arith, nat_tests, common_steps)
+end-proper at state = grind arith
 
 reported-proper : (at : ℕ) (here : LineStep) → IsLineStep (at + 1) here → AreProper (reported_at at here)
-reported-proper at here h1 = grind (arith, nat_tests, common_steps)
+reported-proper at here h1 = grind arith
 
 proper-on : (at : ℕ) (here : LineStep) (more : List (List ℕ)) → IsLineStep at here → ((next : Parsing) → IsParsing at next → AreProper (parse_lines at next more))
     → AreProper (parse_lines at (parsing_after here) more)

@@ -1,5 +1,5 @@
 -- Each line of a dump text is read as what it was written for. It has no line feed, and is short.
-use Rattle.std.proofs.Common.{get_or, ◌≡◌, ℕ, ◌+◌, ◌-◌, ◌*◌, ◌/◌, ◌%◌, ◌<◌, nat_le, true, refl, ap, arith, Some, ◌==◌, nat_lt, Bool, false, not, List, [], ◌∷◌, ◌++◌, length, ◌∙◌, if◌then◌else◌, append_assoc, zero, suc, ◌^◌, ◌≤◌, ◌&&◌, take, drop, replicate, ℤ, pos, negsuc, length-append, length-take, length-drop, sym, Option, None, codes, ◌||◌, option_map, unsigned_abs, IfSome}
+use Rattle.std.proofs.Common.{get_or, ◌≡◌, ℕ, ◌+◌, ◌-◌, ◌*◌, ◌/◌, ◌%◌, ◌<◌, nat_le, true, refl, ap, arith, Some, ◌==◌, nat_lt, Bool, false, not, List, [], ◌∷◌, ◌++◌, length, ◌∙◌, if◌then◌else◌, append_assoc, zero, suc, ◌^◌, ◌≤◌, ◌&&◌, take, drop, replicate, ℤ, pos, negsuc, length-append, length-take, length-drop, sym, Option, None, codes, ◌||◌, option_map, unsigned_abs, IfSome, rules}
 use Rattle.std.specs.Char.{is_ascii_digit}
 use Rattle.std.specs.List.{list_all, AllByRecursion, concat, prefix_len, onto_first}
 use Rattle.std.proofs.lemmas.Bool.Decides.{nat_tests}
@@ -12,26 +12,26 @@ use Rattle.std.proofs.lemmas.List.{length-replicate, take-append-drop}
 use Rattle.std.proofs.lemmas.List.Folds.{list_all-append}
 use Rattle.bufr_bits.specs.Prelude.{decimal_text_of, unsigned_text, pointed}
 use Rattle.bufr_fill.specs.Prelude.{DraftValue, number_token, text_form, missing_form, reference_token}
-use Rattle.std.proofs.Math.Seq.{drop-nil, take-append_seam, drop-append_seam}
+use Rattle.std.proofs.Math.Seq.{drop-nil, drop-append_seam}
 use Rattle.std.proofs.lemmas.Grind.{common_steps}
 use Rattle.bufr_walk.specs.Prelude.{View, ShownValue, shown_number, shown_text, shown_missing, shown_reference}
 
 -- ---- A descriptor is written as six digits, and read back.
 
 digit : (n : ℕ) → n < 10 → is_ascii_digit (48 + n) ≡ true
-digit n h = grind (arith, nat_tests)
+digit n h = grind arith
 
 back : (n : ℕ) → 48 + n - 48 ≡ n
 back n = omega arith
 
 fits-f : (w : ℕ) → w < 65536 → nat_le (f_in (fxy_text w)) 3 ≡ true
-fits-f w h = grind (arith, nat_tests)
+fits-f w h = grind arith
 
 fits-x : (w : ℕ) → w < 65536 → nat_le (x_in (fxy_text w)) 63 ≡ true
-fits-x w h = grind (arith, nat_tests)
+fits-x w h = grind arith
 
 fits-y : (w : ℕ) → w < 65536 → nat_le (y_in (fxy_text w)) 255 ≡ true
-fits-y w h = grind (arith, nat_tests)
+fits-y w h = grind arith
 
 all-digits : (w : ℕ) → w < 65536 → list_all is_ascii_digit (fxy_text w) ≡ true
 all-digits w h = rw (
@@ -47,7 +47,7 @@ word-back : (w : ℕ) → w < 65536 → 16384 * f_in (fxy_text w) + 256 * x_in (
 word-back w h = omega arith
 
 pub fxy_back : (w : ℕ) → w < 65536 → fxy_of (fxy_text w) ≡ Some w
-fxy_back w h = rw (all-digits w h, fits-f w h, fits-x w h, fits-y w h) (ap Some (word-back w h))
+fxy_back w h = simp (all-digits, fits-f, fits-x, fits-y, word-back)
 
 -- ---- Words and values are written, and read back.
 
@@ -58,7 +58,7 @@ stops test (c ∷ more) = not (test c)
 
 pub prefix-of : (test : ℕ → Bool) (a b : List ℕ) → list_all test a ≡ true → stops test b ≡ true → prefix_len test (a ++ b) ≡ length a
 prefix-of test [] [] h s = refl
-prefix-of test [] (c ∷ b) h s = let e : test c ≡ false = grind (arith, s) in ap (λ x. if x then 1 + prefix_len test b else 0) e
+prefix-of test [] (c ∷ b) h s = grind arith
 prefix-of test (c ∷ a) b h s =
     let rest = prefix-of test a b (and_second (test c) (list_all test a) h) s in
     ap (λ x. if x then 1 + prefix_len test (a ++ b) else 0) (and_first (test c) (list_all test a) h) ∙ omega (arith, rest)
@@ -66,21 +66,15 @@ prefix-of test (c ∷ a) b h s =
 -- A number is read back, up to an octet that cannot be part of it.
 number-there : (form : List ℕ → DraftValue) (c : ℕ) (more rest : List ℕ) → list_all is_number_octet (c ∷ more) ≡ true → stops is_number_octet rest ≡ true
     → number_value form ((c ∷ more) ++ rest) ≡ Some (form (c ∷ more), rest)
-number-there form c more rest octets s =
-    let text : List ℕ = (c ∷ more) ++ rest in
-    let n = prefix_len is_number_octet text in
-    ap (λ b. if b then Some (form (take n text), drop n text) else None) (and_first (is_number_octet c) (list_all is_number_octet more) octets)
-    ∙ ap (λ k. Some (form (take k text), drop k text)) (prefix-of is_number_octet (c ∷ more) rest octets s)
-    ∙ ap (λ t. Some (form t, drop (length (c ∷ more)) text)) (take-append_seam (c ∷ more) rest)
-    ∙ ap (λ t. Some (form (c ∷ more), t)) (drop-append_seam (c ∷ more) rest)
+number-there form c more rest octets s = grind (arith, common_steps, and_first, prefix-of, drop-append_seam, prefix-of is_number_octet (c ∷ more) rest octets s)
 
 -- ---- Hexadecimal digits.
 
 upper-back : (n : ℕ) → n < 16 → upper_value (hex_digit n) ≡ Some n
-upper-back n h = grind (arith, nat_tests)
+upper-back n h = grind arith
 
 either-back : (n : ℕ) → n < 16 → either_value (hex_digit n) ≡ Some n
-either-back n h = grind (arith, nat_tests, upper-back)
+either-back n h = grind arith
 
 halves : (c : ℕ) → 16 * (c / 16) + c % 16 ≡ c
 halves c = omega arith
@@ -97,7 +91,7 @@ hex_back (c ∷ xs) (octet, all) = rw (either-pair c octet, hex_back xs all) ref
 
 pub fxy_read_back : (w : ℕ) (rest : List ℕ) → w < 65536 → fxy_read (fxy_text w ++ rest) ≡ Some (w, rest)
 unfolding fxy_read
-fxy_read_back w rest h = ap (option_map (λ fxy. (fxy, rest))) (fxy_back w h)
+fxy_read_back w rest h = rw fxy_back
 
 pub descriptors_back : (ws : List ℕ) → AllByRecursion IsDescriptorWord ws → descriptors_read (descriptors_text ws) ≡ Some ws
 unfolding descriptors_read descriptors_text
@@ -107,7 +101,7 @@ descriptors_back (w ∷ ws) (word, all) = rw (fxy_back w word, descriptors_back 
 -- ---- Numbers and quoted texts.
 
 pub number_back : (n : ℕ) → n < 65536 → number_read (decimal n) ≡ Some n
-number_back n h1 = grind (arith, nat_tests, common_steps, decimal_is_IsNumeral_wide, own)
+number_back n h1 = grind (arith, decimal_is_IsNumeral_wide, own)
 
 -- prepends an octet to the result of reading; a failure stays
 abbrev pub octet_onto : ℕ → Option (List ℕ × List ℕ) → Option (List ℕ × List ℕ)
@@ -115,12 +109,12 @@ octet_onto octet read = option_map (λ r. (octet ∷ r.0, r.1)) read
 
 read-plain : (c : ℕ) (rest : List ℕ) → is_unescaped c ≡ true → quoted_read 0 (c ∷ rest) ≡ octet_onto c (quoted_read 0 rest)
 unfolding quoted_read
-read-plain c rest h1 = grind (arith, nat_tests, common_steps)
+read-plain c rest h1 = grind arith
 
 by-marks : (c : ℕ) (rest : List ℕ) (q b : Bool) → (c == 34) ≡ q → (c == 92) ≡ b → c < 256
     → quoted_read 0 ((if q || b then 92 ∷ c ∷ [] else 92 ∷ 120 ∷ hex_pair c) ++ rest) ≡ octet_onto c (quoted_read 0 rest)
 unfolding quoted_read
-by-marks c rest q b h1 h2 h3 = grind (arith, nat_tests, common_steps)
+by-marks c rest q b h1 h2 h3 = grind (arith, nat_tests)
 
 by-plain : (c : ℕ) (rest : List ℕ) (p : Bool) → is_unescaped c ≡ p → c < 256
     → quoted_read 0 ((if p then c ∷ [] else if (c == 34) || (c == 92) then 92 ∷ c ∷ [] else 92 ∷ 120 ∷ hex_pair c) ++ rest) ≡ octet_onto c (quoted_read 0 rest)
@@ -134,9 +128,7 @@ close rest = refl
 pub quoted_back : (xs rest : List ℕ) → AllByRecursion IsOctet xs → quoted_read 0 (quoted xs ++ rest) ≡ Some (xs, rest)
 unfolding quoted
 quoted_back [] rest all = close rest
-quoted_back (c ∷ xs) rest (octet, all) =
-    ap (quoted_read 0) (append_assoc (escaped c) (quoted xs) rest) ∙ by-plain c (quoted xs ++ rest) (is_unescaped c) refl octet
-    ∙ ap (octet_onto c) (quoted_back xs rest all)
+quoted_back (c ∷ xs) rest (octet, all) = grind (arith, quoted_back xs rest all, append_assoc, by-plain)
 
 -- ---- Decimal texts are number tokens.
 
@@ -173,11 +165,7 @@ pointed-token n places h few =
     let short = length-decimal-le_wide 39 n (omega arith) h (omega arith) in
     let long = length-append (replicate count 48) d in
     let whole : length (take w padded ++ 46 ∷ drop w padded) ≡ length padded + 1 = length-append (take w padded) (46 ∷ drop w padded) ∙ omega (arith, length-take w padded, length-drop w padded) in
-    record {
-      octets = all-of (take w padded) (46 ∷ drop w padded) (digits-are (take w padded) (all_digits-take w padded all)) (digits-are (drop w padded) (all_digits-drop w padded all));
-      some = omega (arith, whole);
-      short = omega (arith, whole, long, zeros, short);
-    }
+    grind (arith, common_steps, all-of, digits-are, all_digits-take, all_digits-drop, whole, long, zeros, short)
 
 zeros-token : (n less : ℕ) → n < 10 ^ 39 → less ≤ 300 → IsToken (decimal n ++ replicate less 48) 399
 zeros-token n less h few =
@@ -185,18 +173,10 @@ zeros-token n less h few =
     let zeros : length (replicate {A = ℕ} less 48) ≡ less = length-replicate less 48 in
     let long = length-append d (replicate less 48) in
     let short = length-decimal-le_wide 39 n (omega arith) h (omega arith) in
-    record {
-      octets = all-of d (replicate less 48) (digits-are d (decimal-digits n (omega arith))) (digits-are (replicate less 48) (zeros_digits less));
-      some = omega (arith, long, decimal-some n (omega arith));
-      short = omega (arith, zeros, long, short);
-    }
+    grind (arith, common_steps, all-of, digits-are, decimal-digits, zeros_digits, decimal-some, long, decimal-some n (omega arith), zeros, short)
 
 zeros-none : (n : ℕ) → n < 10 ^ 39 → IsToken (decimal n) 399
-zeros-none n h = record {
-  octets = digits-are (decimal n) (decimal-digits n (omega arith));
-  some = decimal-some n (omega arith);
-  short = omega (arith, length-decimal-le_wide 39 n (omega arith) h (omega arith));
-}
+zeros-none n h = search (rules, digits-are, decimal-digits, decimal-some, length-decimal-le_wide)
 
 unsigned-token : (n : ℕ) (scale : ℤ) → n < 10 ^ 39 → unsigned_abs scale ≤ 300 → IsToken (unsigned_text n scale) 399
 unfolding unsigned_text
@@ -211,21 +191,21 @@ number-token (pos n) scale h few = let t = unsigned-token n scale h few in recor
 number-token (negsuc n) scale h few = let t = unsigned-token (suc n) scale h few in record { octets = t.octets; some = omega arith; short = omega (arith, t.short) }
 
 in_bounds : (xs : List ℕ) (most : ℕ) → 0 < length xs → length xs ≤ most → (nat_lt 0 (length xs) && nat_le (length xs) most) ≡ true
-in_bounds xs most some few = grind (arith, nat_tests)
+in_bounds xs most some few = grind arith
 
 pub local1-says : (xs : List ℕ) → AllByRecursion IsOctet xs → 0 < length xs → length xs ≤ 32 → line_of (local1_line xs) ≡ Local1 xs
 unfolding line_of worded without_prefix
-local1-says xs all some few = rw (hex_back xs all, in_bounds xs 32 some few) refl
+local1-says xs all some few = simp (hex_back, in_bounds)
 
 pub section2-says : (xs : List ℕ) → AllByRecursion IsOctet xs → 0 < length xs → length xs ≤ 32 → line_of (section2_line xs) ≡ Section2 xs
 unfolding line_of worded without_prefix
-section2-says xs all some few = rw (hex_back xs all, in_bounds xs 32 some few) refl
+section2-says xs all some few = simp (hex_back, in_bounds)
 
 -- The text after the word `descriptors` begins with a space, which ends the word.
 pub descriptors-says : (ws : List ℕ) → AllByRecursion IsDescriptorWord ws → 0 < length ws → length ws ≤ 8 → line_of (descriptors_line ws) ≡ Descriptors ws
 unfolding line_of worded without_prefix descriptors_text
 descriptors-says [] all some few = absurd (omega arith)
-descriptors-says (w ∷ ws) all some few = rw (descriptors_back (w ∷ ws) all, in_bounds (w ∷ ws) 8 some few) refl
+descriptors-says (w ∷ ws) all some few = simp (descriptors_back, in_bounds)
 
 pub subset-says : (n : ℕ) → n < 65536 → line_of (subset_line n) ≡ Begins n
 unfolding line_of worded without_prefix
@@ -243,17 +223,13 @@ end-says = refl
 
 pub key-says : (k : ℕ) (rest : List ℕ) → k < 20 → line_of (get_or keys k [] ++ 32 ∷ rest) ≡ made (Header k) (number_read rest)
 unfolding line_of worded without_prefix keys
-key-says k rest h1 = grind (arith, nat_tests, common_steps)
+key-says k rest h1 = grind arith
 
 suffix_is : (word text rest : List ℕ) → without_prefix word text ≡ Some rest → text ≡ word ++ rest
 unfolding without_prefix
 suffix_is [] text rest h = cc
 suffix_is (w ∷ word) [] rest h = absurd cc h
-suffix_is (w ∷ word) (c ∷ text) rest h = by (c == w) refl h (suffix_is word text rest)
-  where
-    by : (b : Bool) → (c == w) ≡ b → (if b then without_prefix word text else None) ≡ Some rest → (without_prefix word text ≡ Some rest → text ≡ word ++ rest) → c ∷ text ≡ w ∷ (word ++ rest)
-    by true is h more = let same : c ≡ w = grind (arith, nat_tests, is) in let there : text ≡ word ++ rest = more h in cc
-    by false is h more = absurd cc h
+suffix_is (w ∷ word) (c ∷ text) rest h = grind (arith, suffix_is word text rest)
 
 -- The text after a key and one space is the value of the key.
 pub value_there : (k : ℕ) (word line rest : List ℕ) (r : Option ℕ) → k < 20 → word ≡ get_or keys k [] ++ 32 ∷ [] → Some rest ≡ without_prefix word line → r ≡ number_read rest
@@ -271,7 +247,7 @@ unfolding value_read
 value-number [] rest most token s = absurd (omega (arith, token.some))
 value-number (c ∷ more) rest most token s =
     let one : is_number_octet c ≡ true = and_first (is_number_octet c) (list_all is_number_octet more) token.octets in
-    let no_quote : (c == 34) ≡ false = grind (arith, nat_tests, one) in
+    let no_quote : (c == 34) ≡ false = grind arith in
     let text : List ℕ = (c ∷ more) ++ rest in
     rw no_quote (ap (λ b. if b then number_value number_token text else option_map (λ rest. (missing_form, rest)) (without_prefix (codes "MISSING") text)) one
     ∙ number-there number_token c more rest token.octets s)
@@ -285,10 +261,10 @@ unfolding value_read without_prefix
 value-missing rest = refl
 
 first-digit : (w : ℕ) → w < 65536 → is_ascii_digit (48 + f_of w) ≡ true
-first-digit w h = grind (arith, nat_tests)
+first-digit w h = grind arith
 
 no-hash : (w : ℕ) → w < 65536 → (48 + f_of w == 35) ≡ false
-no-hash w h = grind (arith, nat_tests)
+no-hash w h = grind arith
 
 pub item-of : (fxy : ℕ) (text rest : List ℕ) (form : DraftValue) → fxy < 65536 → value_read text ≡ Some (form, rest) → is_passed_after rest ≡ true
     → line_of (fxy_text fxy ++ 32 ∷ text) ≡ ItemLine fxy form
@@ -308,7 +284,8 @@ pub reference-value : (token rest : List ℕ) (most : ℕ) → IsToken token mos
 reference-value [] rest most token s = absurd (omega (arith, token.some))
 reference-value (c ∷ more) rest most token s = number-there reference_token c more rest token.octets s
 
-pub reference-of : (fxy : ℕ) (text rest : List ℕ) (form : DraftValue) → fxy < 65536 → number_value reference_token text ≡ Some (form, rest) → is_passed_after rest ≡ true → line_of (codes "R " ++ fxy_text fxy ++ 32 ∷ text) ≡ ItemLine fxy form
+pub reference-of : (fxy : ℕ) (text rest : List ℕ) (form : DraftValue) → fxy < 65536 → number_value reference_token text ≡ Some (form, rest) → is_passed_after rest ≡ true
+    → line_of (codes "R " ++ fxy_text fxy ++ 32 ∷ text) ≡ ItemLine fxy form
 unfolding line_of worded without_prefix
 reference-of fxy text rest form h read passed = rw (fxy_read_back fxy (32 ∷ text) h, read, passed) refl
 
@@ -333,7 +310,7 @@ joined-two : (a b : List ℕ) (m n k : ℕ) → IsClean a m → IsClean b n → 
 joined-two a b m n k x y h = record { clean = list_all-append is_above a b ∙ both _ _ x.clean y.clean; short = omega (arith, length-append a b, x.short, y.short) }
 
 one-more : (c : ℕ) (a : List ℕ) (m k : ℕ) → 32 ≤ c → IsClean a m → m + 1 ≤ k → IsClean (c ∷ a) k
-one-more c a m k above x h = record { clean = both _ _ (grind (arith, nat_tests)) x.clean; short = omega (arith, x.short) }
+one-more c a m k above x h = record { clean = both _ _ (grind arith) x.clean; short = omega (arith, x.short) }
 
 within : (a : List ℕ) (m k : ℕ) → IsClean a m → m ≤ k → IsClean a k
 within a m k x h = record { clean = x.clean; short = omega (arith, x.short) }
@@ -344,39 +321,29 @@ weaker p q implies (c ∷ xs) h = both _ _ (implies c (and_first (p c) (list_all
 
 decimal-clean : (n k : ℕ) → 0 < k → n < 10 ^ k → n < 10 ^ 64 → IsClean (decimal n) k
 decimal-clean n k some h wide = record {
-  clean = weaker is_ascii_digit is_above (λ c h. grind (arith, nat_tests)) (decimal n) (own.from (decimal n) (decimal_is_IsNumeral_wide n wide).0.1);
+  clean = weaker is_ascii_digit is_above (λ c h. grind arith) (decimal n) (own.from (decimal n) (decimal_is_IsNumeral_wide n wide).0.1);
   short = length-decimal-le_wide k n some h wide;
 }
 
 token-clean : (token : List ℕ) (most : ℕ) → IsToken token most → IsClean token most
-token-clean token most t = record { clean = weaker is_number_octet is_above (λ c h. grind (arith, nat_tests)) token t.octets; short = t.short }
+token-clean token most t = record { clean = weaker is_number_octet is_above (λ c h. grind arith) token t.octets; short = t.short }
 
 name-clean : (name : List ℕ) → is_name name ≡ true → IsClean name 512
 name-clean name n =
-    let printed : list_all is_printed name ≡ true = grind (arith, nat_tests, n) in
-    let short : length name ≤ 512 = grind (arith, nat_tests, n) in
+    let printed : list_all is_printed name ≡ true = grind arith in
+    let short : length name ≤ 512 = grind arith in
     record { clean = weaker is_printed is_above (λ c. and_first (is_above c) (not (c == 127))) name printed; short = short }
 
 digit-of-above : (n : ℕ) → is_above (48 + n) ≡ true
-digit-of-above n = grind (arith, nat_tests)
+digit-of-above n = grind arith
 
 fxy-clean : (w : ℕ) → IsClean (fxy_text w) 6
-fxy-clean w = record {
-  clean = rw (
-    digit-of-above (f_of w),
-    digit-of-above (x_of w / 10),
-    digit-of-above (x_of w % 10),
-    digit-of-above (y_of w / 100),
-    digit-of-above (y_of w / 10 % 10),
-    digit-of-above (y_of w % 10),
-  ) refl;
-  short = omega arith;
-}
+fxy-clean w = search (rules, digit-of-above)
 
 -- ---- Hexadecimal digits, and the descriptors of a line.
 
 hex-above : (n : ℕ) → is_above (hex_digit n) ≡ true
-hex-above n = grind (arith, nat_tests)
+hex-above n = grind arith
 
 hex-clean : (xs : List ℕ) → IsClean (hex_text xs) (2 * length xs)
 unfolding hex_text
@@ -386,17 +353,15 @@ hex-clean (c ∷ xs) = let rest = hex-clean xs in record { clean = rw (hex-above
 descriptors-clean : (ws : List ℕ) → IsClean (descriptors_text ws) (7 * length ws)
 unfolding descriptors_text
 descriptors-clean [] = record { clean = refl; short = omega arith }
-descriptors-clean (w ∷ ws) = one-more 32 (fxy_text w ++ descriptors_text ws) (6 + 7 * length ws) (7 * suc (length ws)) (omega arith)
-    (joined-two (fxy_text w) (descriptors_text ws) 6 (7 * length ws) (6 + 7 * length ws) (fxy-clean w) (descriptors-clean ws) (omega arith)) (omega arith)
+descriptors-clean (w ∷ ws) = grind (arith, descriptors-clean ws, fxy-clean)
 
 -- ---- Quoted texts.
 
 plain-clean : (c : ℕ) → is_unescaped c ≡ true → IsClean (c ∷ []) 4
-plain-clean c h = record { clean = both _ _ (grind (arith, nat_tests, h)) refl; short = omega arith }
+plain-clean c h = record { clean = both _ _ (grind arith) refl; short = omega arith }
 
 marks-clean : (c : ℕ) (m : Bool) → ((c == 34) || (c == 92)) ≡ m → IsClean (if m then 92 ∷ c ∷ [] else 92 ∷ 120 ∷ hex_pair c) 4
-marks-clean c true e = record { clean = both _ _ (grind (arith, nat_tests, e)) refl; short = omega arith }
-marks-clean c false e = record { clean = rw (hex-above (c / 16), hex-above (c % 16)) refl; short = omega arith }
+marks-clean c m e = grind arith
 
 escaped-by : (c : ℕ) (p : Bool) → is_unescaped c ≡ p → IsClean (if p then c ∷ [] else if (c == 34) || (c == 92) then 92 ∷ c ∷ [] else 92 ∷ 120 ∷ hex_pair c) 4
 escaped-by c true e = plain-clean c e
@@ -413,7 +378,7 @@ literal : (text : List ℕ) (most : ℕ) → list_all is_above text ≡ true →
 literal text most h k = record { clean = h; short = k }
 
 comment-clean : (comment : Option Row) → IsComment comment → IsClean (comment_text comment) 1040
-comment-clean comment h1 = grind (arith, nat_tests, common_steps, joined-two, literal, name-clean)
+comment-clean comment h1 = grind (arith, common_steps, name-clean)
 
 -- ---- Whole lines.
 
@@ -427,16 +392,17 @@ line-from : (line : List ℕ) (meaning : Line) (most : ℕ) → line_of line ≡
 line-from line meaning most s c h = record { says = s; clean = c.clean; short = omega (arith, c.short) }
 
 pub local1-line : (xs : List ℕ) → AllByRecursion IsOctet xs → 0 < length xs → length xs ≤ 32 → IsLineOf (local1_line xs) (Local1 xs)
-local1-line xs all some few = line-from (local1_line xs) (Local1 xs) 71 (local1-says xs all some few) (joined-two (codes "local1 ") (hex_text xs) 7 (2 * length xs) 71 (literal (codes "local1 ") 7 refl (omega arith)) (hex-clean xs) (omega arith)) (omega arith)
+local1-line xs all some few = search (rules, line-from, local1-says, hex-clean)
 
 pub section2-line : (xs : List ℕ) → AllByRecursion IsOctet xs → 0 < length xs → length xs ≤ 32 → IsLineOf (section2_line xs) (Section2 xs)
-section2-line xs all some few = line-from (section2_line xs) (Section2 xs) 73 (section2-says xs all some few) (joined-two (codes "section2 ") (hex_text xs) 9 (2 * length xs) 73 (literal (codes "section2 ") 9 refl (omega arith)) (hex-clean xs) (omega arith)) (omega arith)
+section2-line xs all some few = grind (arith, line-from, section2-says, hex-clean)
 
 pub descriptors-line : (ws : List ℕ) → AllByRecursion IsDescriptorWord ws → 0 < length ws → length ws ≤ 8 → IsLineOf (descriptors_line ws) (Descriptors ws)
-descriptors-line ws all some few = line-from (descriptors_line ws) (Descriptors ws) 67 (descriptors-says ws all some few) (joined-two (codes "descriptors") (descriptors_text ws) 11 (7 * length ws) 67 (literal (codes "descriptors") 11 refl (omega arith)) (descriptors-clean ws) (omega arith)) (omega arith)
+descriptors-line ws all some few = search (rules, line-from, descriptors-says, joined-two, literal, descriptors-clean)
 
 pub subset-line : (n : ℕ) → n < 65536 → IsLineOf (subset_line n) (Begins n)
-subset-line n h = line-from (subset_line n) (Begins n) 12 (subset-says n (omega arith)) (joined-two (codes "subset ") (decimal n) 7 5 12 (literal (codes "subset ") 7 refl (omega arith)) (decimal-clean n 5 (omega arith) (omega arith) (omega arith)) (omega arith)) (omega arith)
+subset-line n h = line-from (subset_line n) (Begins n) 12 (subset-says n (omega arith))
+    (joined-two (codes "subset ") (decimal n) 7 5 12 (literal (codes "subset ") 7 refl (omega arith)) (decimal-clean n 5 (omega arith) (omega arith) (omega arith)) (omega arith)) (omega arith)
 
 -- ---- The names of keys.
 
@@ -452,12 +418,10 @@ unfolding keys
 keys-length = refl
 
 key-passes-at : (ks : List (List ℕ)) (i : ℕ) → list_all key-passes ks ≡ true → i < length ks → key-passes (get_or ks i []) ≡ true
-key-passes-at [] i h below = absurd (omega arith)
-key-passes-at (k ∷ ks) zero h below = and_first (key-passes k) (list_all key-passes ks) h
-key-passes-at (k ∷ ks) (suc i) h below = key-passes-at ks i (and_second (key-passes k) (list_all key-passes ks) h) (omega arith)
+key-passes-at ks i h below = grind (arith, common_steps)
 
 key-clean : (k : List ℕ) → key-passes k ≡ true → IsClean k 16
-key-clean k h1 = grind (arith, nat_tests, common_steps)
+key-clean k h1 = grind arith
 
 pub header-line : (k v : ℕ) → k < 20 → v < 65536 → IsLineOf (get_or keys k [] ++ 32 ∷ decimal v) (Header k v)
 header-line k v h n =
@@ -494,7 +458,9 @@ by-value fxy comment (shown_reference v) word c small =
     line-from ((codes "R " ++ fxy_text fxy ++ 32 ∷ text) ++ comment_text comment) (ItemLine fxy (reference_token text)) 1449
     (reference-of fxy (text ++ comment_text comment) (comment_text comment) (reference_token text) word (reference-value text (comment_text comment) 400 token (comment-stops comment))
     (comment-passed comment))
-    (joined-two (codes "R " ++ fxy_text fxy ++ 32 ∷ text) (comment_text comment) 409 1040 1449 (joined-two (codes "R " ++ fxy_text fxy) (32 ∷ text) 8 401 409 (joined-two (codes "R ") (fxy_text fxy) 2 6 8 (literal (codes "R ") 2 refl (omega arith)) (fxy-clean fxy) (omega arith)) (one-more 32 text 400 401 (omega arith) (token-clean text 400 token) (omega arith)) (omega arith)) (comment-clean comment c) (omega arith)) (omega arith)
+    (joined-two (codes "R " ++ fxy_text fxy ++ 32 ∷ text) (comment_text comment) 409 1040 1449
+    (joined-two (codes "R " ++ fxy_text fxy) (32 ∷ text) 8 401 409 (joined-two (codes "R ") (fxy_text fxy) 2 6 8 (literal (codes "R ") 2 refl (omega arith)) (fxy-clean fxy) (omega arith))
+    (one-more 32 text 400 401 (omega arith) (token-clean text 400 token) (omega arith)) (omega arith)) (comment-clean comment c) (omega arith)) (omega arith)
 
 pub item-line : (item : View) → IsItem item → IsLineOf (item_text item) (ItemLine item.fxy (dump_value_of item.value))
 item-line item given = by-value item.fxy item.entry item.value given.word given.comment given.value
@@ -505,7 +471,7 @@ abbrev pub IsAbove : List ℕ → Type 0
 IsAbove line = list_all is_above line ≡ true
 
 no-feed : (c : ℕ) → is_above c ≡ true → (c == 10) ≡ false
-no-feed c h = grind (arith, nat_tests, h)
+no-feed c h = grind arith
 
 -- the lines of a text that was split
 joined : Split → List (List ℕ)
@@ -515,12 +481,7 @@ joined-by : (c : ℕ) (feed : Bool) (whole : List (List ℕ)) (rest : List ℕ)
     → joined (if feed then record { whole = [] ∷ whole; rest = rest } else onto_split c whole rest)
     ≡ (if feed then [] ∷ joined (record { whole = whole; rest = rest }) else onto_first c (joined (record { whole = whole; rest = rest })))
 unfolding joined
-joined-by c true whole [] = refl
-joined-by c true whole (d ∷ rest) = grind (arith, nat_tests, common_steps)
-joined-by c false [] [] = grind (arith, nat_tests, common_steps)
-joined-by c false [] (d ∷ rest) = grind (arith, nat_tests, common_steps)
-joined-by c false (line ∷ whole) [] = refl
-joined-by c false (line ∷ whole) (d ∷ rest) = grind (arith, nat_tests, common_steps)
+joined-by c feed whole rest = grind (arith, common_steps)
 
 pub lines-cons : (c : ℕ) (more : List ℕ) → lines_of (c ∷ more) ≡ (if c == 10 then [] ∷ lines_of more else onto_first c (lines_of more))
 unfolding lines_of split_of joined
@@ -537,9 +498,7 @@ first-line (c ∷ line) t h =
 
 pub lines-back : (ls : List (List ℕ)) (t : List ℕ) → AllByRecursion IsAbove ls → lines_of (text_of_lines ls ++ t) ≡ ls ++ lines_of t
 lines-back [] t all = refl
-lines-back (line ∷ ls) t (here, all) =
-    ap lines_of (append_assoc (line ++ 10 ∷ []) (text_of_lines ls) t ∙ append_assoc line (10 ∷ []) (text_of_lines ls ++ t))
-    ∙ first-line line (text_of_lines ls ++ t) here ∙ ap (λ (more : List (List ℕ)). line ∷ more) (lines-back ls t all)
+lines-back (line ∷ ls) t (here, all) = grind (arith, lines-back ls t all, append_assoc, first-line)
 
 -- ---- Lists that are cut into runs.
 

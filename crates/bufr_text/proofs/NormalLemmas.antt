@@ -1,8 +1,6 @@
 -- A document is encoded to a message with the same content. The dump text of this message is the
 -- normal text of the document.
-use Rattle.std.proofs.lemmas.Bool.{ltb-false}
-use Rattle.std.proofs.Common.{◌≡◌, ℕ, ◌+◌, ◌≤◌, suc, Bool, true, false, List, [], ◌∷◌, ◌++◌, length, Some, None, Result, Ok, Err, refl, sym, ◌∙◌, ap, subst, arith, zero, map, take, drop, ◌==◌, nat_lt, unwrap_or, if◌then◌else◌, codes, is_some, slice_index}
-use Rattle.std.proofs.lemmas.Bool.Decides.{nat_tests}
+use Rattle.std.proofs.Common.{◌≡◌, ℕ, ◌+◌, ◌≤◌, suc, Bool, true, false, List, [], ◌∷◌, ◌++◌, length, Some, None, Result, Ok, Err, refl, sym, ◌∙◌, ap, subst, arith, zero, map, take, drop, ◌==◌, nat_lt, unwrap_or, if◌then◌else◌, codes, is_some, slice_index, rules}
 use Rattle.bufr_bits.specs.Prelude.{bits_of}
 use Rattle.bufr_tables.specs.declared.fault.TemplateFault.{TemplateFault}
 use Rattle.bufr_tables.specs.Prelude.{tree_of, IsLegal, tables_of, Record, Row, AreRows, Sequence, Tree}
@@ -12,8 +10,7 @@ use Rattle.bufr_walk.specs.Prelude.{Content, FieldSpec, next_item, Course, Value
 use Rattle.bufr_fill.specs.Prelude.{Subset, subsets_of, Draft, AreSaid, IsSaid, AreDrafts, content_of, HasReading}
 use Rattle.bufr_fill.specs.declared.fault.DraftFault.{DraftFault}
 use Rattle.bufr_fill.proofs.BackLaws.{read_back}
-use Rattle.bufr_fill.proofs.FieldLemmas.{same_ok}
-use Rattle.bufr_text.specs.Prelude.{header_in, mosts, Form, Document, Complete, documents_of, section2_in, ◌>>=◌, map_err, data_bits, octets_of_bits, parts_as, compressed_as, message_of, encoding_in, DocumentFault, encoding_of, header_lines, local1_line, section2_line, descriptors_line, head_lines, item_text, subset_line, subset_lines, text_of_lines, dump_text_of, lines_before, document_of, IsProper, header_as, normal_head, normal_line, draft_answer, line_and, normal_items, normal_subsets, normal, AreValuesOf, IsReadAs, runs_of, items_shown, dump_items, document_fault}
+use Rattle.bufr_text.specs.Prelude.{header_in, mosts, Form, Document, Complete, documents_of, section2_in, ◌>>=◌, map_err, data_bits, octets_of_bits, parts_as, compressed_as, message_of, encoding_in, DocumentFault, encoding_of, header_lines, local1_line, section2_line, descriptors_line, head_lines, item_text, subset_lines, text_of_lines, dump_text_of, lines_before, document_of, IsProper, header_as, normal_head, normal_line, draft_answer, line_and, normal_items, normal_subsets, normal, AreValuesOf, IsReadAs, runs_of, items_shown, dump_items, document_fault}
 use Rattle.bufr_text.proofs.DumpableLemmas.{dumpable, optional_octets}
 use Rattle.bufr_walk.proofs.NextField.{table_read}
 use Rattle.bufr_text.proofs.RoundTripLemmas.{same_form, bit_back, parts_back, parts_with, parts_of_document, is_message, reads_octets, all_dumped}
@@ -26,7 +23,6 @@ use Rattle.bufr_text.specs.declared.fault.DocumentFault.TheVariants as fault
 use Rattle.bufr_text.specs.declared.encode.Form.TheVariants.{AsWritten, Plain, Compressed}
 use Rattle.bufr_text.proofs.DumpTextLemmas.{one-document}
 use Rattle.bufr_walk.specs.Reading as reading
-use Rattle.std.proofs.lemmas.Grind.{common_steps}
 use Rattle.std.specs.Int.{from_bool}
 
 -- ---- The message that a document is encoded to is accepted, and has the content of the document.
@@ -58,7 +54,7 @@ module _ (form : Form) (records : List Record) (table : List Row) (sequences : L
         used = length bits;
         accepted = record {
           octets = w.octets;
-          few = omega (arith, few, w.long);
+          few = omega (arith, w.long);
           sections = w.are;
           expands = expands;
           read = subst (λ n. HasReading (next_item table template) (record { compressed = compressed_as form d; subsets = n; bits = bits_of (with_even_length head.edition 4 payload) }) f.values
@@ -80,16 +76,11 @@ module _ (form : Form) (records : List Record) (table : List Row) (sequences : L
       → nat_lt max_octets (message_size (header_in d).head.edition (parts_as (compressed_as form d) d (octets_of_bits bits))) ≡ b
       → (if b then Err (fault.TooLong d.line) else Ok (message_octets (header_in d).head (parts_as (compressed_as form d) d (octets_of_bits bits)))) ≡ Ok octets
       → IsReadAs form table sequences d octets
-  by_size template bits expands fills true p e = absurd cc
-  by_size template bits expands fills false p e =
-      subst (IsReadAs form table sequences d) (same_ok (message_octets (header_in d).head (parts_as (compressed_as form d) d (octets_of_bits bits))) octets e)
-      (made template bits expands fills (ltb-false max_octets (message_size (header_in d).head.edition (parts_as (compressed_as form d) d (octets_of_bits bits))) p))
+  by_size template bits expands fills b p e = search (rules, made)
 
   by_bits : (template : Tree) → tree_of (tables_of table sequences) d.descriptors ≡ Ok template → (r : Result (List Bool) DraftFault) → data_in template ≡ r
       → (map_err document_fault r >>= λ b. message_of d.line (header_in d).head (parts_as (compressed_as form d) d (octets_of_bits b))) ≡ Ok octets → IsReadAs form table sequences d octets
-  by_bits template expands (Err why) p e = absurd cc
-  by_bits template expands (Ok bits) p e = by_size template bits expands p (nat_lt max_octets (message_size (header_in d).head.edition (parts_as (compressed_as form d) d (octets_of_bits bits))))
-      refl e
+  by_bits template expands r p e = search (rules, by_size)
 
   by_template : (r : Result Tree TemplateFault) → tree_of (tables_of table sequences) d.descriptors ≡ r
       → (map_err (fault.Template d.line) r >>= λ t. map_err document_fault (data_in t) >>= λ b. message_of d.line (header_in d).head (parts_as (compressed_as form d) d (octets_of_bits b)))
@@ -106,7 +97,7 @@ module _ (form : Form) (records : List Record) (table : List Row) (sequences : L
 -- ---- The lines of the subsets.
 
 line_is : (table : List Row) (spec : FieldSpec) (d : Draft) (c : Content) → content_of spec d ≡ Ok c → normal_line table spec d ≡ item_text (view_of table spec c)
-line_is table spec d c h1 = grind (arith, nat_tests, common_steps, said_fxy, normal_dumped, same_form)
+line_is table spec d c h1 = grind (arith, said_fxy, normal_dumped, same_form)
 
 items_are : (table : List Row) (course : Course) (items : List (reading.Item Content)) (ds : List Draft) → Follows course items → AreDrafts IsSaid items ds
     → normal_items table course ds ≡ map item_text (items_shown table items)
@@ -122,9 +113,7 @@ pub subsets_are : (table : List Row) (course : Course) (n : ℕ) (subsets : List
     → normal_subsets table course n drafts ≡ subset_lines n (map (items_shown table) subsets)
 unfolding subset_lines
 subsets_are table course n [] [] f said = refl
-subsets_are table course n (items ∷ subsets) (s ∷ ss) f said =
-    ap (λ xs. subset_line n ∷ (xs ++ normal_subsets table course (n + 1) ss)) (items_are table course items s.items f.0 said.0)
-    ∙ ap (λ xs. subset_line n ∷ (map item_text (items_shown table items) ++ xs)) (subsets_are table course (n + 1) subsets ss f.1 said.1)
+subsets_are table course n (items ∷ subsets) (s ∷ ss) f said = cc (items_are table course items s.items f.0 said.0, subsets_are table course (n + 1) subsets ss f.1 said.1)
 subsets_are table course n subsets ss f said = absurd said
 
 -- ---- The lines before the subsets.
@@ -136,17 +125,17 @@ values_from (suc n) k xs = slice_index xs k ∷ values_from n (suc k) xs
 
 values_after : (n k : ℕ) (x : ℕ) (xs : List ℕ) → values_from n (suc k) (x ∷ xs) ≡ values_from n k xs
 values_after zero k x xs = refl
-values_after (suc n) k x xs = ap (λ more. slice_index xs k ∷ more) (values_after n (suc k) x xs)
+values_after (suc n) k x xs = cc (values_after n (suc k) x xs)
 
 all_values : (n : ℕ) (xs : List ℕ) → length xs ≡ n → xs ≡ values_from n 0 xs
 all_values zero [] h = refl
-all_values zero (x ∷ xs) h = absurd (omega (arith, h))
-all_values (suc n) [] h = absurd (omega (arith, h))
-all_values (suc n) (x ∷ xs) h = let l : length xs ≡ n = omega (arith, h) in ap (λ more. x ∷ more) (all_values n xs l ∙ sym (values_after n 0 x xs))
+all_values zero (x ∷ xs) h = absurd (omega arith)
+all_values (suc n) [] h = absurd (omega arith)
+all_values (suc n) (x ∷ xs) h = let l : length xs ≡ n = omega arith in ap (λ more. x ∷ more) (all_values n xs l ∙ sym (values_after n 0 x xs))
 
 -- A flag of 0 or 1 is unchanged after it is read as a `Bool` and written again.
 flag_back : (v : ℕ) → v ≤ 1 → from_bool (v == 1) ≡ v
-flag_back v h1 = grind (arith, nat_tests, common_steps)
+flag_back v h1 = grind arith
 
 section2_flag : (b : Bool) (octets : List ℕ) → from_bool (is_some (if b then Some octets else None)) ≡ from_bool b
 section2_flag true octets = refl
@@ -184,10 +173,7 @@ module _ (form : Form) (d : Document) (proper : IsProper d) where
   form_flag Compressed = ap (λ (h : List ℕ). take 17 h ++ 1 ∷ drop 18 h) (sym whole)
 
   header_is : with_flags d.header (from_bool (header_in d).observed) (from_bool (compressed_as form d)) (from_bool (is_some (section2_in d))) ≡ header_as form d.header
-  header_is =
-      ap (λ o. with_flags d.header o (from_bool (compressed_as form d)) (from_bool (is_some (section2_in d)))) (flag_back (value 16) few.0)
-      ∙ ap (λ s. with_flags d.header (value 16) (from_bool (compressed_as form d)) s) (section2_flag (header_in d).optional d.section2 ∙ flag_back (value 18) few.2)
-      ∙ form_flag form
+  header_is = search (rules, flag_back, few, section2_flag, form_flag)
 
   -- The lines before the subsets of the dump text are those of the normal text.
   head_is : (table : List Row) (sequences : List Sequence) (octets : List ℕ) → (h : IsReadAs form table sequences d octets) → head_lines h.sections ≡ normal_head form d
@@ -226,16 +212,13 @@ module _ (form : Form) (records : List Record) (table : List Row) (sequences : L
   follow = follows table h.template (table_read records table rows) legal (data_of h.sections) h.values h.used h.accepted.read
 
   says : (values : Values) (drafts : List Subset) → length drafts ≡ h.sections.subsets → AreValuesOf values drafts → AreSaid (each_subset h.sections.subsets values) drafts
-  says values drafts count said = subst (λ n. AreSaid (each_subset n values) drafts) count said
+  says values drafts count said = grind arith
 
   lines_of_items : (drafts : List Subset) → length drafts ≡ h.sections.subsets → AreValuesOf h.values drafts → subset_lines 1 shown_items ≡ normal_subsets table course 1 drafts
-  lines_of_items drafts count said =
-      sym (subsets_are table course 1 (each_subset h.sections.subsets h.values) drafts follow (says h.values drafts count said))
+  lines_of_items drafts count said = search (rules, subsets_are, follow, says)
 
   pub dump_is_normal : IsProper d → dump_text_of h.sections shown_items ≡ normal form table h.template d
-  dump_is_normal proper =
-      ap (λ hs. text_of_lines (hs ++ (subset_lines 1 shown_items ++ codes "end" ∷ []))) (head_is form d proper table sequences octets h)
-      ∙ ap (λ ls. text_of_lines (normal_head form d ++ (ls ++ codes "end" ∷ []))) (lines_of_items (subsets_of d.entries) (proper.counted ∙ sym h.subsets) h.said)
+  dump_is_normal proper = grind (arith, head_is form d proper table sequences octets h, lines_of_items)
 
   -- ---- The document of the dump.
 
@@ -256,7 +239,8 @@ module _ (form : Form) (records : List Record) (table : List Row) (sequences : L
 
     -- The normal text of this document is the dump text itself.
     pub normal_again : normal AsWritten table h.template again ≡ dump_text_of h.sections shown_items
-    normal_again = sym (ap (λ ls. text_of_lines (head_lines h.sections ++ (ls ++ codes "end" ∷ []))) (lines_of_items drafts_again again_count (subst (λ n. AreSaid (each_subset n h.values) drafts_again) (sym again_count) again_said)))
+    normal_again = sym (ap (λ ls. text_of_lines (head_lines h.sections ++ (ls ++ codes "end" ∷ [])))
+        (lines_of_items drafts_again again_count (subst (λ n. AreSaid (each_subset n h.values) drafts_again) (sym again_count) again_said)))
 
     -- the message with these data bits, or the first fault
     abbrev message_with : (line : ℕ) → Head → (List ℕ → MessageParts) → Result (List Bool) DraftFault → Result (List ℕ) DocumentFault
@@ -306,6 +290,8 @@ module _ (form : Form) (records : List Record) (table : List Row) (sequences : L
         ∙ other_line d.line (header_in d).head parts_said (data_bits (compressed_as form d) course (subsets_of d.entries)) (sym encoded_from ∙ e)
 
   pub one_document_again : IsProper d → documents_of (normal form table h.template d) ≡ Complete (document_of 1 h.sections shown_items) ∷ []
-  one_document_again proper =
-      ap documents_of (sym (dump_is_normal proper))
-      ∙ one-document h.sections shown_items (dumpable table sequences octets h.sections h.template h.values h.used (table_read records table rows) legal h.accepted)
+  one_document_again proper = cc (
+    dump_is_normal proper,
+    one-document h.sections shown_items
+        (dumpable table sequences octets h.sections h.template h.values h.used (table_read records table rows) legal h.accepted),
+  )

@@ -1,5 +1,5 @@
 -- The decimal text of numbers, digit by digit and at a scale, and the texts of octets.
-use Rattle.std.proofs.Common.{◌≡◌, ℕ, ◌≤◌, List, ◌++◌, length, take, drop, sym, ◌∙◌, ap, Option, None, Some, Ok, Err, append_assoc, ◌+◌, zero, suc, [], ◌∷◌, replicate, refl, subst, arith, append-nil, length-append, map, inl, inr, codes, ◌-◌, ◌<◌, Bool, true, false, ◌*◌, ◌/◌, ◌%◌, ◌^◌, ◌&&◌, T, eqb, eqb→eq, eq-zero-or-pos, get_or, length-drop, int_lt, ◌==◌, if◌then◌else◌, not, ℤ, pos, negsuc, min, option_map, Result, flat_map, decimal, unwrap_or, IsTrue, ◌↔◌, is_some, unsigned_abs, slice_index}
+use Rattle.std.proofs.Common.{◌≡◌, ℕ, ◌≤◌, List, ◌++◌, length, take, drop, ◌∙◌, ap, Option, None, Some, Ok, Err, append_assoc, ◌+◌, zero, suc, [], ◌∷◌, replicate, refl, subst, arith, append-nil, length-append, map, inl, inr, codes, ◌-◌, ◌<◌, Bool, true, false, ◌*◌, ◌/◌, ◌%◌, ◌^◌, ◌&&◌, T, eqb, eqb→eq, eq-zero-or-pos, get_or, length-drop, int_lt, ◌==◌, if◌then◌else◌, not, ℤ, pos, negsuc, min, option_map, Result, flat_map, decimal, unwrap_or, IsTrue, ◌↔◌, is_some, unsigned_abs, slice_index}
 use Rattle.std.proofs.lemmas.List.{take_rest, take-append-drop, length-take-le, take_all, length-replicate, at_drop_more, at_drop_all, take_more, length-set, take_more_set}
 use Rattle.bufr_text.specs.Prelude.{zero_padded, escaped, hex_pair, hex_text, is_unescaped, quoted}
 use Rattle.std.proofs.lemmas.Grind.{common_steps}
@@ -17,9 +17,8 @@ use Rattle.std.specs.Char.{is_ascii_digit}
 use Rattle.std.specs.Fmt.{digits}
 use Rattle.std.specs.Str.Parse.{digits_value}
 use Rattle.std.specs.List.{list_all}
-use Rattle.std.proofs.lemmas.List.Folds.{list_all_more}
 use Rattle.bufr_bits.proofs.DecimalLemmas.{value-append}
-use Rattle.bufr_text.proofs.PushLemmas.{puts_retold, puts_then, puts_first, zeros_suc}
+use Rattle.bufr_text.proofs.PushLemmas.{puts_retold, puts_then, puts_first}
 
 -- The first `at` octets are digits, and n is the number that they represent, at most 65,536.
 pub record IsNumberTo (text : List ℕ) (at n : ℕ) : Type 0 where
@@ -27,10 +26,10 @@ pub record IsNumberTo (text : List ℕ) (at n : ℕ) : Type 0 where
   pub value : n ≡ min (digits_value 10 (take at text)) 65536
 
 step_long : (m n : ℕ) → 10 ≤ n → n < 2 ^ 64 → zero_padded (m + 1) n ≡ zero_padded m (n / 10) ++ (48 + n % 10) ∷ []
-step_long m n h1 h2 = grind (arith, nat_tests, common_steps, decimal_step, length-append, append_assoc)
+step_long m n h1 h2 = grind (arith, common_steps, decimal_step)
 
 step_short : (k n : ℕ) → n < 10 → zero_padded (suc k + 1) n ≡ zero_padded (suc k) (n / 10) ++ (48 + n % 10) ∷ []
-step_short k n h1 = grind (arith, nat_tests, common_steps, decimal_digit, zeros_suc)
+step_short k n h1 = grind (arith, common_steps, decimal_digit)
 
 -- If a number is padded to at least two digits, its last digit follows the others.
 zero_padded_step : (m n : ℕ) → 1 ≤ m → n < 2 ^ 64 → zero_padded (m + 1) n ≡ zero_padded m (n / 10) ++ (48 + n % 10) ∷ []
@@ -39,17 +38,16 @@ zero_padded_step (suc k) n some fits = elim (cases_lt n 10) [ inl few ↦ step_s
 
 -- A number that is padded to one digit has no leading zero.
 zero_padded_one : (n : ℕ) → n < 2 ^ 64 → zero_padded 1 n ≡ decimal n
-zero_padded_one n h1 = grind (arith, nat_tests, common_steps, decimal_nonempty)
+zero_padded_one n h1 = grind (arith, decimal_nonempty)
 
 -- the length of a number with leading zeros
 pub length_zero_padded : (digits n : ℕ) → length (zero_padded digits n) ≡ digits - length (decimal n) + length (decimal n)
-length_zero_padded digits n =
-    length-append (replicate (digits - length (decimal n)) 48) (decimal n) ∙ ap (λ k. k + length (decimal n)) (length-replicate _ _)
+length_zero_padded digits n = rw (length-append, length-replicate)
 
 -- a point before the last `places` octets
 point_before : (whole fraction all : List ℕ) (places : ℕ) → whole ++ fraction ≡ all → length fraction ≡ places
     → whole ++ 46 ∷ fraction ≡ take (length all - places) all ++ 46 ∷ drop (length all - places) all
-point_before whole fraction all places h1 h2 = grind (arith, nat_tests, common_steps)
+point_before whole fraction all places h1 h2 = grind (arith, common_steps)
 
 -- whether `PAIRS` contains the two digits of each number below this one
 abbrev are_pairs : ℕ → Bool
@@ -66,7 +64,7 @@ pairs_below (suc n) p t h =
 
 -- The digits of n / 100 are those of n / 10,000, followed by two more.
 pub decimal_hundreds : (n : ℕ) → 10000 ≤ n → n < 2 ^ 64 → decimal (n / 10000) ++ (48 + n / 100 % 100 / 10) ∷ (48 + n / 100 % 100 % 10) ∷ [] ≡ decimal (n / 100)
-decimal_hundreds n h1 h2 = grind (arith, nat_tests, common_steps, decimal_pair)
+decimal_hundreds n h1 h2 = grind (arith, decimal_pair)
 
 -- The last two digits of a padded number follow its other digits.
 padded_pair : (m n : ℕ) → 1 ≤ m → n < 2 ^ 64 → zero_padded (m + 2) n ≡ zero_padded m (n / 100) ++ (48 + n % 100 / 10) ∷ (48 + n % 100 % 10) ∷ []
@@ -77,9 +75,7 @@ padded_pair m n some fits =
     let b : n / 10 % 10 ≡ n % 100 / 10 = omega arith in
     let c : n % 10 ≡ n % 100 % 10 = omega arith in
     let e : m + 2 ≡ m + 1 + 1 = omega arith in
-    ap (λ k. zero_padded k n) e ∙ zero_padded_step (m + 1) n (omega arith) fits ∙ ap (λ t. t ++ one) (zero_padded_step m (n / 10) some (omega arith))
-    ∙ append_assoc (zero_padded m (n / 10 / 10)) ten one ∙ ap (λ k. zero_padded m k ++ (48 + n / 10 % 10) ∷ (48 + n % 10) ∷ []) a
-    ∙ ap (λ t. zero_padded m (n / 100) ++ (48 + t) ∷ (48 + n % 10) ∷ []) b ∙ ap (λ t. zero_padded m (n / 100) ++ (48 + n % 100 / 10) ∷ (48 + t) ∷ []) c
+    cc (e, zero_padded_step (m + 1) n (omega arith) fits, zero_padded_step m (n / 10) some (omega arith), append_assoc (zero_padded m (n / 10 / 10)) ten one, b, c)
 
 -- numbers that are padded to two digits, and to four
 pub padded_two : (n : ℕ) → n < 100 → zero_padded 2 n ≡ (48 + n / 10) ∷ (48 + n % 10) ∷ []
@@ -87,19 +83,19 @@ padded_two n few =
     zero_padded_step 1 n (omega arith) (omega arith) ∙ ap (λ t. t ++ (48 + n % 10) ∷ []) (zero_padded_one (n / 10) (omega arith) ∙ decimal_digit (n / 10) (omega arith))
 
 pub padded_four : (n : ℕ) → n < 10000 → zero_padded 4 n ≡ (48 + n / 100 / 10) ∷ (48 + n / 100 % 10) ∷ (48 + n % 100 / 10) ∷ (48 + n % 100 % 10) ∷ []
-padded_four n few = padded_pair 2 n (omega arith) (omega arith) ∙ ap (λ t. t ++ (48 + n % 100 / 10) ∷ (48 + n % 100 % 10) ∷ []) (padded_two (n / 100) (omega arith))
+padded_four n few = cc (padded_pair 2 n (omega arith) (omega arith), padded_two (n / 100) (omega arith))
 
 -- numbers with one digit after the point, and with two
 pub tenths_put : (n : ℕ) → n < 2 ^ 64 → decimal (n / 10) ++ 46 ∷ (48 + n % 10) ∷ [] ≡ pointed 1 (decimal n)
 tenths_put n fits =
     let last : List ℕ = (48 + n % 10) ∷ [] in
-    let split : decimal (n / 10) ++ last ≡ zero_padded (1 + 1) n = ap (λ t. t ++ last) (sym (zero_padded_one (n / 10) (omega arith))) ∙ sym (zero_padded_step 1 n (omega arith) fits) in
+    let split : decimal (n / 10) ++ last ≡ zero_padded (1 + 1) n = cc (zero_padded_one (n / 10) (omega arith), zero_padded_step 1 n (omega arith) fits) in
     point_before (decimal (n / 10)) last (zero_padded (1 + 1) n) 1 split refl
 
 pub hundredths_put : (n : ℕ) → n < 2 ^ 64 → decimal (n / 100) ++ 46 ∷ (48 + n % 100 / 10) ∷ (48 + n % 100 % 10) ∷ [] ≡ pointed 2 (decimal n)
 hundredths_put n fits =
     let last : List ℕ = (48 + n % 100 / 10) ∷ (48 + n % 100 % 10) ∷ [] in
-    let split : decimal (n / 100) ++ last ≡ zero_padded (2 + 1) n = ap (λ t. t ++ last) (sym (zero_padded_one (n / 100) (omega arith))) ∙ sym (padded_pair 1 n (omega arith) fits) in
+    let split : decimal (n / 100) ++ last ≡ zero_padded (2 + 1) n = cc (zero_padded_one (n / 100) (omega arith), padded_pair 1 n (omega arith) fits) in
     point_before (decimal (n / 100)) last (zero_padded (2 + 1) n) 2 split refl
 
 -- two more digits after the point
@@ -108,12 +104,12 @@ pointed_pair p n fits =
     let pair : List ℕ = (48 + n % 100 / 10) ∷ (48 + n % 100 % 10) ∷ [] in
     let short = zero_padded (p + 1) (n / 100) in
     let k = length short - p in
-    let long : p + 1 ≤ length short = omega (arith, length_zero_padded (p + 1) (n / 100)) in
+    let long : p + 1 ≤ length short = omega (arith, length_zero_padded) in
     let size : length (drop k short) ≡ p = omega (arith, length-drop k short, long) in
     let more : length (drop k short ++ pair) ≡ p + 2 = omega (arith, length-append (drop k short) pair, size) in
     let e : p + 2 + 1 ≡ p + 1 + 2 = omega arith in
-    let split : short ++ pair ≡ zero_padded (p + 2 + 1) n = sym (padded_pair (p + 1) n (omega arith) fits) ∙ ap (λ t. zero_padded t n) (sym e) in
-    let whole : take k short ++ (drop k short ++ pair) ≡ zero_padded (p + 2 + 1) n = sym (append_assoc (take k short) (drop k short) pair) ∙ ap (λ t. t ++ pair) (take-append-drop k short) ∙ split in
+    let split : short ++ pair ≡ zero_padded (p + 2 + 1) n = cc (padded_pair (p + 1) n (omega arith) fits, e) in
+    let whole : take k short ++ (drop k short ++ pair) ≡ zero_padded (p + 2 + 1) n = cc (append_assoc (take k short) (drop k short) pair, take-append-drop k short) in
     append_assoc (take k short) (46 ∷ drop k short) pair ∙ point_before (take k short) (drop k short ++ pair) (zero_padded (p + 2 + 1) n) (p + 2) whole more
 
 -- a number with five digits after the point
@@ -125,26 +121,32 @@ five_places n fits =
     let middle : List ℕ = (48 + n / 100 % 100 / 10) ∷ (48 + n / 100 % 100 % 10) ∷ [] in
     let last : List ℕ = (48 + n % 100 / 10) ∷ (48 + n % 100 % 10) ∷ [] in
     let first : List ℕ = 46 ∷ (48 + n / 10000 % 10) ∷ [] in
-    sym (append_assoc (decimal (n / 100000)) first (middle ++ last)) ∙ sym (append_assoc (decimal (n / 100000) ++ first) middle last)
-    ∙ ap (λ k. ((decimal k ++ first) ++ middle) ++ last) whole ∙ ap (λ l. (l ++ middle) ++ last) (tenths_put (n / 10000) (omega arith))
-    ∙ ap (λ k. (pointed 1 (decimal k) ++ middle) ++ last) same ∙ ap (λ l. l ++ last) (pointed_pair 1 (n / 100) (omega arith)) ∙ pointed_pair 3 n fits
+    cc (
+      append_assoc (decimal (n / 100000)) first (middle ++ last),
+      append_assoc (decimal (n / 100000) ++ first) middle last,
+      whole,
+      tenths_put (n / 10000) (omega arith),
+      same,
+      pointed_pair 1 (n / 100) (omega arith),
+      pointed_pair 3 n fits,
+    )
 
 -- ---- A number at a scale, part by part.
 
 -- an unsigned number at a positive scale
 pub unsigned_pointed : (n : ℕ) (scale : ℤ) (places : ℕ) → int_lt (pos 0) scale ≡ true → places ≡ unsigned_abs scale → pointed places (decimal n) ≡ unsigned_text n scale
 unfolding unsigned_text
-unsigned_pointed n (pos (suc m)) places h e = ap (λ (k : ℕ). pointed k (decimal n)) e
+unsigned_pointed n (pos (suc m)) places h e = cc (e)
 unsigned_pointed n scale places h e = absurd cc
 
 -- an unsigned number at scale 0 or a negative scale
 pub unsigned_plain : (n : ℕ) (scale : ℤ) (places count : ℕ) → int_lt (pos 0) scale ≡ false → places ≡ unsigned_abs scale → count ≡ (if n == 0 then 0 else places)
     → decimal n ++ replicate count 48 ≡ unsigned_text n scale
 unfolding unsigned_text
-unsigned_plain n scale places count h1 h2 h3 = grind (arith, nat_tests, common_steps)
+unsigned_plain n scale places count h1 h2 h3 = grind (arith, common_steps)
 
 pub sign-below : (v : ℤ) → int_lt v (pos 0) ≡ true → 45 ∷ [] ≡ sign_of v
-sign-below (pos n) h = let none : suc n ≤ 0 = grind (arith, nat_tests, h) in absurd (omega (arith, none))
+sign-below (pos n) h = let none : suc n ≤ 0 = grind arith in absurd (omega (arith, none))
 sign-below (negsuc n) h = refl
 
 pub sign-none : (v : ℤ) → int_lt v (pos 0) ≡ false → [] ≡ sign_of v
@@ -153,16 +155,16 @@ sign-none (negsuc n) h = absurd cc
 
 pub signed_text : (v scale : ℤ) (size : ℕ) → size ≡ unsigned_abs v → sign_of v ++ unsigned_text size scale ≡ decimal_text_of v scale
 unfolding decimal_text_of
-signed_text v scale size e = ap (λ k. sign_of v ++ unsigned_text k scale) e
+signed_text v scale size e = rw e
 
 -- digits with a point before the last `places` of them; if there are too few, zeros come first
 pub pointed_few : (digits zeros : List ℕ) (places count : ℕ) → length digits ≤ places → count ≡ places - length digits → zeros ≡ replicate count 48
     → 48 ∷ 46 ∷ (zeros ++ digits) ≡ pointed places digits
-pointed_few digits zeros places count h1 h2 h3 = grind (arith, nat_tests, common_steps)
+pointed_few digits zeros places count h1 h2 h3 = grind (arith, common_steps)
 
 pub pointed_many : (digits whole fraction : List ℕ) (places : ℕ) → places < length digits → whole ≡ take (length digits - places) digits → fraction ≡ drop (length digits - places) digits
     → whole ++ 46 ∷ fraction ≡ pointed places digits
-pointed_many digits whole fraction places h1 h2 h3 = grind (arith, nat_tests, common_steps)
+pointed_many digits whole fraction places h1 h2 h3 = grind arith
 
 -- an unsigned number at scale 0, at scale -1, and at a positive scale
 pub unsigned_whole : (n : ℕ) (scale : ℤ) → scale ≡ pos 0 → decimal n ≡ unsigned_text n scale
@@ -179,7 +181,7 @@ unfolding unsigned_text
 unsigned_places n places scale is = rw is refl
 
 pub parts_same : (start start' comment comment' text text' : List ℕ) → start ≡ start' → text ≡ text' → comment ≡ comment' → start ++ (text ++ comment) ≡ start' ++ (text' ++ comment')
-parts_same start start' comment comment' text text' a b c = ap (λ l. l ++ (text ++ comment)) a ∙ ap (λ l. start' ++ (l ++ comment)) b ∙ ap (λ l. start' ++ (text' ++ l)) c
+parts_same start start' comment comment' text text' a b c = rw (a, b, c)
 
 digit-of : (c : ℕ) → is_ascii_digit c ≡ true → digits_value 10 (c ∷ []) ≡ c - 48
 digit-of c h = grind (arith, nat_tests)
@@ -189,11 +191,11 @@ one-taken text at h = grind (arith, common_steps)
 
 value-on : (text : List ℕ) (at : ℕ) → at < length text → is_ascii_digit (slice_index text at) ≡ true
     → digits_value 10 (take (at + 1) text) ≡ digits_value 10 (take at text) * 10 + (slice_index text at - 48)
-value-on text at h e = ap (digits_value 10) (one-taken text at h) ∙ value-append (take at text) (slice_index text at ∷ []) ∙ omega (arith, digit-of (slice_index text at) e)
+value-on text at h e = simp (one-taken, value-append, digit-of)
 
 pub number-on : (text : List ℕ) (at n m : ℕ) → IsNumberTo text at n → at < length text → is_ascii_digit (slice_index text at) ≡ true → m ≡ min (10 * n + (slice_index text at - 48)) 65536
     → IsNumberTo text (at + 1) m
-number-on text at n m h1 h2 h3 h4 = grind (arith, nat_tests, common_steps, list_all_more, value-on)
+number-on text at n m h1 h2 h3 h4 = grind (arith, common_steps, value-on)
 
 -- ---- Octets as hexadecimal digits and as quoted text, octet by octet.
 
@@ -222,7 +224,7 @@ quoted_end (octet ∷ more) none = absurd (omega arith)
 -- one more octet that needs no escape
 pub quoted_more : (octets : List ℕ) (i : ℕ) → i < length octets → is_unescaped (get_or octets i 0) ≡ true → quoted octets ≡ take i octets ++ quoted (drop i octets)
     → quoted octets ≡ take (i + 1) octets ++ quoted (drop (i + 1) octets)
-quoted_more octets i h1 h2 h3 = grind (arith, nat_tests, common_steps, quoted_next, append_assoc, take_more)
+quoted_more octets i h1 h2 h3 = grind (arith, common_steps, quoted_next)
 
 -- A flag is written as the digit 1 or 0.
 pub flag_digit : (on : Bool) (n : ℕ) → n ≡ from_bool on → decimal (from_bool on) ≡ (48 + n) ∷ []
@@ -237,7 +239,7 @@ same true b = b
 same false b = not b
 
 same→eq : (a b : Bool) → T (same a b) → a ≡ b
-same→eq a b h1 = grind (arith, nat_tests, common_steps)
+same→eq a b h1 = grind arith
 
 abbrev are_told : ℕ → Bool
 are_told zero = true

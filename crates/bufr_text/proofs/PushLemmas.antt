@@ -2,8 +2,8 @@
 use Rattle.std.proofs.Common.{get_or, ◌≡◌, ℕ, ◌≤◌, ◌*◌, List, ◌++◌, length, take, drop, sym, ◌∙◌, ap, Option, None, Some, Ok, Err, append_assoc, ◌+◌, zero, suc, [], ◌∷◌, replicate, refl, subst, arith, append-nil, length-append, map, inl, inr, codes, ◌-◌, ◌<◌, Bool, true, false, ℤ, min, option_map, Result, flat_map, decimal, unwrap_or, IsTrue, ◌↔◌, is_some}
 use Rattle.std.specs.Io.KnownBytes.{Appends}
 use Rattle.std.proofs.KnownBytes.{Appends-trans}
-use Rattle.std.proofs.Math.Nat.{add-mul, mul-le-mul_right}
-use Rattle.std.proofs.lemmas.List.{take_rest, take-append-drop, length-take-le, take_all, length-replicate, at_drop_more, at_drop_all, take_more, length-set, take_more_set}
+use Rattle.std.proofs.Math.Nat.{mul-le-mul_right}
+use Rattle.std.proofs.lemmas.List.{take_rest, take-append-drop, take_all, length-replicate, at_drop_more, at_drop_all, take_more, length-set, take_more_set}
 use Rattle.bufr_frame.specs.declared.fault.RunFault.{RunFault}
 use Rattle.bufr_text.specs.Prelude.{keys, MovesPrefix, Writes, GrowsByPrefix, CountsWrites, LineModel, Moves, MovesOn, StaysFailed, PushesFrom, Pushes, PushesSomehow, gathered_by, Puts, item_text, comment_text, subset_line, subset_lines, text_of_lines, head_lines, dump_text_of, header_of, header_lines, local1_line, section2_line, descriptors_line, CountsFaults, MakesSteps, StepsWithin, WritesPrefix, call_line, PushesCall, descriptors_text, runs_after, runs_of, lead_of, counts_texts, ls_line, source_texts, time_texts, items_shown, dump_items}
 use Rattle.std.proofs.Math.Seq.{take-append_seam}
@@ -13,9 +13,8 @@ use Rattle.bufr_frame.specs.Prelude.{Sections}
 use Rattle.bufr_frame.specs.declared.fault.RunFault.TheVariants.{Write, Memory}
 use Rattle.bufr_tables.specs.Prelude.{Row, fxy_text, row_comment, row_line_start}
 use Rattle.bufr_walk.specs.declared.fault.ShowFault.{ShowFault}
-use Rattle.bufr_walk.specs.Prelude.{item_call, Timed, View, shown_missing, shown_number, view_of, item_calls, subset_calls, calls_for, calls_of, turns_shown, values_read, Shows, EndsAt, Content, ticked, Item, Values, plain, answers_in, walk_shown, each_subset, turns_in, CountedCourse, after, answer_of}
+use Rattle.bufr_walk.specs.Prelude.{Timed, View, shown_missing, shown_number, item_calls, subset_calls, calls_for, calls_of, turns_shown, values_read, Shows, EndsAt, Content, ticked, Item, Values, plain, answers_in, walk_shown, each_subset, turns_in, CountedCourse, after, answer_of}
 use Rattle.bufr_bits.specs.Prelude.{decimal_text_of}
-use Rattle.std.proofs.lemmas.Bool.Decides.{nat_tests}
 use Rattle.bufr_walk.specs.declared.fault.ShowFault.TheVariants as show
 use Rattle.bufr_walk.specs.Reading as outcome
 use Rattle.bufr_bits.proofs.CountLemmas.{empty_writes_after-some}
@@ -31,8 +30,7 @@ more-written a b c octets rest rest' n before within more is = record {
 }
 
 parts_then : (held s t p q held1 held2 : List ℕ) → held ++ s ≡ p ++ held1 → held1 ++ t ≡ q ++ held2 → held ++ (s ++ t) ≡ (p ++ q) ++ held2
-parts_then held s t p q held1 held2 first second =
-    sym (append_assoc held s t) ∙ ap (λ l. l ++ t) first ∙ append_assoc p held1 t ∙ ap (λ l. p ++ l) second ∙ sym (append_assoc p q held2)
+parts_then held s t p q held1 held2 first second = cc (append_assoc held s t, append_assoc p held1 t, append_assoc p q held2)
 
 module _ (a b c : LineModel) (s t : List ℕ) where
   moves_then : {X : Type 0} (r : Result X RunFault) → MovesPrefix a.taken b.taken (a.held ++ s) b.held → Moves b.taken c.taken (b.held ++ t) c.held r
@@ -87,17 +85,12 @@ module _ (a b c : LineModel) (s t : List ℕ) where
         counts = rw (sym counts.0, sym counts.1) second.counts;
       }
   goes (Ok x) (Err f) is first second = stops f is first second
-  goes (Err f) (Ok y) is first second = absurd (let no : Err f ≡ Ok y = sym first.status ∙ is in cc)
+  goes (Err f) (Ok y) is first second = absurd (cc)
   goes (Err f) (Err g) is first second = stays f g first is second
 
 -- If two texts are pushed in turn, their concatenation is pushed.
 pub somehow_then : {a b c : LineModel} {s t : List ℕ} → PushesSomehow a s b → PushesSomehow b t c → PushesSomehow a (s ++ t) c
-somehow_then {a = a} {b = b} {c = c} {s = s} {t = t} first second = record {
-  from = goes a b c s t a.status b.status refl first.from second.from;
-  flushes = second.flushes ∙ first.flushes;
-  sink = second.sink ∙ first.sink;
-  size = second.size ∙ first.size;
-}
+somehow_then {a = a} {b = b} {c = c} {s = s} {t = t} first second = grind (arith, goes)
 
 few_then : (x y z h s g t k : ℕ) → y + 2 * g ≤ x + 2 * (h + s) → z + 2 * k ≤ y + 2 * (g + t) → z + 2 * k ≤ x + 2 * (h + (s + t))
 few_then x y z h s g t k first second = omega arith
@@ -114,7 +107,7 @@ pub ◌⨾◌ : {a b c : LineModel} {s t : List ℕ} → Pushes a s b → Pushes
 pub holds_pushes : {a b : LineModel} {text : List ℕ} → b.status ≡ a.status → b.taken ≡ a.taken → b.failures ≡ a.failures → b.empty_writes ≡ a.empty_writes → b.flushes ≡ a.flushes
     → b.sink ≡ a.sink → b.size ≡ a.size → b.whole_writes ≡ a.whole_writes
     → b.held ≡ a.held ++ text → Pushes a text b
-holds_pushes {a = a} {b = b} {text = text} h1 h2 h3 h4 h5 h6 h7 h8 h9 = record { somehow = grind (arith, nat_tests, common_steps); few = rw (h8, h9) (omega arith) }
+holds_pushes {a = a} {b = b} {text = text} h1 h2 h3 h4 h5 h6 h7 h8 h9 = record { somehow = grind (arith, common_steps); few = rw (h8, h9) (omega arith) }
 
 pub nothing_pushed : {a : LineModel} → Pushes a [] a
 nothing_pushed {a = a} = holds_pushes refl refl refl refl refl refl refl refl (sym (append-nil a.held))
@@ -124,7 +117,7 @@ nothing_pushed {a = a} = holds_pushes refl refl refl refl refl refl refl refl (s
 few_through : (x y g size h k : ℕ) → y ≤ x + 2 → g ≤ size → size < h → k ≡ 0 → y * g + 2 * k ≤ x * g + 2 * h
 few_through x y g size h k few least past none =
     let most : y * g ≤ (x + 2) * g = mul-le-mul_right g few in
-    omega (arith, most, add-mul x 2 g)
+    omega (arith, most)
 
 pub through_pushes : {a b : LineModel} {text : List ℕ} → PushesSomehow a text b → b.held ≡ [] → b.whole_writes ≤ a.whole_writes + 2 → a.size < length (a.held ++ text) → Pushes a text b
 through_pushes {a = a} {b = b} {text = text} somehow none few past = record {
@@ -135,27 +128,21 @@ through_pushes {a = a} {b = b} {text = text} somehow none few past = record {
 few_page : (x y g h k : ℕ) → y ≤ x + 1 → g ≤ 131072 → 65536 ≤ h → k ≡ 0 → y * g + 2 * k ≤ x * g + 2 * h
 few_page x y g h k few short page none =
     let most : y * g ≤ (x + 1) * g = mul-le-mul_right g few in
-    omega (arith, most, add-mul x 1 g)
+    omega (arith, most)
 
 pub page_pushes : {a b : LineModel} → PushesSomehow a [] b → b.held ≡ [] → b.whole_writes ≤ a.whole_writes + 1 → 65536 ≤ length a.held → Pushes a [] b
-page_pushes {a = a} {b = b} somehow none few page = record {
-  somehow = somehow;
-  few = few_page a.whole_writes b.whole_writes (gathered_by a.size) (length (a.held ++ [])) (length b.held) few (omega arith) (rw (append-nil a.held) page) (ap length none);
-}
+page_pushes {a = a} {b = b} somehow none few page = grind (arith, few_page, append-nil)
 
 pub retold_somehow : {a b : LineModel} {s t : List ℕ} → PushesSomehow a s b → s ≡ t → PushesSomehow a t b
-retold_somehow {a = a} {b = b} h is = subst (λ l. PushesSomehow a l b) is h
+retold_somehow {a = a} {b = b} h is = rw is at h
 
 -- A push of a text is also a push of any equal text.
 pub retold : {a b : LineModel} {s t : List ℕ} → Pushes a s b → s ≡ t → Pushes a t b
-retold h1 h2 = grind (arith, nat_tests, common_steps)
+retold h1 h2 = grind arith
 
 -- `row_comment` is the comment of a row, with its line feed.
 pub comment_line : (row : Row) → comment_text (Some row) ++ 10 ∷ [] ≡ row_comment row
-comment_line row =
-    ap (λ (xs : List ℕ). codes "  # " ++ xs)
-    (append_assoc row.name (codes " [" ++ (row.unit ++ codes "]")) (10 ∷ []) ∙ ap (λ (xs : List ℕ). row.name ++ (codes " [" ++ xs)) (append_assoc row.unit (codes "]") (10 ∷ []))
-    ∙ sym (append_assoc (row.name ++ codes " [") row.unit (codes "]\n") ∙ append_assoc row.name (codes " [") (row.unit ++ codes "]\n")))
+comment_line row = simp append_assoc
 
 -- the line of a number that was read by a row of Table B
 pub number_line : (item : View) (row : Row) (n scale : ℤ) → item.fxy ≡ row.fxy → item.entry ≡ Some row → item.value ≡ shown_number n scale
@@ -174,7 +161,7 @@ missing_line item row fxy entry value =
     (ap (λ l. row_line_start row ++ l) (ap (λ l. text ++ l) (sym (comment_line row)) ∙ sym (append_assoc text (comment_text (Some row)) (10 ∷ []))))
 
 moved_all : (r : Result Unit RunFault) (old new : Option (List ℕ)) (text held : List ℕ) → held ≡ [] → Moves old new text held r → Writes old new text r
-moved_all (Ok x) old new text held none moves = subst (λ l. Appends old new l) (sym (moves.parts ∙ ap (λ h. moves.prefix ++ h) none ∙ append-nil moves.prefix)) moves.gains
+moved_all (Ok x) old new text held none moves = rw (moves.parts ∙ ap (λ h. moves.prefix ++ h) none ∙ append-nil moves.prefix) moves.gains
 moved_all (Err f) old new text held none moves = moves
 
 pub all_written : {a b c : LineModel} {text : List ℕ} {r : Result Unit RunFault} {old new : Option (List ℕ)} (x : Unit) → Pushes a text b → PushesSomehow b [] c → a.status ≡ Ok x → a.held ≡ []
@@ -183,34 +170,28 @@ pub all_written : {a b c : LineModel} {text : List ℕ} {r : Result Unit RunFaul
 all_written {a = a} {c = c} {text = text} x first handed ok none empty h6 h7 h8 =
     let all = somehow_then first.somehow handed in
     let from = rw ok at all.from in
-    let moves = rw (none, append-nil text) at from.moves in
-    rw (h8, ← h6, h7) (moved_all c.status a.taken c.taken text c.held empty moves)
+    rw (h8, ← h6, h7) (moved_all c.status a.taken c.taken text c.held empty (rw (none, append-nil text) at from.moves))
 
 -- the buffered octets after a prefix of the free octets is filled with a text
 pub held_filled : (octets free text : List ℕ) (len n k : ℕ) → len ≤ length octets → n ≤ length free → take n free ≡ text → take (len + n) (put_mid len k octets free) ≡ take len octets ++ text
 held_filled octets free text len n k within fits is =
-    let ahead : length (take len octets) ≡ len = length-take-le len octets within in
     let rest = post_of len k octets in
-    let filled : length (take n free) ≡ n = length-take-le n free fits in
     let split : put_mid len k octets free ≡ (take len octets ++ take n free) ++ (drop n free ++ rest) =
     ap (λ l. take len octets ++ (l ++ rest)) (sym (take-append-drop n free)) ∙ ap (λ l. take len octets ++ l) (append_assoc (take n free) (drop n free) rest)
     ∙ sym (append_assoc (take len octets) (take n free) (drop n free ++ rest)) in
-    let long : len + n ≡ length (take len octets ++ take n free) = omega (arith, length-append (take len octets) (take n free), ahead, filled) in
-    ap (take (len + n)) split ∙ ap (λ m. take m ((take len octets ++ take n free) ++ (drop n free ++ rest))) long ∙ take-append_seam (take len octets ++ take n free) (drop n free ++ rest)
-    ∙ ap (λ l. take len octets ++ l) is
+    grind (arith, common_steps)
 
 -- A copy of a text is also a copy of any equal text.
 pub puts_retold : (old new : List ℕ) (at : ℕ) (r : Option ℕ) {s t : List ℕ} → Puts old at s new r → s ≡ t → Puts old at t new r
-puts_retold old new at r h1 h2 = grind (arith, nat_tests, common_steps)
+puts_retold old new at r h1 h2 = grind arith
 
 -- If two texts are copied in turn, their concatenation is copied.
 pub puts_then : (old mid new : List ℕ) (at end : ℕ) (r : Option ℕ) (s t : List ℕ) {all : List ℕ} → Puts old at s mid (Some end) → Puts mid end t new r → s ++ t ≡ all → Puts old at all new r
-puts_then old mid new at end r s t h1 h2 h3 = grind (arith, nat_tests, common_steps)
+puts_then old mid new at end r s t h1 h2 h3 = grind (arith, common_steps)
 
 -- After another part of a text is copied, the buffer contains a longer prefix of the text.
 pub text_put_on : (text rest here more old new : List ℕ) (at end : ℕ) → text ≡ take at old ++ rest → Puts old at here new (Some end) → rest ≡ here ++ more → text ≡ take end new ++ more
-text_put_on text rest here more old new at end so next is =
-    so ∙ ap (λ l. take at old ++ l) is ∙ sym (append_assoc (take at old) here more) ∙ ap (λ l. l ++ more) (sym next.1)
+text_put_on text rest here more old new at end so next is = simp (so, is, append_assoc, next.1)
 
 -- A buffer that begins with a text contains a copy of it at index 0.
 pub puts_first : (s rest first : List ℕ) → first ≡ s → (length s ≤ length (first ++ rest)) × (take (length s) (first ++ rest) ≡ s)
@@ -218,12 +199,12 @@ puts_first s rest first is = rw is (omega (arith, length-append s rest), take-ap
 
 -- A text fills a prefix of the octets from an index on.
 pub puts_from : (free part : List ℕ) (at n k : ℕ) {text : List ℕ} → at ≤ length free → n ≤ length part → take n part ≡ text → Puts free at text (put_mid at k free part) (Some (at + n))
-puts_from free part at n k h1 h2 h3 = grind (arith, nat_tests, common_steps, length-append, length-take-le, held_filled)
+puts_from free part at n k h1 h2 h3 = grind (arith, common_steps, held_filled)
 
 -- zeros, with one more zero at the end
 pub zeros_suc : (count : ℕ) → replicate {A = ℕ} count 48 ++ 48 ∷ [] ≡ replicate (suc count) 48
 zeros_suc zero = refl
-zeros_suc (suc count) = ap (λ (t : List ℕ). 48 ∷ t) (zeros_suc count)
+zeros_suc (suc count) = cc (zeros_suc count)
 
 pub zeros_more : (done : ℕ) → replicate {A = ℕ} done 48 ++ 48 ∷ [] ≡ replicate (done + 1) 48
 zeros_more done = zeros_suc done ∙ ap (λ n. replicate n 48) (let on : suc done ≡ done + 1 = omega arith in on)
@@ -259,13 +240,12 @@ calls_text calls = flat_map (λ t. call_line t.call ++ 10 ∷ []) calls
 pub items-text : (table : List Row) (before : ℕ) (course : CountedCourse) (items : List (Item Content))
     → calls_text (item_calls table before course items) ≡ text_of_lines (map item_text (items_shown table items))
 items-text table before course [] = refl
-items-text table before course (i ∷ items) =
-    ap (λ l. (call_line (item_call (view_of table i.spec i.content)) ++ 10 ∷ []) ++ l) (items-text table before (after plain course i) items)
+items-text table before course (i ∷ items) = grind (arith, common_steps, items-text table before (after plain course i) items)
 
 -- The calls for a subset, and those for later subsets, push the lines of these subsets.
 subset-text : (number : ℕ) (calls more : List Timed) (lines suffix : List (List ℕ)) → calls_text calls ≡ text_of_lines lines → calls_text more ≡ text_of_lines suffix
     → (subset_line number ++ 10 ∷ []) ++ calls_text (calls ++ more) ≡ text_of_lines (subset_line number ∷ (lines ++ suffix))
-subset-text number calls more lines suffix h1 h2 = grind (arith, nat_tests, common_steps)
+subset-text number calls more lines suffix h1 h2 = grind (arith, common_steps)
 
 subsets-text : (table : List Row) (course : CountedCourse) (before number : ℕ) (subsets : List (List (Item Content)))
     → calls_text (subset_calls table course before number subsets) ≡ text_of_lines (subset_lines number (map (items_shown table) subsets))
@@ -287,12 +267,7 @@ moved (Err why) old new octets held held' e f writes = rw e writes
 
 written_through : {b c : LineModel} {octets : List ℕ} → b.status ≡ Ok tt → b.held ≡ [] → c.held ≡ [] → Writes b.taken c.taken octets c.status
     → CountsWrites b.failures c.failures b.empty_writes c.empty_writes c.status → c.flushes ≡ b.flushes → c.sink ≡ b.sink → c.size ≡ b.size → PushesSomehow b octets c
-written_through {b = b} {c = c} {octets = octets} ok none none' writes counts flushes sink size = record {
-  from = rw ok (record { moves = moved c.status b.taken c.taken octets b.held c.held none none' writes; counts = counts });
-  flushes = flushes;
-  sink = sink;
-  size = size;
-}
+written_through {b = b} {c = c} {octets = octets} ok none none' writes counts flushes sink size = grind (arith, common_steps, moved)
 
 pub pushed_through : {a b mid c : LineModel} {octets : List ℕ} → PushesSomehow a [] mid → b ≡ mid → mid.held ≡ [] → b.status ≡ Ok tt → Writes b.taken c.taken octets c.status
     → CountsWrites b.failures c.failures b.empty_writes c.empty_writes c.status → c.held ≡ [] → c.flushes ≡ b.flushes → c.sink ≡ b.sink → c.size ≡ b.size → PushesSomehow a octets c
@@ -301,7 +276,7 @@ pushed_through {b = b} {c = c} {octets = octets} first is none ok writes counts 
     somehow_then first (subst B is (written_through ok (ap (λ x. x.held) is ∙ none) none' writes counts flushes sink size))
 
 pub fails_pushes : {a b : LineModel} {s : List ℕ} (t : List ℕ) (f : RunFault) → Pushes a s b → b.status ≡ Err f → Pushes a (s ++ t) b
-fails_pushes t f h1 h2 = grind (arith, nat_tests, common_steps)
+fails_pushes t f h1 h2 = grind (arith, common_steps)
 
 -- A prefix of a text was pushed.
 pub record PushesPrefix (before : LineModel) (text : List ℕ) (after : LineModel) : Type 0 where
@@ -379,7 +354,7 @@ no-steps r = by (each_subset r.source.subsets (values_read r))
 
 -- A prefix of a text is also a prefix of any longer text.
 prefix-longer : {a b : LineModel} {s : List ℕ} (t : List ℕ) → PushesPrefix a s b → PushesPrefix a (s ++ t) b
-prefix-longer t h1 = grind (arith, nat_tests, common_steps)
+prefix-longer t h1 = grind (arith, common_steps)
 
 whole-prefix : {a b : LineModel} (s : List ℕ) → PushesSomehow a s b → PushesPrefix a s b
 whole-prefix s all = record { prefix = s; suffix = []; parts = sym (append-nil s); pushes = all }
@@ -403,7 +378,7 @@ counts-fault f f' e e' (Err g) fault is only counts = rw (is, only g refl) count
 
 only-write : (a b : LineModel) (text held : List ℕ) (r : Result Unit RunFault) → Moves a.taken b.taken text held r → (g : RunFault) → r ≡ Err g → g ≡ Write
 only-write a b text held (Ok x) moves g is = absurd (cc)
-only-write a b text held (Err f) moves g is = let same : f ≡ g = cc in sym same ∙ moves.0
+only-write a b text held (Err f) moves g is = cc (moves.0)
 
 module _ {a b c : LineModel} {head : List ℕ} (rest : List ℕ) (ok : a.status ≡ Ok tt) (none : a.held ≡ []) (first : Pushes a head b) where
   leaves-prefix : (fault : RunFault) → PushesPrefix b rest c → IsFirstFault c.status fault → LeavesSink {X = Unit} a (head ++ rest) (Err fault) c
@@ -411,7 +386,7 @@ module _ {a b c : LineModel} {head : List ℕ} (rest : List ℕ) (ok : a.status 
       let whole = somehow_then first.somehow more.pushes in
       let from = rw ok at whole.from in
       let grown = rw none at (prefix-moved a c (head ++ more.prefix) c.status from.moves) in
-      let parts : head ++ rest ≡ (head ++ more.prefix) ++ more.suffix = ap (λ l. head ++ l) more.parts ∙ sym (append_assoc head more.prefix more.suffix) in
+      let parts : head ++ rest ≡ (head ++ more.prefix) ++ more.suffix = rw (more.parts, append_assoc) in
       record {
         writes = record {
           prefix = grown.prefix;
@@ -428,12 +403,7 @@ module _ {a b c : LineModel} {head : List ℕ} (rest : List ℕ) (ok : a.status 
   leaves-end (Ok x) more empty is =
       let whole = somehow_then first.somehow more in
       let from = rw ok at whole.from in
-      record {
-        writes = moved_all (Ok x) a.taken c.taken (head ++ rest) c.held empty (rw (none, sym is) at from.moves);
-        counts = rw (sym is) at from.counts;
-        flushes = whole.flushes;
-        sink = whole.sink;
-      }
+      grind (arith, common_steps)
   leaves-end (Err fault) more empty is = leaves-prefix fault (whole-prefix rest more) (rw (sym is) refl)
 
 -- A reading was shown, with this effect on the sink.
@@ -483,14 +453,12 @@ all-counted-of r h h1 h2 h3 h4 = rw (sym h1, h2, sym h3, h4) h.counts
 pub all-written-of : {a c : LineModel} {old new : Option (List ℕ)} (s : Sections) (read : outcome.Read) (r : Result Unit RunFault)
     → LeavesSink a (text_of_lines (head_lines s) ++ (calls_text (calls_of read) ++ codes "end\n")) r c → a.taken ≡ old → new ≡ c.taken
     → WritesPrefix old new (dump_text_of s (dump_items read.table read.source.subsets (values_read read))) r
-all-written-of {a = a} {c = c} s read r h1 h2 h3 =
-    let writes : WritesPrefix a.taken c.taken (text_of_lines (head_lines s) ++ (text_of_lines (subset_lines 1 (dump_items read.table read.source.subsets (values_read read))) ++ codes "end\n")) r = rw (reading-text read (values_read read)) at h1.writes in
-    grind (arith, nat_tests, common_steps, writes)
+all-written-of {a = a} {c = c} s read r h1 h2 h3 = grind (arith, common_steps, reading-text)
 
 -- ---- The listing line, and the lines of a dump before its subsets.
 
 key-on : (name value more : List ℕ) → name ++ (32 ∷ (value ++ (more ++ 10 ∷ []))) ≡ ((name ++ 32 ∷ []) ++ (value ++ more)) ++ 10 ∷ []
-key-on name value more = grind (arith, nat_tests, common_steps)
+key-on name value more = grind (arith, common_steps)
 
 -- the text of header values, each after the lead of its key; the first value has this key
 unfoldable pub header_text : (key : ℕ) → List ℕ → List ℕ
@@ -505,8 +473,7 @@ header-lines key [] = refl
 header-lines key (value ∷ more) =
     let name : List ℕ = get_or keys key [] in
     let lines = text_of_lines (header_lines (key + 1) more) in
-    ap (λ (l : List ℕ). 10 ∷ l) (append_assoc (name ++ 32 ∷ decimal value) (10 ∷ []) lines ∙ append_assoc name (32 ∷ decimal value) (10 ∷ lines)
-    ∙ ap (λ l. name ++ (32 ∷ (decimal value ++ l))) (header-lines (key + 1) more)
+    cc (append_assoc (name ++ 32 ∷ decimal value) (10 ∷ []) lines ∙ append_assoc name (32 ∷ decimal value) (10 ∷ lines) ∙ ap (λ l. name ++ (32 ∷ (decimal value ++ l))) (header-lines (key + 1) more)
     ∙ key-on name (decimal value) (header_text (key + 1) more))
 
 -- An absent section 2 has no octets.
@@ -517,28 +484,28 @@ section2-or f None none r section2 h is empty = rw (is, ← h) empty
 -- another descriptor on a line of at most eight
 pub descriptors-next : (left left' : List ℕ) (done w : ℕ) → done < 8 → left ≡ w ∷ left' → descriptors_text (take (8 - done) left) ≡ (32 ∷ fxy_text w) ++ descriptors_text (take (8 - (done + 1)) left')
 unfolding descriptors_text
-descriptors-next left left' done w h1 h2 = grind (arith, nat_tests, common_steps)
+descriptors-next left left' done w h1 h2 = grind arith
 
 pub left-next : (left left' all : List ℕ) (done w : ℕ) → done < 8 → left ≡ w ∷ left' → drop (8 - done) left ≡ all → drop (8 - (done + 1)) left' ≡ all
 left-next left left' all done w few is whole =
     let e : 8 - done ≡ suc (8 - (done + 1)) = omega arith in
-    sym (ap (λ n. drop n (w ∷ left')) e) ∙ sym (ap (λ l. drop (8 - done) l) is) ∙ whole
+    cc (e)
 
 -- No descriptors remain, or the line is full.
 pub descriptors-none : (n : ℕ) (left : List ℕ) → left ≡ [] → descriptors_text (take n left) ≡ []
 unfolding descriptors_text
-descriptors-none n left h1 = grind (arith, nat_tests, common_steps)
+descriptors-none n left h1 = grind arith
 
 pub descriptors-full : (n : ℕ) (left : List ℕ) → n ≡ 0 → descriptors_text (take n left) ≡ []
 unfolding descriptors_text
-descriptors-full n left full = ap (λ k. descriptors_text (take k left)) full
+descriptors-full n left full = rw full
 
 -- the lines before the subsets, group by group
 pub head-is : (s : Sections)
     → text_of_lines (codes "message" ∷ header_lines 0 (header_of s)) ++ (text_of_lines (map local1_line (runs_of 32 s.local1))
     ++ (text_of_lines (map section2_line (runs_of 32 (unwrap_or s.section2 []))) ++ text_of_lines (map descriptors_line (runs_of 8 s.descriptors))))
     ≡ text_of_lines (head_lines s)
-head-is s = grind (arith, nat_tests, common_steps)
+head-is s = grind (arith, common_steps)
 
 -- ---- The lines of octets and of descriptors, line by line.
 
@@ -551,34 +518,32 @@ runs-skip (suc skip) less (x ∷ xs) = runs-skip skip less xs
 
 pub runs-next : (less : ℕ) (xs : List ℕ) → 0 < length xs → runs_of (suc less) xs ≡ take (suc less) xs ∷ runs_of (suc less) (drop (suc less) xs)
 unfolding runs_after
-runs-next less xs h1 = grind (arith, nat_tests, common_steps, runs-skip)
+runs-next less xs h1 = grind (arith, runs-skip)
 
 -- The lines of runs are the line of the first run and the lines of the others.
 pub lines-next : (f : List ℕ → List ℕ) (less : ℕ) (xs : List ℕ) → 0 < length xs
     → text_of_lines (map f (runs_of (suc less) xs)) ≡ (f (take (suc less) xs) ++ 10 ∷ []) ++ text_of_lines (map f (runs_of (suc less) (drop (suc less) xs)))
-lines-next f less xs some = ap (λ (l : List (List ℕ)). text_of_lines (map f l)) (runs-next less xs some)
+lines-next f less xs some = rw runs-next
 
 pub lines-none : (f : List ℕ → List ℕ) (most : ℕ) (xs : List ℕ) → length xs ≤ 0 → text_of_lines (map f (runs_of most xs)) ≡ []
 unfolding runs_after
 lines-none f most [] none = refl
-lines-none f most (x ∷ xs) none = absurd (omega (arith, none))
+lines-none f most (x ∷ xs) none = absurd (omega arith)
 
 -- Limiting a run to the length of the list does not change it.
 cut-run : (n m : ℕ) (xs : List ℕ) → m ≡ min (length xs) n → (take m xs ≡ take n xs) × (drop m xs ≡ drop n xs)
-cut-run n m xs h1 = grind (arith, nat_tests, common_steps)
+cut-run n m xs h1 = grind (arith, common_steps)
 
 -- the same for a run that is limited to the length of the list
 pub octet-lines-next : (f : List ℕ → List ℕ) (less m : ℕ) (rest run suffix : List ℕ) → 0 < length rest → m ≡ min (length rest) (suc less) → run ≡ take m rest → suffix ≡ drop m rest
     → text_of_lines (map f (runs_of (suc less) rest)) ≡ (f run ++ 10 ∷ []) ++ text_of_lines (map f (runs_of (suc less) suffix))
 octet-lines-next f less m rest run suffix some is prefix back =
     let cut = cut-run (suc less) m rest is in
-    lines-next f less rest some
-    ∙ ap (λ l. (f l ++ 10 ∷ []) ++ text_of_lines (map f (runs_of (suc less) (drop (suc less) rest)))) (sym (prefix ∙ cut.0))
-    ∙ ap (λ l. (f run ++ 10 ∷ []) ++ text_of_lines (map f (runs_of (suc less) l))) (sym (back ∙ cut.1))
+    grind (arith, common_steps, lines-next)
 
 -- whether any elements remain
 pub some-left : (b : Bool) (xs : List ℕ) → IsTrue b ↔ (xs ≡ []) → b ≡ false → 0 < length xs
-some-left b xs h1 h2 = grind (arith, nat_tests, common_steps)
+some-left b xs h1 h2 = grind (arith, common_steps)
 
 pub none-left : (b : Bool) (xs : List ℕ) → IsTrue b ↔ (xs ≡ []) → b ≡ true → length xs ≤ 0
 none-left true xs is e = let none : length xs ≡ 0 = ap length (is.0 refl) in omega (arith, none)

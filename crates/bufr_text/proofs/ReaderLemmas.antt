@@ -52,7 +52,7 @@ stopped-reports-openly at d (line ∷ lines) rest = rw (stays-stopped at d (read
 -- ---- Lines that are buffered with their line feeds.
 
 no-feed-first : (c : ℕ) → not (c == 10) ≡ true → (c == 10) ≡ false
-no-feed-first c h = grind (arith, nat_tests, h)
+no-feed-first c h = grind arith
 
 pub line-held : (line t : List ℕ) → has_no_feed line ≡ true → lines_of (line ++ 10 ∷ t) ≡ line ∷ lines_of t
 line-held [] t h = lines-cons 10 t
@@ -61,7 +61,7 @@ line-held (c ∷ line) t h =
 
 split-octet : (c : ℕ) (t : List ℕ) (s : Split) → (c == 10) ≡ false → split_of t ≡ s → split_of (c ∷ t) ≡ onto_split c s.whole s.rest
 unfolding split_of
-split-octet c t s h e = ap (λ (s : Split). if c == 10 then record { whole = [] ∷ s.whole; rest = s.rest } else onto_split c s.whole s.rest) e ∙ rw h refl
+split-octet c t s h e = cc (e)
 
 pub line-split : (line t : List ℕ) → has_no_feed line ≡ true → split_of (line ++ 10 ∷ t) ≡ record { whole = line ∷ (split_of t).whole; rest = (split_of t).rest }
 unfolding split_of
@@ -78,7 +78,7 @@ pub takes-line : (at : ℕ) (parsing : Parsing) (line rest : List ℕ) (ended : 
     ContinuesParse (record { at = at; parsing = parsing; held = line ++ 10 ∷ rest; ended = ended }) (record { at = at + 1; parsing = parsing_after here; held = rest; ended = ended })
     (reported_at at here)
 unfolding parse_lines parse_open_lines
-takes-line at parsing line rest ended h1 = grind (arith, nat_tests, common_steps, append_assoc, line-held, line-split)
+takes-line at parsing line rest ended h1 = grind (arith, append_assoc, line-held, line-split)
 
 still-open : (b c : Bool) → (b ≡ true → c ≡ true) → c ≡ false → b ≡ false
 still-open true c kept unended = sym (kept refl) ∙ unended
@@ -86,7 +86,7 @@ still-open false c kept unended = refl
 
 -- If parsing continues in two steps, the results of both are reported.
 pub goes-further : (a b c : ReaderPosition) (x y : List ParseResult) → (b.ended ≡ true → c.ended ≡ true) → ContinuesParse a b x → ContinuesParse b c y → ContinuesParse a c (x ++ y)
-goes-further a b c x y h1 h2 h3 = grind (arith, nat_tests, common_steps)
+goes-further a b c x y h1 h2 h3 = grind (arith, common_steps)
 
 pub stays : (a : ReaderPosition) → ContinuesParse a a []
 stays a = record { whole = λ t none. refl; openly = λ unended t. refl }
@@ -133,8 +133,7 @@ onto-long c s = by-whole s.whole s.rest
 
 long-onto : (c : ℕ) (held : List ℕ) (s : Split) → LongSplit held s → LongSplit (c ∷ held) (onto_split c s.whole s.rest)
 unfolding LongSplit
-long-onto c held s (more, rest, lines, inl e) = (more, rest, lines, inl (ap (λ (z : Split). onto_split c z.whole z.rest) e))
-long-onto c held s (more, rest, lines, inr e) = (more, rest, lines, inr (ap (λ (z : Split). onto_split c z.whole z.rest) e))
+long-onto c held s h_long_split = grind arith
 
 long-split : (held t : List ℕ) → has_no_feed held ≡ true → 0 < length held → LongSplit held (split_of (held ++ t))
 long-split [] t h some = absurd (omega arith)
@@ -142,8 +141,7 @@ long-split (c ∷ []) t h some =
     subst (LongSplit (c ∷ [])) (sym (split-octet c t (split_of t) (no-feed-first c (and_first (not (c == 10)) true h)) refl)) (onto-long c (split_of t))
 long-split (c ∷ d ∷ held) t h some =
     let rest = long-split (d ∷ held) t (and_second (not (c == 10)) (has_no_feed (d ∷ held)) h) (omega arith) in
-    subst (LongSplit (c ∷ d ∷ held)) (sym (split-octet c ((d ∷ held) ++ t) (split_of ((d ∷ held) ++ t)) (no-feed-first c (and_first (not (c == 10)) (has_no_feed (d ∷ held)) h)) refl))
-    (long-onto c (d ∷ held) (split_of ((d ∷ held) ++ t)) rest)
+    grind (arith, common_steps, split-octet, no-feed-first, and_first, long-onto)
 
 openly-long : (at : ℕ) (parsing : Parsing) (held : List ℕ) (s : Split) → Reads parsing.0 → 4096 < length held → LongSplit held s → openly-from at parsing s ≡ Refused at NotAllowed ∷ []
 unfolding LongSplit parse_open_lines
@@ -153,7 +151,7 @@ pub refuses-long : (at : ℕ) (parsing : Parsing) (held : List ℕ) (ended : Boo
     → ContinuesParse (record { at = at; parsing = parsing; held = held; ended = ended }) (record { at = at; parsing = (Stopped, parsing.1); held = held; ended = ended }) (Refused at NotAllowed ∷ [])
 unfolding parse_lines
 refuses-long at parsing held ended r h long = record {
-  openly = λ unended t. grind (arith, nat_tests, common_steps, openly-long, long-split, stopped-reports-openly);
+  openly = λ unended t. grind (arith, nat_tests, openly-long, long-split, stopped-reports-openly);
   whole = λ t none.
       let (more, rest, e) = long-first held t h (omega (arith, long)) in
       let over : nat_lt 4096 (length (held ++ more)) ≡ true = grind (arith, nat_tests, length-append held more, long) in
@@ -173,7 +171,7 @@ one-line (c ∷ d ∷ held) h some =
 pub ends-inside : (at : ℕ) (parsing : Parsing)
     → ContinuesParse (record { at = at; parsing = parsing; held = []; ended = true }) (record { at = at; parsing = (Stopped, parsing.1); held = []; ended = true }) (reported_at_end at parsing.0)
 unfolding parse_lines lines_of split_of
-ends-inside at parsing = grind (arith, nat_tests, common_steps)
+ends-inside at parsing = grind arith
 
 -- If no whole line is buffered, and the incomplete line is not too long, nothing is reported before
 -- the end of input.
@@ -186,12 +184,12 @@ rest-alone (c ∷ held) h = split-octet c held (record { whole = []; rest = held
 pub nothing-yet : (at : ℕ) (parsing : Parsing) (held : List ℕ) (ended : Bool) → has_no_feed held ≡ true → length held ≤ 4096
     → parse_open (record { at = at; parsing = parsing; held = held; ended = ended }) [] ≡ []
 unfolding parse_open_lines
-nothing-yet at parsing held ended h1 h2 = grind (arith, nat_tests, common_steps, append-nil, rest-alone)
+nothing-yet at parsing held ended h1 h2 = grind (arith, append-nil, rest-alone)
 
 -- ---- The first line feed.
 
 no-feed : (c : ℕ) → ((c == 10) ≡ true → ⊥) → not (c == 10) ≡ true
-no-feed c h1 = grind (arith, nat_tests, common_steps)
+no-feed c h1 = grind arith
 
 nowhere : (held : List ℕ) → ((k : ℕ) → 0 ≤ k → k < length held → (slice_index held k == 10) ≡ true → ⊥) → has_no_feed held ≡ true
 nowhere [] h = refl
@@ -204,11 +202,7 @@ before (c ∷ held) (suc n) h none = both (not (c == 10)) (has_no_feed (take n h
     (before held n (omega arith) (λ k low below. none (suc k) (omega arith) (omega arith)))
 
 at-feed : (held : List ℕ) (n : ℕ) → n < length held → (slice_index held n == 10) ≡ true → held ≡ take n held ++ 10 ∷ drop (n + 1) held
-at-feed [] n h e = absurd (omega arith)
-at-feed (c ∷ held) zero h e = let is : c ≡ 10 = grind (arith, nat_tests, e) in ap (λ (x : ℕ). x ∷ held) is
-at-feed (c ∷ held) (suc n) h e =
-    let next : suc (n + 1) ≡ suc n + 1 = omega arith in
-    ap (λ (t : List ℕ). c ∷ t) (at-feed held n (omega arith) e) ∙ ap (λ (k : ℕ). c ∷ (take n held ++ 10 ∷ drop k (c ∷ held))) next
+at-feed held n h e = grind (arith, common_steps)
 
 pub feed-at : (held : List ℕ) (r : Option ℕ) → IsFirstByte (is_byte 10) held r → FeedAt held r
 feed-at held None h = nowhere held h
@@ -257,7 +251,7 @@ ends-none (c ∷ d ∷ more) e f =
 split-octet-before : (c : ℕ) (s t : List ℕ) (b : Bool) → (c == 10) ≡ b → lines_of (s ++ t) ≡ (split_of s).whole ++ lines_of ((split_of s).rest ++ t)
     → lines_of (c ∷ (s ++ t)) ≡ (split_of (c ∷ s)).whole ++ lines_of ((split_of (c ∷ s)).rest ++ t)
 unfolding split_of
-split-octet-before c s t b h1 h2 = grind (arith, nat_tests, common_steps, lines-cons)
+split-octet-before c s t b h1 h2 = grind (arith, lines-cons)
 
 lines-split : (s t : List ℕ) → lines_of (s ++ t) ≡ (split_of s).whole ++ lines_of ((split_of s).rest ++ t)
 unfolding split_of
@@ -266,7 +260,7 @@ lines-split (c ∷ s) t = split-octet-before c s t (c == 10) refl (lines-split s
 
 rest-octet : (c : ℕ) (s : List ℕ) (b : Bool) → (c == 10) ≡ b → has_no_feed (split_of s).rest ≡ true → has_no_feed (split_of (c ∷ s)).rest ≡ true
 unfolding split_of
-rest-octet c s b h1 h2 = grind (arith, nat_tests, common_steps)
+rest-octet c s b h1 h2 = grind arith
 
 rest-clean : (s : List ℕ) → has_no_feed (split_of s).rest ≡ true
 unfolding split_of
@@ -285,7 +279,7 @@ rest-prefix : (at : ℕ) (parsing : Parsing) (rest t : List ℕ) (b : Bool) → 
     → IsPrefix (parse_open_lines at parsing [] rest) (parse_lines at parsing (lines_of (rest ++ t)))
 unfolding parse_open_lines
 rest-prefix at parsing rest t true h r clean =
-    let long : 4096 < length rest = grind (arith, nat_tests, h) in
+    let long : 4096 < length rest = grind arith in
     (parse_lines at (Stopped, parsing.1) (lines_of (rest ++ t)), rw (h, wrong-faults at parsing r) ((refuses-long at parsing rest false r clean long).whole t (λ e. absurd cc)))
 rest-prefix at parsing rest t false h r clean = (parse_lines at parsing (lines_of (rest ++ t)), rw h refl)
 
@@ -322,7 +316,7 @@ cut-prefix : (xs : List ℕ) (y : ℕ) (ys : List ℕ) → cut (xs ++ y ∷ ys) 
 cut-prefix [] y ys = refl
 cut-prefix (x ∷ xs) y ys =
     let n : length (x ∷ xs ++ y ∷ ys) - 1 ≡ suc (length (xs ++ y ∷ ys) - 1) = omega (arith, length-append xs (y ∷ ys)) in
-    ap (λ (k : ℕ). take k (x ∷ xs ++ y ∷ ys)) n ∙ ap (λ (t : List ℕ). x ∷ t) (cut-prefix xs y ys)
+    cc (n, cut-prefix xs y ys)
 
 none-kept : (b : Bool) → (if b then cut [] else []) ≡ []
 none-kept true = refl
@@ -356,11 +350,7 @@ call-keeps left left' old new results bs call =
 
 -- A step that does not change the buffer loses no octets.
 pub keeps-same : (old s new : ReaderModel) (bs : List ℕ) → KeepsUnread old s bs → new.held ≡ s.held → new.ended ≡ s.ended → KeepsUnread old new bs
-keeps-same old s new bs (taken, same) held ended = (
-  taken,
-  same ∙ ap (λ (z : List ℕ). taken ++ z)
-      (ap (λ (b : Bool). if b then cut s.held else s.held) (sym ended) ∙ ap (λ (h : List ℕ). if new.ended then cut h else h) (sym held)),
-)
+keeps-same old s new bs (taken, same) held ended = grind arith
 
 -- ---- Only an `end` line completes a document.
 
@@ -372,7 +362,7 @@ IsByEnd line (Refuses fault, d) = Unit {0}
 
 line_step-end : (at : ℕ) (parsing : Parsing) (line : Line) → IsByEnd line (line_step at parsing line)
 unfolding line_step
-line_step-end at parsing line = grind (arith, nat_tests, common_steps)
+line_step-end at parsing line = grind arith
 
 completes-end : (at : ℕ) (parsing : Parsing) (line : Line) (effect : LineEffect) (d : Document) → effect ≡ Completes → (effect, d) ≡ line_step at parsing line → line ≡ Closes
 completes-end at parsing line effect d is e = subst (IsByEnd line) (sym e ∙ ap (λ (x : LineEffect). (x, d)) is) (line_step-end at parsing line)
@@ -384,7 +374,7 @@ item-line_step : (at subset : ℕ) (line : List ℕ) (d new : Document) (fxy : �
     → new ≡ with_entry d (Holds (draft at fxy form))
     → (Continues (Filling subset), new) ≡ line_step at (Filling subset, d) (read_line line)
 unfolding line_step
-item-line_step at subset line d new fxy form h1 h2 h3 = grind (arith, nat_tests, common_steps)
+item-line_step at subset line d new fxy form h1 h2 h3 = grind arith
 
 pub item-taken : (old p : Progress) (line : List ℕ) (entries : List DraftEntry) (subset fxy : ℕ) (form : DraftValue) → p ≡ old → p.state ≡ Filling subset → length line ≤ 4096
     → line_of line ≡ ItemLine fxy form → entries ≡ p.parts.entries ++ Holds (draft p.at fxy form) ∷ []
@@ -400,7 +390,7 @@ item-taken old p line entries subset fxy form same inside short says more =
 line-taken : (new : Progress) (held : List ℕ) (from n : ℕ) (t : LineStep) (ended : Bool) → FeedAt (drop from held) (Some n)
     → t ≡ line_step new.at (parsing_of new) (read_line (take n (drop from held)))
     → ContinuesParse (position_with new.at (parsing_of new) (drop from held) ended) (position_with (new.at + 1) (parsing_after t) (drop (from + (n + 1)) held) ended) (reported_at new.at t)
-line-taken new held from n t ended h1 h2 = grind (arith, nat_tests, common_steps, before, takes-line, drop-drop)
+line-taken new held from n t ended h1 h2 = grind (arith, takes-line, drop-drop)
 
 pub all-append : (P : List ℕ → Type 0) (a b : List (List ℕ)) → AllByRecursion P a → AllByRecursion P b → AllByRecursion P (a ++ b)
 all-append P [] b x y = y
@@ -425,11 +415,11 @@ passes-line at at' held rest line more p clean e = record {
 
 passes-feed : (at at' : ℕ) (held : List ℕ) (from n : ℕ) → TakesWholeLines at held at' (drop from held) → FeedAt (drop from held) (Some n)
     → TakesWholeLines at held (at' + 1) (drop (from + (n + 1)) held)
-passes-feed at at' held from n h1 h2 = grind (arith, nat_tests, common_steps, drop-drop, passes-line)
+passes-feed at at' held from n h1 h2 = grind (arith, drop-drop, passes-line)
 
 -- The state of the parser is valid after every line.
 holds-after : (new : Progress) (t : LineStep) (line : List ℕ) → IsParsing new.at (parsing_of new) → 0 < new.at → t ≡ line_step new.at (parsing_of new) (read_line line) → IsLineStep (new.at + 1) t
-holds-after new t line s some e = subst (IsLineStep (new.at + 1)) (sym e) (line_step-holds new.at (parsing_of new) (read_line line) some (said-sound line) s)
+holds-after new t line s some e = grind (arith, line_step-holds, said-sound)
 
 further : (a b c : ReaderPosition) (x : List ParseResult) → b.ended ≡ c.ended → ContinuesParse a b [] → ContinuesParse b c x → ContinuesParse a c x
 further a b c x same f g = goes-further a b c [] x (λ e. sym same ∙ e) f g
@@ -460,19 +450,18 @@ pub taking-ends : (old new : Progress) (held : List ℕ) (from n : ℕ) (effect 
     → TakesLines old last held (from + (n + 1)) effect
 taking-ends old new held from n effect last is feed at ends e =
     let t : LineStep = (effect, last.parts) in
-    let rest = drop (from + (n + 1)) held in
-    let here : new.at ≡ last.at - 1 = omega (arith, at) in
+    let here : new.at ≡ last.at - 1 = omega arith in
     record {
       goes = λ ended.
           let old' = position_with old.at (parsing_of old) held ended in
-          subst (λ (k : ℕ). ContinuesParse old' (position_with last.at (parsing_after t) rest ended) (reported_at k t)) here
-          (subst (λ (k : ℕ). ContinuesParse old' (position_with k (parsing_after t) rest ended) (reported_at new.at t)) (sym at) (one-further old new held from n t ended is feed e));
+          subst (λ (k : ℕ). ContinuesParse old' (position_with last.at (parsing_after t) (drop (from + (n + 1)) held) ended) (reported_at k t)) here
+          (rw at (one-further old new held from n t ended is feed e));
       all = λ state goes. absurd (ends state goes);
       within = omega (arith, feed.0, length-drop from held);
       holds = subst (λ (k : ℕ). IsLineStep k t) (sym at) (holds-after new t (take n (drop from held)) is.holds is.some e);
-      some = omega (arith, at);
-      near = omega (arith, is.near, at);
-      passes = subst (λ (k : ℕ). TakesWholeLines old.at held k rest) (sym at) (passes-feed old.at new.at held from n is.passes feed);
+      some = omega arith;
+      near = omega (arith, is.near);
+      passes = rw at (passes-feed old.at new.at held from n is.passes feed);
       closes = λ whole. record {
         line = new.at;
         last = take n (drop from held);
@@ -528,18 +517,14 @@ reader at parsing held ended fault reads room free = record { at = at; parsing =
 pub takes-reports : (old new : Progress) (f f' : Option ReadFault) (held : List ℕ) (len : ℕ) (ended : Bool) (reads room free : ℕ) (effect : LineEffect) (p : Parsing)
     → TakesLines old new held len effect → p ≡ parsing_after (effect, new.parts)
     → ParsesHeldLines (reader old.at (parsing_of old) held ended f reads room free) (reader new.at p (drop len held) ended f' reads room free) (reported_at (new.at - 1) (effect, new.parts))
-takes-reports old new f f' held len ended reads room free effect p h1 h2 = grind (arith, nat_tests, common_steps)
+takes-reports old new f f' held len ended reads room free effect p h1 h2 = grind arith
 
 -- The lines that were taken are removed from the input buffer.
 pub taken-held : (old new : Progress) (before : ReaderModel) (f f' : Option ReadFault) (input input' : InputModel) (len : ℕ) (effect : LineEffect) (p : Parsing)
     → reader old.at (parsing_of old) input.held input.ended f input.reads input.room input.free ≡ before → TakesLines old new input.held len effect → p ≡ parsing_after (effect, new.parts)
     → input' ≡ record input { held = drop len input.held; gap = input.gap + len }
     → ParsesHeldLines before (reader new.at p input'.held input'.ended f' input'.reads input'.room input'.free) (reported_at (new.at - 1) (effect, new.parts))
-taken-held old new before f f' input input' len effect p is takes after skip =
-    let results = reported_at (new.at - 1) (effect, new.parts) in
-    let B : ReaderModel → Type 0 = λ s. ParsesHeldLines s (reader new.at p (drop len input.held) input.ended f' input.reads input.room input.free) results in
-    let I : InputModel → Type 0 = λ i. ParsesHeldLines before (reader new.at p i.held i.ended f' i.reads i.room i.free) results in
-    subst I (sym skip) (subst B is (takes-reports old new f f' input.held len input.ended input.reads input.room input.free effect p takes after))
+taken-held old new before f f' input input' len effect p is takes after skip = grind (arith, common_steps, before)
 
 -- The reader ran out of memory at the next line.
 pub wants-here : (old : Progress) (f : Option ReadFault) (held : List ℕ) (ended : Bool) (reads room free : ℕ) → WantsAt old held
@@ -562,11 +547,11 @@ reader-skips f f' old new input len progress is = (omega (arith, is.0, length-dr
 -- the progress of a reader that can take more lines
 pub progress-more : (old new : Progress) (held : List ℕ) (len reads : ℕ) (state : ParserState) → TakesLines old new held len (Continues state) → IsProgress old (length held) reads
     → IsProgress new (length (drop len held)) reads
-progress-more old new held len reads state h1 h2 = grind (arith, nat_tests, common_steps)
+progress-more old new held len reads state h1 h2 = grind (arith, common_steps)
 
 pub progress-between : (old new d : Progress) (held : List ℕ) (len reads : ℕ) (effect : LineEffect) → TakesLines old new held len effect → IsProgress old (length held) reads → d.at ≡ new.at
     → d.state ≡ Between → d.parts ≡ blank 0 → IsProgress d (length (drop len held)) reads
-progress-between old new d held len reads effect h1 h2 h3 h4 h5 = grind (arith, nat_tests, common_steps)
+progress-between old new d held len reads effect h1 h2 h3 h4 h5 = grind (arith, common_steps)
 
 -- ---- The results at the end of input.
 
@@ -577,29 +562,20 @@ reported-inside state at reads inside = refl
 
 pub done-between : (s : ReaderModel) → s.parsing.0 ≡ Between → s.held ≡ [] → parse (position_of s) [] ≡ []
 unfolding parse_lines lines_of split_of
-done-between s parsing held =
-    ap (λ (z : List ℕ). parse_lines s.at s.parsing (lines_of (z ++ []))) held ∙ ap (λ (p : ParserState). reported_at_end s.at p) parsing
+done-between s parsing held = cc (held)
 
 pub end-reports : (s : ReaderModel) → s.ended ≡ true → s.held ≡ [] → reported_at_end s.at s.parsing.0 ≡ Refused s.at NotAllowed ∷ []
     → ParsesHeldLines s (stopped s (fault.Line s.at NotAllowed)) (Refused s.at NotAllowed ∷ [])
-end-reports s h1 h2 h3 = grind (arith, nat_tests, common_steps, ends-inside, passes-none)
+end-reports s h1 h2 h3 = grind (arith, ends-inside)
 
 -- If the end of input is inside a document, the reader stops.
 pub end-inside : (s s' : ReaderModel) (line : ℕ) (f : ReadFault) → s.ended ≡ true → s.held ≡ [] → reported_at_end s.at s.parsing.0 ≡ Refused s.at NotAllowed ∷ [] → line ≡ s.at
     → s' ≡ stopped s (fault.Line line NotAllowed) → f ≡ fault.Line line NotAllowed → HandlesEnd s s' (Err f)
-end-inside s s' line f ended held reports at new is =
-    let F : ReadFault → Type 0 = λ f. HandlesEnd s s' (Err f) in
-    let N : ReaderModel → Type 0 = λ n. HandlesEnd s n (Err (fault.Line line NotAllowed)) in
-    let K : ℕ → Type 0 = λ k. HandlesEnd s (stopped s (fault.Line k NotAllowed)) (Err (fault.Line k NotAllowed)) in
-    subst F (sym is) (subst N (sym new) (subst K (sym at) (end-reports s ended held reports, refl, refl, refl)))
+end-inside s s' line f ended held reports at new is = grind (arith, end-reports)
 
 -- As long as lines are taken, the parser has not stopped.
 pub parsing-reads : (at : ℕ) (parsing : Parsing) → IsParsing at parsing → Reads parsing.0
-parsing-reads at (Between, d) is = tt
-parsing-reads at (Heading, d) is = tt
-parsing-reads at (BeforeSubsets part, d) is = tt
-parsing-reads at (Filling subset, d) is = tt
-parsing-reads at (Stopped, d) is = is
+parsing-reads at parsing is = grind arith
 
 -- A line that is too long stops the reader.
 pub long-reports : (s : ReaderModel) → Reads s.parsing.0 → has_no_feed s.held ≡ true → 4096 < length s.held
@@ -608,12 +584,12 @@ long-reports s reads clean long = record { goes = refuses-long s.at s.parsing s.
 
 -- the progress of a reader after another read
 pub progress-read : (d : Progress) (held held' reads : ℕ) → IsProgress d held reads → held' ≤ held + 4096 → IsProgress d held' (reads + 1)
-progress-read d held held' reads is few = record { holds = is.holds; some = is.some; near = omega (arith, is.near, few) }
+progress-read d held held' reads is few = record { holds = is.holds; some = is.some; near = omega (arith, is.near) }
 
 -- The buffer is allocated at the first read.
 pub room-made : (reads reads' room room' : ℕ) → (0 < reads → 8192 ≤ room) → room ≤ room' → (reads ≡ 0 → 0 < reads' → 8192 ≤ room') → 0 < reads' → 8192 ≤ room'
 room-made zero reads' room room' made order first some = first refl some
-room-made (suc reads) reads' room room' made order first some = omega (arith, made (omega arith), order)
+room-made (suc reads) reads' room room' made order first some = omega arith
 
 -- Each line reports at most one document or fault, and so does the end of input.
 reported-few : (at : ℕ) (t : LineStep) → length (reported_at at t) ≤ 1
@@ -633,7 +609,7 @@ unfolding parse_lines
 spelled-few [] at parsing = end-few at parsing.0
 spelled-few (line ∷ more) at parsing =
     let here = line_step at parsing (read_line line) in
-    omega (arith, reported-few at here, spelled-few more (at + 1) (parsing_after here), length-append (reported_at at here) (parse_lines (at + 1) (parsing_after here) more))
+    omega (arith, reported-few, spelled-few more (at + 1) (parsing_after here), length-append (reported_at at here) (parse_lines (at + 1) (parsing_after here) more))
 
 -- rules for the goals of single functions
 pub ruleset more_steps = (length-append, ends-append, progress-read, room-made)

@@ -73,7 +73,8 @@ octets_of_a_number = (refl, refl)
 
 -- An `R` line has only a number as its value, after one space.
 -- rule: reading-reference, reading-after-a-value
-lines_of_references : said (codes "R 012101 -400" ∷ codes "R 012101 -400  # x" ∷ codes "R 012101 MISSING" ∷ (codes "R 012101 " ++ 34 ∷ 65 ∷ 34 ∷ []) ∷ codes "R 012101 -400 x" ∷ codes "R  012101 -400" ∷ codes "R 012101  -400" ∷ codes "R 01210 1" ∷ codes "R" ∷ codes "R 012101 " ∷ [])
+lines_of_references : said (codes "R 012101 -400" ∷ codes "R 012101 -400  # x" ∷ codes "R 012101 MISSING" ∷ (codes "R 012101 " ++ 34 ∷ 65 ∷ 34 ∷ []) ∷ codes "R 012101 -400 x" ∷ codes "R  012101 -400"
+    ∷ codes "R 012101  -400" ∷ codes "R 01210 1" ∷ codes "R" ∷ codes "R 012101 " ∷ [])
     ≡ ItemLine 3173 (reference_token (codes "-400")) ∷ ItemLine 3173 (reference_token (codes "-400")) ∷ replicate 8 Wrong
 unfolding said
 lines_of_references = refl
@@ -82,7 +83,8 @@ lines_of_references = refl
 -- comment is rejected after a reference, `MISSING` or a text, or if the space is not required.
 -- rule: reading-after-a-value
 after_a_value :
-    (said (codes "001001 MISSING # x" ∷ codes "001001 MISSING#" ∷ codes "001001 MISSING " ∷ codes "001001 MISSINGS" ∷ codes "001001 MISSIN" ∷ codes "001001 missing" ∷ (codes "205001 " ++ 34 ∷ 65 ∷ 34 ∷ codes " #") ∷ (codes "205001 " ++ 34 ∷ 65 ∷ 34 ∷ codes "#") ∷ [])
+    (said (codes "001001 MISSING # x" ∷ codes "001001 MISSING#" ∷ codes "001001 MISSING " ∷ codes "001001 MISSINGS" ∷ codes "001001 MISSIN" ∷ codes "001001 missing"
+    ∷ (codes "205001 " ++ 34 ∷ 65 ∷ 34 ∷ codes " #") ∷ (codes "205001 " ++ 34 ∷ 65 ∷ 34 ∷ codes "#") ∷ [])
     ≡ ItemLine 257 missing_form ∷ Wrong ∷ Wrong ∷ Wrong ∷ Wrong ∷ Wrong ∷ ItemLine 0x8501 (text_form (65 ∷ [])) ∷ Wrong ∷ [])
     × (said (codes "R 012101 1 #" ∷ codes "R 012101 1#" ∷ codes "R 012101 1 " ∷ []) ≡ ItemLine 3173 (reference_token (codes "1")) ∷ Wrong ∷ Wrong ∷ [])
 unfolding said
@@ -129,7 +131,10 @@ documents_in lines = documents_of (text_of_lines lines)
 -- the results of these lines and an invalid line after a header; the first line is line 22
 after_header : (optional subsets : ℕ) → List (List ℕ) → List ParseResult
 unfolding line_of worded without_prefix fxy_read value_read quoted_read is_hashed keys leasts mosts hex_read descriptors_read parse_lines line_step
-after_header optional subsets lines = parse_lines 22 (BeforeSubsets group.Local1, record (blank 1) { header = 4 ∷ 0 ∷ 98 ∷ 0 ∷ 0 ∷ 0 ∷ 0 ∷ 0 ∷ 14 ∷ 0 ∷ 2024 ∷ 1 ∷ 2 ∷ 3 ∷ 4 ∷ 5 ∷ 1 ∷ 0 ∷ optional ∷ subsets ∷ [] }) (lines ++ codes "x" ∷ [])
+after_header optional subsets lines = parse_lines 22 (
+  BeforeSubsets group.Local1,
+  record (blank 1) { header = 4 ∷ 0 ∷ 98 ∷ 0 ∷ 0 ∷ 0 ∷ 0 ∷ 0 ∷ 14 ∷ 0 ∷ 2024 ∷ 1 ∷ 2 ∷ 3 ∷ 4 ∷ 5 ∷ 1 ∷ 0 ∷ optional ∷ subsets ∷ [] },
+) (lines ++ codes "x" ∷ [])
 
 abbrev line_at : ℕ → List ParseResult
 line_at n = Refused n NotAllowed ∷ []
@@ -149,7 +154,8 @@ late_header lines = parse_lines 20 (Heading, record (blank 1) { header = 4 ∷ 0
 -- The header ends with the `subsets` line, and not before.
 -- rule: reading-header-order, fault-61
 end_of_the_header :
-    map late_header ((codes "optional 1" ∷ codes "subsets 65535" ∷ codes "local1 01" ∷ []) ∷ (codes "optional 0" ∷ codes "local1 01" ∷ []) ∷ (codes "optional 0" ∷ codes "end" ∷ []) ∷ (codes "optional 0" ∷ codes "subsets 1" ∷ codes "subsets 1" ∷ [])
+    map late_header ((codes "optional 1" ∷ codes "subsets 65535" ∷ codes "local1 01" ∷ []) ∷ (codes "optional 0" ∷ codes "local1 01" ∷ []) ∷ (codes "optional 0" ∷ codes "end" ∷ [])
+    ∷ (codes "optional 0" ∷ codes "subsets 1" ∷ codes "subsets 1" ∷ [])
     ∷ (codes "subsets 1" ∷ []) ∷ (codes "optional 2" ∷ []) ∷ (codes "optional 0" ∷ codes "subsets 65536" ∷ []) ∷ [])
     ≡ line_at 23 ∷ line_at 21 ∷ line_at 21 ∷ line_at 22 ∷ line_at 20 ∷ range_at 20 ∷ range_at 21 ∷ []
 unfolding late_header
@@ -160,7 +166,8 @@ end_of_the_header = refl
 -- rejected.
 -- rule: reading-section2, reading-long-lists, fault-50
 kinds_in_order :
-    (after_header 1 1 (codes "local1 01" ∷ codes "local1 01" ∷ codes "section2 01" ∷ codes "section2 01" ∷ codes "descriptors 001001" ∷ codes "descriptors 001001" ∷ codes "subset 1" ∷ codes "001001 1" ∷ codes "R 012101 1" ∷ []) ≡ line_at 31)
+    (after_header 1 1 (codes "local1 01" ∷ codes "local1 01" ∷ codes "section2 01" ∷ codes "section2 01" ∷ codes "descriptors 001001" ∷ codes "descriptors 001001" ∷ codes "subset 1"
+    ∷ codes "001001 1" ∷ codes "R 012101 1" ∷ []) ≡ line_at 31)
     × (map (after_header 1 1) ((codes "section2 01" ∷ codes "local1 01" ∷ []) ∷ (codes "descriptors 001001" ∷ codes "local1 01" ∷ []) ∷ (codes "descriptors 001001" ∷ codes "section2 01" ∷ [])
     ∷ (codes "subset 1" ∷ codes "local1 01" ∷ []) ∷ (codes "subset 1" ∷ codes "section2 01" ∷ []) ∷ (codes "subset 1" ∷ codes "descriptors 001001" ∷ []) ∷ []) ≡ replicate 6 (line_at 23))
 unfolding after_header
@@ -168,7 +175,8 @@ kinds_in_order = (refl, refl)
 
 -- Octets of section 2 are allowed only if `optional` is 1.
 -- rule: reading-section2
-section2_by_the_flag : (after_header 0 1 (codes "section2 01" ∷ []) ≡ line_at 22) × (after_header 1 1 (codes "section2 01" ∷ []) ≡ line_at 23) × (after_header 0 1 (codes "local1 01" ∷ []) ≡ line_at 23)
+section2_by_the_flag : (after_header 0 1 (codes "section2 01" ∷ []) ≡ line_at 22) × (after_header 1 1 (codes "section2 01" ∷ []) ≡ line_at 23)
+    × (after_header 0 1 (codes "local1 01" ∷ []) ≡ line_at 23)
 unfolding after_header
 section2_by_the_flag = (refl, refl, refl)
 
@@ -187,7 +195,8 @@ lines_out_of_place = (refl, refl)
 -- rule: fault-57, reading-subsets
 numbers_of_subsets :
     (map (λ line. after_header 0 1 (line ∷ [])) (codes "subset 0" ∷ codes "subset 01" ∷ codes "subset 2" ∷ codes "end" ∷ []) ≡ count_at 22 ∷ line_at 23 ∷ count_at 22 ∷ count_at 22 ∷ [])
-    × (map (λ line. after_header 0 3 (codes "subset 1" ∷ line ∷ [])) (codes "subset 1" ∷ codes "subset 2" ∷ codes "subset 3" ∷ codes "end" ∷ []) ≡ count_at 23 ∷ line_at 24 ∷ count_at 23 ∷ count_at 23 ∷ [])
+    × (map (λ line. after_header 0 3 (codes "subset 1" ∷ line ∷ [])) (codes "subset 1" ∷ codes "subset 2" ∷ codes "subset 3" ∷ codes "end" ∷ [])
+    ≡ count_at 23 ∷ line_at 24 ∷ count_at 23 ∷ count_at 23 ∷ [])
     × (after_header 0 2 (codes "subset 2" ∷ []) ≡ count_at 22)
     × (after_header 0 1 (codes "subset 1" ∷ codes "subset 2" ∷ []) ≡ count_at 23)
     × (map (λ line. after_header 0 0 (line ∷ [])) (codes "subset 0" ∷ codes "subset 1" ∷ []) ≡ count_at 22 ∷ count_at 22 ∷ [])
@@ -210,9 +219,11 @@ line_before_count = (refl, refl, refl, refl)
 -- An invalid line, or a key that is not the next one, is reported before a value out of range.
 -- rule: fault-order-of-a-line, reading-header-order
 line_before_range :
-    (map (λ line. documents_in (codes "message" ∷ line ∷ [])) (codes "edition 5 " ∷ codes "edition x" ∷ codes "master 256" ∷ codes "edition 2" ∷ codes "edition 3" ∷ codes "edition 4" ∷ codes "edition 5" ∷ [])
+    (map (λ line. documents_in (codes "message" ∷ line ∷ [])) (codes "edition 5 " ∷ codes "edition x" ∷ codes "master 256" ∷ codes "edition 2" ∷ codes "edition 3" ∷ codes "edition 4"
+    ∷ codes "edition 5" ∷ [])
     ≡ line_at 2 ∷ line_at 2 ∷ line_at 2 ∷ range_at 2 ∷ line_at 3 ∷ line_at 3 ∷ range_at 2 ∷ [])
-    × (map (λ line. documents_in (codes "message" ∷ codes "edition 4" ∷ line ∷ [])) (codes "edition 9" ∷ codes "centre 65536" ∷ codes "master 256 # x" ∷ codes "master 255" ∷ codes "master 256" ∷ codes "master 99999999999999999999999" ∷ [])
+    × (map (λ line. documents_in (codes "message" ∷ codes "edition 4" ∷ line ∷ []))
+    (codes "edition 9" ∷ codes "centre 65536" ∷ codes "master 256 # x" ∷ codes "master 255" ∷ codes "master 256" ∷ codes "master 99999999999999999999999" ∷ [])
     ≡ line_at 3 ∷ line_at 3 ∷ line_at 3 ∷ line_at 4 ∷ range_at 3 ∷ range_at 3 ∷ [])
     × (documents_in (codes "edition 5" ∷ []) ≡ line_at 1)
     × (after_header 0 1 (codes "centre 65536" ∷ []) ≡ line_at 22)
@@ -236,7 +247,8 @@ longest_line = (refl, refl, refl, refl)
 -- After an invalid line, nothing more is reported.
 -- rule: input-ends-early, fault-50
 where_a_text_ends :
-    (map documents_of ([] ∷ codes "\n" ∷ codes "# x" ∷ codes "message" ∷ codes "message\n" ∷ codes "message\nedition 4\n" ∷ codes "message\nedition 4\n# x" ∷ codes "message\nx\ny\n" ∷ codes "message \n" ∷ codes "messages\n" ∷ [])
+    (map documents_of ([] ∷ codes "\n" ∷ codes "# x" ∷ codes "message" ∷ codes "message\n" ∷ codes "message\nedition 4\n" ∷ codes "message\nedition 4\n# x" ∷ codes "message\nx\ny\n"
+    ∷ codes "message \n" ∷ codes "messages\n" ∷ [])
     ≡ [] ∷ [] ∷ [] ∷ line_at 2 ∷ line_at 2 ∷ line_at 3 ∷ line_at 4 ∷ line_at 2 ∷ line_at 1 ∷ line_at 1 ∷ [])
     × (map open_documents_of (codes "message" ∷ codes "message\nedition 4\n" ∷ codes "message\nedition 4\nx" ∷ codes "message\nx\n" ∷ []) ≡ [] ∷ [] ∷ [] ∷ line_at 2 ∷ [])
 unfolding line_of worded without_prefix fxy_read value_read quoted_read is_hashed keys leasts mosts hex_read descriptors_read parse_lines lines_of line_step

@@ -1,16 +1,16 @@
 -- The document of an accepted message is encoded to a message with the same reading.
-use Rattle.std.proofs.Common.{inl, inr, ◌≡◌, ℕ, ◌/◌, ◌<◌, ◌≤◌, ◌^◌, Bool, true, false, List, [], ◌∷◌, map, Option, Some, None, refl, subst, arith, ◌*◌, ◌&&◌, Result, Ok, Err, ◌+◌, ◌-◌, length, take, drop, sym, ◌∙◌, ap, ◌%◌, ◌++◌, codes, append_assoc, length-append, ◌≢◌, ◌==◌, nat_lt, if◌then◌else◌, unwrap_or, is_some, ◌||◌, IfOk, IfErr, Vec}
+use Rattle.std.proofs.Common.{inl, inr, ◌≡◌, ℕ, ◌/◌, ◌<◌, ◌≤◌, ◌^◌, Bool, true, false, List, [], ◌∷◌, map, Option, Some, None, refl, subst, arith, ◌*◌, ◌&&◌, Result, Ok, Err, ◌+◌, ◌-◌, length, drop, sym, ◌∙◌, ap, ◌%◌, ◌++◌, codes, append_assoc, length-append, ◌≢◌, ◌==◌, nat_lt, if◌then◌else◌, unwrap_or, is_some, ◌||◌, IfOk, IfErr, Vec, rules}
 use Rattle.std.specs.List.{AllByRecursion}
 use Rattle.std.proofs.lemmas.Bool.Decides.{nat_tests}
 use Rattle.bufr_tables.specs.Prelude.{Row, IsLegal, tree_of, tables_of, Tree, Sequence, places}
 use Rattle.bufr_walk.proofs.NextField.{AreRead}
 use Rattle.bufr_walk.specs.Prelude.{FieldSpec, Content, shown, Course, next_item, data_of, Item, Values, apart, together, View, subsets_from, counted_item, each_subset}
-use Rattle.bufr_text.specs.Prelude.{header_in, IsDescriptorWord, items_shown, IsOctet, dump_value_of, item_entries, subset_entries, document_of, dump_text_of, lines_before, IsAccepted, dump_items, extra_octets, SaySame, HasSameReading, IsEncodedAgain, Document, ◌>>=◌, map_err, data_bits, octets_of_bits, message_of, encoding_in, encoding_of, compressed_as, parts_as, AreOctetsOf, IsData, IsDocumentRefusal, Form, WritesForm, DocumentFault, document_fault}
+use Rattle.bufr_text.specs.Prelude.{header_in, IsDescriptorWord, items_shown, IsOctet, dump_value_of, item_entries, subset_entries, document_of, dump_text_of, lines_before, IsAccepted, dump_items, extra_octets, SaySame, HasSameReading, IsEncodedAgain, Document, map_err, data_bits, octets_of_bits, message_of, encoding_in, encoding_of, compressed_as, parts_as, AreOctetsOf, IsData, IsDocumentRefusal, Form, WritesForm, DocumentFault, document_fault}
 use Rattle.std.proofs.lemmas.List.{take_at, drop_at, length-replicate}
 use Rattle.bufr_bits.specs.Prelude.{bits_of, padding}
-use Rattle.bufr_frame.specs.Prelude.{three_octets, octets_of_words, u24_at, Sections, sections_of, edition_of, section3_begins, section4_begins, IsFitting, MessageParts, with_even_length, message_octets, message_size, max_octets, section0_octets, section1_octets, section2_octets, section3_octets, section4_octets, data_flags, head_octets, max_extra_octets, parts_in, parts_of, sections_from, min_section_1, FrameAt, has_word_at, stated_length, classify, stream_event, candidate_len, scan_from}
+use Rattle.bufr_frame.specs.Prelude.{three_octets, octets_of_words, u24_at, Sections, sections_of, edition_of, section3_begins, section4_begins, IsFitting, MessageParts, with_even_length, message_octets, message_size, max_octets, section0_octets, section1_octets, section2_octets, section3_octets, section4_octets, data_flags, head_octets, max_extra_octets, parts_in, parts_of, sections_from, min_section_1, FrameAt, has_word_at, stated_length, classify, scan_from}
 use Rattle.bufr_frame.proofs.AgainLemmas.{sections-ended, edition-cases, head-small, least-when-even, no-longer, not-too-long, fitting-writable}
-use Rattle.bufr_fill.specs.Prelude.{IsDumped, AreDrafts, AreDumped, Draft, draft, DraftEntry, Ends, Subset, subset, prepend_to_subset, subsets_of, HasReading}
+use Rattle.bufr_fill.specs.Prelude.{IsDumped, AreDrafts, AreDumped, Draft, draft, DraftEntry, Ends, Subset, subset, subsets_of, HasReading}
 use Rattle.bufr_fill.proofs.FieldLemmas.{octet_bits_again, octets_in-are, length-octets_in}
 use Rattle.bufr_frame.specs.declared.section1.Head.{Head}
 use Rattle.bufr_frame.proofs.LayoutLemmas.{three-number, message_size_is, read-back, evened-bits, size-least}
@@ -43,7 +43,7 @@ three_small : (n : ℕ) → n < 2 ^ 24 → AllByRecursion IsOctet (three_octets 
 three_small n h = (omega (arith, h), (omega (arith, h), (omega (arith, h), tt)))
 
 high_small : (w : ℕ) → w < 65536 → w / 256 < 256
-high_small w h = omega (arith, h)
+high_small w h = omega arith
 
 low_small : (w : ℕ) → w % 256 < 256
 low_small w = omega arith
@@ -53,13 +53,13 @@ words_small [] h = tt
 words_small (w ∷ ws) h = (high_small w h.0, (low_small w, words_small ws h.1))
 
 flags_small : (o c : Bool) → data_flags o c < 256
-flags_small o c = grind (arith, nat_tests, common_steps)
+flags_small o c = grind arith
 
 evened_small : (edition prefix : ℕ) (octets : List ℕ) → AllByRecursion IsOctet octets → AllByRecursion IsOctet (with_even_length edition prefix octets)
-evened_small edition prefix octets h1 = grind (arith, nat_tests, common_steps)
+evened_small edition prefix octets h1 = grind (arith, common_steps)
 
 plain_small : (octets : List ℕ) → 4 + length octets < 2 ^ 24 → AllByRecursion IsOctet octets → AllByRecursion IsOctet (section4_octets octets)
-plain_small octets h g = both (three_octets (4 + length octets)) (0 ∷ octets) (three_small (4 + length octets) h) (omega arith, g)
+plain_small octets h g = grind (arith, common_steps, both, three_small)
 
 section2_small : (section2 : Option (List ℕ)) (n : ℕ) → n < 2 ^ 24 → length (section2_octets section2) ≤ n → AllByRecursion IsOctet (unwrap_or section2 [])
     → AllByRecursion IsOctet (section2_octets section2)
@@ -67,7 +67,7 @@ section2_small None n few h g = tt
 section2_small (Some octets) n few h g = plain_small octets (omega (arith, few, h)) g
 
 section2_least : (edition : ℕ) (p : MessageParts) → length (section2_octets p.section2) ≤ message_size edition p
-section2_least edition p = grind (arith, nat_tests, common_steps)
+section2_least edition p = omega arith
 
 pub octets_small : (h : Head) (p : MessageParts) → IsFitting h → AllByRecursion IsOctet p.local1 → AllByRecursion IsOctet (unwrap_or p.section2 []) → AllByRecursion IsDescriptorWord p.descriptors
     → p.subsets < 65536 → AllByRecursion IsOctet p.payload → message_size h.edition p ≤ max_octets
@@ -79,7 +79,6 @@ octets_small h p head local1 section2 descriptors subsets payload few =
     let words = octets_of_words p.descriptors in
     let third = with_even_length e 7 words in
     let fourth = with_even_length e 4 p.payload in
-    let s0 = section0_octets n e in
     let s1 = section1_octets h p.local1 (is_some p.section2) in
     let s2 = section2_octets p.section2 in
     let flags = data_flags p.observed p.compressed in
@@ -87,7 +86,7 @@ octets_small h p head local1 section2 descriptors subsets payload few =
     let s4 = section4_octets fourth in
     let end = codes "7777" in
     let edition_small : e < 256 = edition-cases e head.edition (λ is. omega (arith, is)) (λ is. omega (arith, is)) in
-    both s0 (s1 ++ (s2 ++ (s3 ++ (s4 ++ end)))) (let t = three_small n (omega (arith, few)) in
+    both (section0_octets n e) (s1 ++ (s2 ++ (s3 ++ (s4 ++ end)))) (let t = three_small n (omega (arith, few)) in
     (omega arith, (omega arith, (omega arith, (omega arith, (t.0, (t.1.0, (t.1.1.0, (edition_small, tt)))))))))
     (both s1 (s2 ++ (s3 ++ (s4 ++ end)))
     (both (three_octets (least + length p.local1) ++ head_octets h (is_some p.section2)) p.local1
@@ -109,29 +108,22 @@ octets_small h p head local1 section2 descriptors subsets payload few =
 least_message : List ℕ
 least_message = codes "BUFR" ++ 0 ∷ 0 ∷ 12 ∷ 4 ∷ codes "7777"
 
-verdict_frame : (m : List ℕ) → has_word_at (codes "BUFR") 0 m ≡ true → nat_lt (length m) 8 ≡ false → nat_lt (length m) (stated_length m) ≡ false → nat_lt (stated_length m) 12 ≡ false → has_word_at (codes "7777") (stated_length m - 4) m ≡ true → classify m ≡ classify least_message
+verdict_frame : (m : List ℕ) → has_word_at (codes "BUFR") 0 m ≡ true → nat_lt (length m) 8 ≡ false → nat_lt (length m) (stated_length m) ≡ false → nat_lt (stated_length m) 12 ≡ false
+    → has_word_at (codes "7777") (stated_length m - 4) m ≡ true → classify m ≡ classify least_message
 unfolding least_message
 verdict_frame m a b c d e = rw (a, b, c, d, e) refl
 
 at_least : (a b : ℕ) → b ≤ a → nat_lt a b ≡ false
-at_least a b h = grind (arith, nat_tests)
+at_least a b h = grind arith
 
 -- a message that states its length n, followed by the octets t
 module _ (m t : List ℕ) (n : ℕ) (is : stated_length (m ++ t) ≡ n) (long : length m ≡ n) where
   framed_by : (at : ℕ) → 12 ≤ n → classify (m ++ t) ≡ classify least_message → scan_from 0 at (m ++ t) ≡ FrameAt at m ∷ scan_from 0 (at + length m) t
   unfolding least_message
-  framed_by at least frame =
-      let some : 0 < length (m ++ t) = omega (arith, length-append m t, long, least) in
-      let moves : 0 < candidate_len (m ++ t) (classify (m ++ t)) = subst (λ v. 0 < candidate_len (m ++ t) v) (sym frame) (omega (arith, is, least)) in
-      let size : stated_length (m ++ t) ≡ length m = is ∙ sym long in
-      scan_from-here at (m ++ t) some moves
-      ∙ ap (λ v. stream_event at (m ++ t) v ++ scan_from 0 (at + candidate_len (m ++ t) v) (drop (candidate_len (m ++ t) v) (m ++ t))) frame
-      ∙ ap (λ x. FrameAt at x ∷ scan_from 0 (at + stated_length (m ++ t)) (drop (stated_length (m ++ t)) (m ++ t))) (ap (λ k. take k (m ++ t)) is ∙ take_at m t n long)
-      ∙ ap (λ x. FrameAt at m ∷ scan_from 0 (at + stated_length (m ++ t)) x) (ap (λ k. drop k (m ++ t)) is ∙ drop_at m t n long)
-      ∙ ap (λ k. FrameAt at m ∷ scan_from 0 (at + k) t) size
+  framed_by at least frame = search (rules, length-append, scan_from-here, take_at, drop_at)
 
 ends_with : (prefix t : List ℕ) (k : ℕ) → length prefix ≡ k → has_word_at (codes "7777") k ((prefix ++ codes "7777") ++ t) ≡ true
-ends_with prefix t k h1 = grind (arith, nat_tests, common_steps)
+ends_with prefix t k h1 = grind (arith, common_steps)
 
 pub framed : (h : Head) (p : MessageParts) (at : ℕ) (t : List ℕ) → length (message_octets h p) ≡ message_size h.edition p
     → scan_from 0 at (message_octets h p ++ t) ≡ FrameAt at (message_octets h p) ∷ scan_from 0 (at + length (message_octets h p)) t
@@ -149,25 +141,23 @@ framed h p at t long =
     ap (λ x. s0 ++ (s1 ++ (s2 ++ x))) (sym (append_assoc s3 s4 end)) ∙ ap (λ x. s0 ++ (s1 ++ x)) (sym (append_assoc s2 (s3 ++ s4) end))
     ∙ ap (λ x. s0 ++ x) (sym (append_assoc s1 (s2 ++ (s3 ++ s4)) end)) ∙ sym (append_assoc s0 (s1 ++ (s2 ++ (s3 ++ s4))) end) in
     let is : stated_length (m ++ t) ≡ n = three-number n in
-    let least : 12 ≤ n = omega arith in
     let at_end : length prefix ≡ n - 4 = omega (arith, long, ap length split, length-append prefix end) in
     let whole : length (m ++ t) ≡ n + length t = length-append m t ∙ ap (λ k. k + length t) long in
     let last : has_word_at end (stated_length (m ++ t) - 4) (m ++ t) ≡ true =
     ap (λ k. has_word_at end (k - 4) (m ++ t)) is ∙ ap (λ x. has_word_at end (n - 4) (x ++ t)) split ∙ ends_with prefix t (n - 4) at_end in
-    framed_by m t n is long at (omega (arith, least)) (verdict_frame (m ++ t) refl
-    (at_least (length (m ++ t)) 8 (omega (arith, whole, least)))
+    framed_by m t n is long at (omega arith) (verdict_frame (m ++ t) refl
+    (at_least (length (m ++ t)) 8 (omega (arith, whole)))
     (at_least (length (m ++ t)) (stated_length (m ++ t)) (omega (arith, whole, is)))
-    (at_least (stated_length (m ++ t)) 12 (omega (arith, is, least))) last)
+    (at_least (stated_length (m ++ t)) 12 (omega (arith, is))) last)
 
 -- ---- The dump text.
 
 text_same : (a b : Sections) (items items' : List (List View)) → SaySame AsWritten a b → items' ≡ items → dump_text_of b items' ≡ dump_text_of a items
-text_same a b items items' h1 h2 = grind (arith, nat_tests, common_steps)
+text_same a b items items' h1 h2 = grind (arith, common_steps)
 
 pub same_text : (table : List Row) (m : List ℕ) (s : Sections) (template : Tree) (values : Values) (octets : List ℕ) → (h : HasSameReading table m s template values octets)
     → dump_text_of h.sections (dump_items table h.sections.subsets values) ≡ dump_text_of s (dump_items table s.subsets values)
-same_text table m s template values octets h = text_same s h.sections (dump_items table s.subsets values) (dump_items table h.sections.subsets values) h.same
-    (ap (λ n. dump_items table n values) h.same.subsets)
+same_text table m s template values octets h = search (rules, text_same)
 
 -- ---- The drafts of a dump.
 
@@ -178,10 +168,10 @@ drafts_from at (item ∷ more) = draft at item.fxy (dump_value_of item.value) �
 items_drafted : (at line : ℕ) (items : List View) (more : List DraftEntry) → subsets_of (item_entries at items ++ (Ends line ∷ more)) ≡ subset (drafts_from at items) line ∷ subsets_of more
 unfolding item_entries
 items_drafted at line [] more = refl
-items_drafted at line (item ∷ items) more = ap (prepend_to_subset (draft at item.fxy (dump_value_of item.value))) (items_drafted (at + 1) line items more)
+items_drafted at line (item ∷ items) more = cc (items_drafted (at + 1) line items more)
 
 pub same_form : (spec : FieldSpec) (c : Content) → dump_value_of (shown spec c) ≡ fill.draft_value_of spec c
-same_form spec c = grind (arith, nat_tests, common_steps)
+same_form spec c = grind arith
 
 apart_drafted : (table : List Row) (at : ℕ) (items : List (reading.Item Content)) → AreDrafts IsDumped items (drafts_from at (items_shown table items))
 apart_drafted table at [] = tt
@@ -202,19 +192,19 @@ pub padded : (bits : List Bool) → length (bits ++ padding (length bits)) ≡ 8
 padded bits = omega (arith, length-append bits (padding (length bits)), length-replicate ((8 - length bits % 8) % 8) false)
 
 pub payload_bits : (bits : List Bool) → bits_of (octets_of_bits bits) ≡ bits ++ padding (length bits)
-payload_bits bits = octet_bits_again ((length bits + 7) / 8) (bits ++ padding (length bits)) (padded bits)
+payload_bits bits = omega (arith, octet_bits_again, padded)
 
 -- ---- The encoding of a document.
 
 within : (a b : ℕ) → a ≤ b → nat_lt b a ≡ false
-within a b h = grind (arith, nat_tests)
+within a b h = grind arith
 
 pub encoded_to : (table : List Row) (sequences : List Sequence) (d : Document) (template : Tree) (bits : List Bool)
     → tree_of (tables_of table sequences) d.descriptors ≡ Ok template → data_bits (header_in d).compressed (next_item table template) (subsets_of d.entries) ≡ Ok bits
     → message_size (header_in d).head.edition (parts_of_document d (octets_of_bits bits)) ≤ max_octets
     → encoding_of table sequences d ≡ Ok (message_octets (header_in d).head (parts_of_document d (octets_of_bits bits)))
 unfolding encoding_in
-encoded_to table sequences d template bits h1 h2 h3 = grind (arith, nat_tests, common_steps)
+encoded_to table sequences d template bits h1 h2 h3 = grind arith
 
 -- ---- The values in the document of a message.
 
@@ -231,7 +221,7 @@ parts_with s payload = parts_of s.local1 s.section2 s.descriptors s.subsets s.ob
 
 pub parts_back : (at : ℕ) (s : Sections) (items : List (List View)) (payload : List ℕ) → parts_of_document (document_of at s items) payload ≡ parts_with s payload
 unfolding parts_with
-parts_back at s items payload = λ j. parts_of s.local1 (section2_back s.section2 j) s.descriptors s.subsets (bit_back s.observed j) (bit_back s.compressed j) payload
+parts_back at s items payload = search (rules, section2_back, bit_back)
 
 pub size_least : (s : Sections) (payload : List ℕ) (n : ℕ) → length payload ≤ length s.payload → message_size s.head.edition (layout.parts_in s) ≤ n
     → message_size s.head.edition (parts_with s payload) ≤ n
@@ -243,7 +233,7 @@ size_least s payload n h g =
     omega (arith, made, size-least e (length s.local1) s.section2 (length s.descriptors) (length payload) (length s.payload) n h (omega (arith, least, g)))
 
 pub size_is : (m : List ℕ) (s : Sections) → sections_of m ≡ Ok s → s.size ≡ length m
-size_is m s e = ap (λ (x : Sections). x.size) (sections-ended m s e).is
+size_is m s e = cc ((sections-ended m s e).is)
 
 -- the bits that are written for a message's values; reading these bits gives the same values
 pub record IsFilled (table : List Row) (template : Tree) (s : Sections) (values : Values) (entries : List DraftEntry) : Type 0 where
@@ -257,17 +247,17 @@ pub enough : (out octets : List Bool) (bits : List Bool) → bits ≡ out ++ oct
 enough out octets bits e = omega (arith, ap length e, length-append out octets)
 
 pub suffix : (out more bits : List Bool) → bits ≡ out ++ more → drop (length out) bits ≡ more
-suffix out more bits e = ap (drop (length out)) e ∙ drop_at out more (length out) refl
+suffix out more bits e = rw (e, drop_at)
 
 pub fills_as : (b c : Bool) (course : Course) (drafts : List Subset) (out : List Bool) → b ≡ c → data_bits c course drafts ≡ Ok out → data_bits b course drafts ≡ Ok out
-fills_as b c course drafts out e h = ap (λ x. data_bits x course drafts) e ∙ h
+fills_as b c course drafts out e h = rw (e, h)
 
 -- Octets that begin with these bits are read as the same values.
 pub reads_octets : (course : Course) (compressed : Bool) (n : ℕ) (values : Values) (out : List Bool)
     → ((more : List Bool) → HasReading course (record { compressed = compressed; subsets = n; bits = out ++ more }) values (length out))
     → (octets : List ℕ) (more : List Bool) → bits_of octets ≡ out ++ more → HasReading course (record { compressed = compressed; subsets = n; bits = bits_of octets }) values (length out)
 reads_octets course compressed n values out again octets more e =
-    subst (λ bits. HasReading course (record { compressed = compressed; subsets = n; bits = bits }) values (length out)) (sym e) (again more)
+    rw e (again more)
 
 -- The drafts of a dump are those of the items.
 pub all_dumped : (table : List Row) (at n : ℕ) (values : Values) → AreDumped (each_subset n values) (subsets_of (subset_entries at (dump_items table n values)))
@@ -278,12 +268,7 @@ pub filled : (table : List Row) (template : Tree) (s : Sections) (values : Value
     → HasReading (next_item table template) (data_of s) values used → IsFilled table template s values (subset_entries at (dump_items table s.subsets values))
 filled table template s values used at rows legal read =
     let w = written_again table template rows legal (data_of s) values used (subsets_of (subset_entries at (dump_items table s.subsets values))) read (all_dumped table at s.subsets values) in
-    record {
-      out = w.0.out;
-      fills = w.0.is;
-      short = omega (arith, w.1, read.within);
-      read = reads_octets (next_item table template) s.compressed s.subsets values w.0.out w.0.again;
-    }
+    grind (arith, common_steps, w.1, read.within)
 
 -- ---- The whole message.
 
@@ -305,7 +290,7 @@ at-most-even m s is = by (edition_of m == 3) (u24_at m (section3_begins m) % 2 =
         let none : max_extra_octets s.head.edition ≡ 0 = ap max_extra_octets edition ∙ ap (λ x. if x then 2 else 0) f in
         omega (arith, no-longer m s is, none)
     by true false false f g h =
-        let third : u24_at m (section3_begins m) % 2 ≢ 1 = grind (arith, nat_tests, g) in
+        let third : u24_at m (section3_begins m) % 2 ≢ 1 = grind arith in
         let fourth : u24_at m (section4_begins m) % 2 ≢ 1 = grind (arith, nat_tests, h) in
         let three : edition_of m ≡ 3 = grind (arith, nat_tests, f) in
         omega (arith, least-when-even m s is three (omega (arith, third)) (omega (arith, fourth)))
@@ -326,7 +311,7 @@ pub is_message : (h : Head) (p : MessageParts) (out : List Bool) → IsFitting h
     → AllByRecursion IsDescriptorWord p.descriptors → p.subsets < 65536 → p.payload ≡ octets_of_bits out → message_size h.edition p ≤ max_octets → IsMessageOf h p out
 is_message h p out fits local1 section2 descriptors subsets payload few =
     let back = read-back h p (fitting-writable h fits) in
-    let long : length (message_octets h p) ≡ message_size h.edition p = sym (size_is (message_octets h p) (sections_from h p) back) in
+    let long : length (message_octets h p) ≡ message_size h.edition p = omega (arith, size_is) in
     let even = evened-bits h.edition 4 (octets_of_bits out) in
     record {
       octets = octets_small h p fits local1 section2 descriptors subsets
@@ -352,7 +337,7 @@ encoded_again table sequences m s template values used at rows legal a =
     let short : length payload ≤ length s.payload = omega (arith, f.short, length-bits_of s.payload, length-octets_in ((length f.out + 7) / 8) (f.out ++ padding (length f.out))) in
     let least : message_size edition parts ≤ length m + extra_octets m = size_least s payload (length m + extra_octets m) short (at-most-even m s a.sections) in
     let most : message_size edition parts ≤ max_octets = size_least s payload max_octets short (not-too-long m s a.sections a.few) in
-    let few : message_size edition (parts_of_document d payload) ≤ max_octets = subst (λ (p : MessageParts). message_size edition p ≤ max_octets) (sym same) most in
+    let few : message_size edition (parts_of_document d payload) ≤ max_octets = grind (arith, common_steps) in
     let fills : data_bits (header_in d).compressed (next_item table template) (subsets_of d.entries) ≡ Ok f.out =
     fills_as (header_in d).compressed s.compressed (next_item table template) (subsets_of d.entries) f.out (bit_back s.compressed) f.fills in
     let given = sections_given m s a.octets a.sections in
@@ -375,7 +360,7 @@ encoded_again table sequences m s template values used at rows legal a =
 
 pub accepted_again : (table : List Row) (sequences : List Sequence) (m : List ℕ) (s : Sections) (template : Tree) (values : Values) (used : ℕ) (octets : List ℕ)
     → IsAccepted table sequences m s template values used → (again : HasSameReading table m s template values octets) → IsAccepted table sequences octets again.sections template values again.used
-accepted_again table sequences m s template values used octets h1 again = grind (arith, nat_tests, common_steps)
+accepted_again table sequences m s template values used octets h1 again = grind arith
 
 -- ---- The encoding of a document from its parts.
 
@@ -394,12 +379,7 @@ module _ (form : Form) (table : List Row) (sequences : List Sequence) (d : Docum
       → data_bits (compressed_as form d) (next_item table template) (subsets_of d.entries) ≡ Ok bits → payload ≡ octets_of_bits bits
       → encoding_in form table sequences d ≡ message_of d.line (header_in d).head (parts_as (compressed_as form d) d payload)
   unfolding encoding_in
-  as_written template bits payload e f p =
-      ap (λ r. map_err (fault.Template d.line) r >>= λ t. map_err document_fault (data_bits (compressed_as form d) (next_item table t) (subsets_of d.entries)) >>= λ b. message_of d.line
-      (header_in d).head
-      (parts_as (compressed_as form d) d (octets_of_bits b))) e
-      ∙ ap (λ r. map_err document_fault r >>= λ b. message_of d.line (header_in d).head (parts_as (compressed_as form d) d (octets_of_bits b))) f
-      ∙ ap (λ o. message_of d.line (header_in d).head (parts_as (compressed_as form d) d o)) (sym p)
+  as_written template bits payload e f p = cc (e)
 
   pub whole : (n : ℕ) (template : Tree) (payload octets : List ℕ) (steps : ℕ) → tree_of (tables_of table sequences) d.descriptors ≡ Ok template
       → (h : IsData n (compressed_as form d) (counted_item table template) (subsets_of d.entries) payload steps) → ((bits : List Bool) → AreOctetsOf payload bits → payload ≡ octets_of_bits bits)
@@ -409,16 +389,12 @@ module _ (form : Form) (table : List Row) (sequences : List Sequence) (d : Docum
   pub not_whole : (n : ℕ) (template : Tree) (payload : List ℕ) (steps : ℕ) (o : DocumentFault) → tree_of (tables_of table sequences) d.descriptors ≡ Ok template
       → (h : IsData n (compressed_as form d) (counted_item table template) (subsets_of d.entries) payload steps) → ((bits : List Bool) → AreOctetsOf payload bits → payload ≡ octets_of_bits bits)
       → IsDocumentRefusal o (message_of d.line (header_in d).head (parts_as (compressed_as form d) d payload)) → IsDocumentRefusal o (encoding_in form table sequences d)
-  not_whole n template payload steps o e h p m = subst (λ r. IsDocumentRefusal o r) (sym (as_written template h.out payload e h.is (p h.out h.octets_are))) m
+  not_whole n template payload steps o e h p m = rw (as_written template h.out payload e h.is (p h.out h.octets_are)) m
 
   pub data_refused : (template : Tree) (why : DocumentFault) → tree_of (tables_of table sequences) d.descriptors ≡ Ok template
       → map_err document_fault (data_bits (compressed_as form d) (next_item table template) (subsets_of d.entries)) ≡ Err why → encoding_in form table sequences d ≡ Err why
   unfolding encoding_in
-  data_refused template why e h =
-      ap (λ r. map_err (fault.Template d.line) r >>= λ t. map_err document_fault (data_bits (compressed_as form d) (next_item table t) (subsets_of d.entries)) >>= λ b. message_of d.line
-      (header_in d).head
-      (parts_as (compressed_as form d) d (octets_of_bits b))) e
-      ∙ ap (λ r. r >>= λ b. message_of d.line (header_in d).head (parts_as (compressed_as form d) d (octets_of_bits b))) h
+  data_refused template why e h = rw (e, h)
 
   pub no_data : (template : Tree) (o : DocumentFault) → tree_of (tables_of table sequences) d.descriptors ≡ Ok template
       → IsDocumentRefusal o (map_err document_fault (data_bits (compressed_as form d) (next_item table template) (subsets_of d.entries))) → IsDocumentRefusal o (encoding_in form table sequences d)
@@ -428,9 +404,7 @@ module _ (form : Form) (table : List Row) (sequences : List Sequence) (d : Docum
   pub no_template : (o : DocumentFault) → IsDocumentRefusal o (map_err (fault.Template d.line) (tree_of (tables_of table sequences) d.descriptors))
       → IsDocumentRefusal o (encoding_in form table sequences d)
   unfolding encoding_in
-  no_template o (inl out) = inl out
-  no_template o (inr h) = inr (ap (λ r. r >>= λ t. map_err document_fault (data_bits (compressed_as form d) (next_item table t) (subsets_of d.entries)) >>= λ b. message_of d.line (header_in d).head
-      (parts_as (compressed_as form d) d (octets_of_bits b))) h)
+  no_template o h_is_document_refusal = grind arith
 
   -- A document whose data cannot be written is rejected.
   pub refused_form : (made : Result Tree TemplateFault) (why : DocumentFault) (steps : ℕ) → tree_of (tables_of table sequences) d.descriptors ≡ made → WritesForm form table d made (Err why) steps
