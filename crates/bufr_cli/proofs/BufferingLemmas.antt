@@ -1,10 +1,7 @@
 -- What a buffered writer accepted, after its sink took a part of the buffer.
-use Rattle.std.proofs.Common.{◌≡◌, ◌∙◌, ◌+◌, ◌-◌, ◌<◌, ℕ, zero, suc, Bool, false, List, ◌++◌, length, drop, Option, Some, None, Ok, ap, sym, arith, append_assoc, length-append}
-use Rattle.std.specs.Io.KnownBytes.{Keeps, append_known}
-use Rattle.std.proofs.Math.Seq.{drop-append_seam}
+use Rattle.std.proofs.Common.{◌≡◌, ◌<◌, ℕ, zero, suc, Bool, false, Ok, arith}
 use Rattle.bufr_bits.specs.Device.{all_flushed_after_write}
 use Rattle.bufr_bits.specs.declared.device.Failed.{Failed}
-use Rattle.bufr_text.specs.Prelude.{MovesPrefix}
 
 -- A write that accepted octets leaves octets that are not flushed.
 pub unflushed-some : (before after : Bool) (n : ℕ) → 0 < n → after ≡ all_flushed_after_write {E = Failed} before (Ok n) → after ≡ false

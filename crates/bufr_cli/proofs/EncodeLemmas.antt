@@ -1,27 +1,23 @@
 -- The progress of a run of `encode`, and the effect of each further step.
 use Rattle.bufr_text.proofs.LineLemmas.{lines-cons, lines-none}
-use Rattle.std.proofs.Common.{◌≡◌, ◌≢◌, ◌∙◌, ℕ, ◌+◌, ◌-◌, ◌*◌, ◌==◌, ◌≤◌, ◌<◌, ◌^◌, Bool, false, if◌then◌else◌, length-append, List, [], ◌∷◌, ◌++◌, length, None, arith, append_assoc, append-nil, Option, Result, Ok, Err, refl, sym, ap, subst, inl, inr, true, Some, map, count_by}
-use Rattle.std.specs.Io.KnownBytes.{Consumes}
+use Rattle.std.proofs.Common.{◌≡◌, ◌∙◌, ℕ, ◌+◌, ◌-◌, ◌*◌, ◌==◌, ◌≤◌, ◌<◌, ◌^◌, Bool, false, if◌then◌else◌, length-append, List, [], ◌∷◌, ◌++◌, length, None, arith, append_assoc, append-nil, Option, Result, Ok, Err, refl, sym, ap, subst, inl, true, Some, map, count_by}
 use Rattle.std.proofs.lemmas.Bool.{false≢true}
 use Rattle.std.proofs.lemmas.List.{length-map}
 use Rattle.bufr_tables.specs.Prelude.{Row, Sequence}
-use Rattle.bufr_frame.specs.Prelude.{FillEnds, max_reads}
+use Rattle.bufr_frame.specs.Prelude.{max_reads}
 use Rattle.bufr_frame.specs.declared.fault.RunFault.{RunFault}
-use Rattle.bufr_frame.specs.declared.fault.RunFault.TheVariants.{Read, Write, InputTooLong, Memory}
+use Rattle.bufr_frame.specs.declared.fault.RunFault.TheVariants.{Write}
 use Rattle.bufr_text.specs.declared.fault.TextLineFault.{TextLineFault}
 use Rattle.bufr_text.proofs.ReaderLemmas.{nothing-yet, spelled-few}
-use Rattle.bufr_text.specs.Prelude.{Document, ParseResult, Refused, between, lines_of, documents_of, open_documents_of, parse, parse_open, ReaderModel, new_reader, position_of, parse_results, ReadsLines, ReadsDocument, ReturnsNextDocument, GivesHeldDocument, NeedsLine, FillsBuffer, HasNoWholeLine, text_input}
+use Rattle.bufr_text.specs.Prelude.{Document, ParseResult, Refused, lines_of, documents_of, open_documents_of, parse, parse_open, ReaderModel, new_reader, position_of, parse_results, ReadsLines, ReadsDocument, ReturnsNextDocument, GivesHeldDocument, NeedsLine, FillsBuffer, HasNoWholeLine}
 use Rattle.bufr_text.specs.declared.fault.ReadFault.{ReadFault}
 use Rattle.bufr_text.specs.declared.encode.Form.{Form}
 use Rattle.bufr_text.specs.declared.fault.ReadFault.TheVariants.{Line, Run}
 use Rattle.bufr_cli.specs.declared.run_pieces.RunStep.{RunStep}
-use Rattle.bufr_cli.specs.Prelude.{BlamesWriter, CountsRead, EncodesDocuments, IsCut, IsDone, IsOpen, LeavesPiece, NeedsText, OnErrors, OnOutput, Piece, Progress, ReadsOctets, Verdict, Writers, WritesDocuments, WritesPrefixes, counted_refused, document_pieces, encode_pieces, is_refused, no_progress, read_pieces, result_piece, up_to_refused, with_octets, with_piece}
+use Rattle.bufr_cli.specs.Prelude.{BlamesWriter, EncodesDocuments, IsCut, IsDone, IsOpen, LeavesPiece, NeedsText, OnErrors, OnOutput, Piece, Progress, ReadsOctets, Verdict, Writers, WritesDocuments, WritesPrefixes, counted_refused, document_pieces, encode_pieces, is_refused, no_progress, read_pieces, result_piece, up_to_refused, with_octets, with_piece}
 use Rattle.bufr_cli.specs.declared.outcome.Verdict.TheVariants as verdict
 use Rattle.bufr_text.proofs.CallLemmas.{call-none, call-then, fill-call, reported-first, reported-first-openly, reported-at-end, reported-at-fault}
 use Rattle.bufr_cli.proofs.RunLemmas.{count-append, map-append, prefixes-nil}
-use Rattle.bufr_text.specs.declared.fault.DocumentFault.{DocumentFault}
-use Rattle.bufr_text.specs.declared.fault.DocumentFault.TheVariants as document
-use Rattle.bufr_text.specs.Prelude.{IsDocumentRefusal}
 use Rattle.std.specs.List.{onto_first}
 
 -- the report of a fault in the text
@@ -36,11 +32,11 @@ up-to-more : (pieces more : List Piece) → count_by is_refused pieces ≡ 0 →
 unfolding up_to_refused
 up-to-more [] more none = refl
 up-to-more (OnOutput text ∷ pieces) more none =
-    let r : count_by is_refused (OnOutput text ∷ pieces) ≡ 0 + count_by is_refused pieces = count-append is_refused (OnOutput text ∷ []) pieces in
-    ap (λ l. OnOutput text ∷ l) (up-to-more pieces more (omega (arith, r, none)))
+    let r : count_by is_refused (OnOutput text ∷ pieces) ≡ 0 + count_by is_refused pieces = omega arith in
+    cc (up-to-more pieces more (omega (arith, r)))
 up-to-more (OnErrors text ∷ pieces) more none =
     let r : count_by is_refused (OnErrors text ∷ pieces) ≡ 1 + count_by is_refused pieces = count-append is_refused (OnErrors text ∷ []) pieces in
-    absurd (omega (arith, r, none))
+    absurd (omega (arith, r))
 
 up-to-all : (pieces : List Piece) → count_by is_refused pieces ≡ 0 → up_to_refused pieces ≡ pieces
 unfolding up_to_refused
@@ -50,7 +46,7 @@ up-to-all pieces none = ap up_to_refused (sym (append-nil pieces)) ∙ up-to-mor
 up-to-refusal : (pieces more : List Piece) (p : Piece) → count_by is_refused pieces ≡ 0 → counted_refused verdict.Refused ≡ count_by is_refused (p ∷ [])
     → up_to_refused (pieces ++ p ∷ more) ≡ pieces ++ p ∷ []
 unfolding up_to_refused
-up-to-refusal pieces more (OnOutput text) none one = absurd (omega (arith, one))
+up-to-refusal pieces more (OnOutput text) none one = absurd (omega arith)
 up-to-refusal pieces more (OnErrors text) none one = up-to-more pieces (OnErrors text ∷ more) none
 
 -- The first piece is always part of the run.
@@ -66,15 +62,15 @@ onto-few c (line ∷ more) = omega arith
 
 -- A line feed begins a line. Any other octet is added to the first line.
 line-more : (c : ℕ) (more : List ℕ) (feed : Bool) (lines : List (List ℕ)) → length lines ≤ length more → length (if feed then [] ∷ lines else onto_first c lines) ≤ length (c ∷ more)
-line-more c more true lines few = omega (arith, few)
-line-more c more false lines few = omega (arith, few, onto-few c lines)
+line-more c more true lines few = omega arith
+line-more c more false lines few = omega (arith, onto-few)
 
 lines-few : (text : List ℕ) → length (lines_of text) ≤ length text
 lines-few [] = omega (arith, ap length lines-none)
-lines-few (c ∷ more) = subst (λ (ls : List (List ℕ)). length ls ≤ length (c ∷ more)) (sym (lines-cons c more)) (line-more c more (c == 10) (lines_of more) (lines-few more))
+lines-few (c ∷ more) = rw (lines-cons c more) (line-more c more (c == 10) (lines_of more) (lines-few more))
 
 documents-few : (text : List ℕ) → length (documents_of text) ≤ length text + 1
-documents-few text = omega (arith, spelled-few (lines_of text) 1 between, lines-few text)
+documents-few text = omega (arith, spelled-few, lines-few)
 
 -- ---- The progress of a run.
 
@@ -138,7 +134,7 @@ module _ (form : Form) (b : List Row) (d : List Sequence) (s : ReaderModel) (so 
       subst R (ap (λ l. so.octets ++ l) none ∙ append-nil so.octets) (call-then so.from so.left so.left new_reader s s' wrote.results results so.octets bs wrote.reads reads)
 
   none-refused : count_by is_refused (map piece wrote.results) ≡ 0
-  none-refused = ap (count_by is_refused) (sym wrote.pieces) ∙ wrote.accepted
+  none-refused = cc (wrote.pieces)
 
   -- A read is needed.
   module _ (s1 : ReaderModel) (needs : NeedsLine s s1) (same : s1.reads ≡ s.reads) where
@@ -173,7 +169,7 @@ module _ (form : Form) (b : List Row) (d : List Sequence) (s : ReaderModel) (so 
       let call = lines-taken s' [] given.octets reads (none-read given.octets s.reads s'.reads reads.few same) in
       let ends = given.ends.1 in
       let all : documents_of so.octets ≡ wrote.results = reported-at-end so.from so.left s' (wrote.results ++ []) so.octets call ends ∙ append-nil wrote.results in
-      let pieces : encode_pieces form b d (documents_of so.octets) ≡ so.pieces = ap (encode_pieces form b d) all ∙ up-to-all (map piece wrote.results) none-refused ∙ sym wrote.pieces in
+      let pieces : encode_pieces form b d (documents_of so.octets) ≡ so.pieces = cc (all, up-to-all (map piece wrote.results) none-refused) in
       record {
         ended = true;
         read = wrote.reads.read;
@@ -332,13 +328,7 @@ module _ (form : Form) (b : List Row) (d : List Sequence) (s : ReaderModel) (so 
   -- A fault occurred, and no octets were read.
   pub text-unread : (s' : ReaderModel) (left' : Option (List ℕ)) (f : RunFault) (bs : List ℕ) → NeedsText verdict.Accepted s → FillsBuffer so.left left' s s' (Err (Run f)) bs
       → ReadsOctets (λ _. ⊥) so left' (Err f)
-  text-unread s' left' f bs needs (x, reads, is, short) = (subst (λ octets. Consumes so.left left' octets) reads.fills.ends.0 reads.fills.read, by f reads.fills.ends)
-    where
-      by : (g : RunFault) → FillEnds (s.reads ≡ 0) (text_input s s.held) (text_input x (s.held ++ bs)) bs (Err g) → g ≡ InputTooLong → max_reads ≤ length so.octets
-      by Read ends long = cc
-      by Write ends long = cc
-      by InputTooLong ends long = omega (arith, wrote.each needs.going, ends.2.0, ends.2.1)
-      by Memory ends long = cc
+  text-unread s' left' f bs needs (x, reads, is, short) = grind arith
 
 -- A verdict other than `Refused` is `Accepted`.
 pub accepted-else : (v : Verdict) → (v ≡ verdict.Refused → ⊥) → v ≡ verdict.Accepted
@@ -353,7 +343,4 @@ no-write-fault s s' f gives is =
 
 -- Therefore, no writer is blamed.
 pub blames-none : (w : Writers) (f : RunFault) → (f ≡ Write → ⊥) → BlamesWriter {X = RunStep} w w (Err f)
-blames-none w Read none = ((refl, refl), (refl, refl))
-blames-none w Write none = absurd (none refl)
-blames-none w InputTooLong none = ((refl, refl), (refl, refl))
-blames-none w Memory none = ((refl, refl), (refl, refl))
+blames-none w f none = grind arith

@@ -1,17 +1,15 @@
 -- The progress of a run over the events of a stream, and the effect of each further step.
-use Rattle.bufr_frame.specs.Prelude.{Advances, FinderModel, NeedsRead, ReadsAndPasses, ReadsMore, ReturnsNextEvent, StreamEvent, events_of, new_finder, open_scan, scan, scan_from}
-use Rattle.std.proofs.Common.{◌≡◌, ◌∙◌, ◌≤◌, ◌<◌, ◌^◌, ℕ, ◌+◌, ◌-◌, Bool, true, false, List, [], ◌∷◌, ◌++◌, length, length-append, length-drop, refl, sym, ap, subst, arith, Option, Some, None, Result, Ok, Err, append-nil, append_assoc, map}
+use Rattle.bufr_frame.specs.Prelude.{Advances, FinderModel, NeedsRead, ReadsAndPasses, ReturnsNextEvent, StreamEvent, events_of, new_finder, open_scan, scan, scan_from}
+use Rattle.std.proofs.Common.{◌≡◌, ◌∙◌, ◌≤◌, ◌<◌, ◌^◌, ℕ, ◌+◌, ◌-◌, Bool, true, false, List, [], ◌∷◌, ◌++◌, length, length-append, refl, sym, ap, subst, arith, Option, Some, None, Ok, append-nil, append_assoc, map}
 use Rattle.std.specs.List.{concat}
-use Rattle.std.specs.Io.KnownBytes.{Consumes, IsAtEnd}
+use Rattle.std.specs.Io.KnownBytes.{IsAtEnd}
 use Rattle.std.proofs.KnownBytes.{Consumes-nil}
 use Rattle.std.proofs.lemmas.Bool.{false≢true}
-use Rattle.bufr_frame.specs.declared.fault.RunFault.{RunFault}
-use Rattle.bufr_frame.specs.declared.fault.RunFault.TheVariants.{Read, Write, InputTooLong, Memory}
 use Rattle.bufr_frame.specs.declared.finder.Event.{Event}
 use Rattle.bufr_frame.specs.declared.finder.Event.TheVariants.{Done}
 use Rattle.bufr_bits.specs.Prelude.{counted}
-use Rattle.bufr_frame.proofs.FinderLemmas.{read-step, events-are-open, Advances-none, Follows-none, ReadsAndPasses-then, whole-scan, events-are-certain}
-use Rattle.bufr_cli.specs.Prelude.{CountsRead, IsCut, IsDone, IsOpen, NeedsOctets, Piece, Progress, ReadsOctets, Writers, WritesEvents, WritesPrefixes, event_pieces, no_progress, read_pieces, with_piece}
+use Rattle.bufr_frame.proofs.FinderLemmas.{events-are-open, Advances-none, Follows-none, ReadsAndPasses-then, whole-scan, events-are-certain}
+use Rattle.bufr_cli.specs.Prelude.{IsCut, IsDone, IsOpen, Piece, Progress, Writers, WritesEvents, WritesPrefixes, event_pieces, no_progress, read_pieces, with_piece}
 use Rattle.bufr_cli.proofs.RunLemmas.{map-append}
 
 -- Nothing has been read or written yet.

@@ -27,7 +27,8 @@ one_block_number = 0x42 ∷ 0x55 ∷ 0x46 ∷ 0x52 ∷ 0x00 ∷ 0x00 ∷ 0x30 �
     0x37 ∷ 0x37 ∷ 0x37 ∷ 0x37 ∷ []
 
 -- the line of this message in a listing
-one-listed : map ls_piece (scan one_block_number) ≡ OnOutput (codes "offset=0 length=48 edition=4 centre=98/0 update=0 category=0/0/0 tables=0/14/0 time=2024-01-02T03:04:05 subsets=1 observed=1 compressed=0 optional=0 descriptors=1\n") ∷ []
+one-listed : map ls_piece (scan one_block_number)
+    ≡ OnOutput (codes "offset=0 length=48 edition=4 centre=98/0 update=0 category=0/0/0 tables=0/14/0 time=2024-01-02T03:04:05 subsets=1 observed=1 compressed=0 optional=0 descriptors=1\n") ∷ []
 unfolding scan_from sections_of section_end min_section_1 digits
 one-listed = refl
 
@@ -119,7 +120,8 @@ item-lines = refl
 
 -- the same octets, declared to be edition 3: the table versions and the year are read as the month,
 -- day, hour and minute
-edition-3-listed : map ls_piece (scan (slice_set one_block_number 7 3)) ≡ OnOutput (codes "offset=0 length=48 edition=3 centre=98/0 update=0 category=0/0/0 tables=0/0/0 time=0000-14-00T07:232:00 subsets=1 observed=1 compressed=0 optional=0 descriptors=1\n") ∷ []
+edition-3-listed : map ls_piece (scan (slice_set one_block_number 7 3))
+    ≡ OnOutput (codes "offset=0 length=48 edition=3 centre=98/0 update=0 category=0/0/0 tables=0/0/0 time=0000-14-00T07:232:00 subsets=1 observed=1 compressed=0 optional=0 descriptors=1\n") ∷ []
 unfolding scan_from sections_of section_end min_section_1 digits
 edition-3-listed = refl
 
@@ -138,7 +140,8 @@ edition-3-line = refl
 
 -- a stray, and then a message of another edition
 -- rule: one-fault-a-message
-stray-listed : map ls_piece (scan (codes "BUFR" ++ 0 ∷ 0 ∷ 64 ∷ 4 ∷ (slice_set one_block_number 7 2 ++ 0 ∷ 0 ∷ 0 ∷ 0 ∷ 0 ∷ 0 ∷ 0 ∷ 0 ∷ []))) ≡ OnErrors (codes "offset 0: 3 no end\n") ∷ OnErrors (codes "offset 8: 10 edition 2\n") ∷ []
+stray-listed : map ls_piece (scan (codes "BUFR" ++ 0 ∷ 0 ∷ 64 ∷ 4 ∷ (slice_set one_block_number 7 2 ++ 0 ∷ 0 ∷ 0 ∷ 0 ∷ 0 ∷ 0 ∷ 0 ∷ 0 ∷ [])))
+    ≡ OnErrors (codes "offset 0: 3 no end\n") ∷ OnErrors (codes "offset 8: 10 edition 2\n") ∷ []
 unfolding scan_from sections_of section_end min_section_1 digits
 stray-listed = refl
 

@@ -17,7 +17,8 @@ abbrev fault_of_words : List Text → List ErrorKind
 fault_of_words words = fault_of bufr_app (codes "bufr" ∷ words)
 
 -- valid command lines
-understood : map fault_of_words ((codes "ls" ∷ []) ∷ (codes "ls" ∷ codes "a.bufr" ∷ []) ∷ (codes "dump" ∷ codes "-B" ∷ codes "b.csv" ∷ codes "-D" ∷ codes "d.csv" ∷ []) ∷ (codes "encode" ∷ codes "a.txt" ∷ codes "-Dd.csv" ∷ codes "-B=b.csv" ∷ []) ∷ (codes "encode" ∷ codes "-B" ∷ codes "b" ∷ codes "-D" ∷ codes "d" ∷ codes "--form" ∷ codes "plain" ∷ []) ∷ [])
+understood : map fault_of_words ((codes "ls" ∷ []) ∷ (codes "ls" ∷ codes "a.bufr" ∷ []) ∷ (codes "dump" ∷ codes "-B" ∷ codes "b.csv" ∷ codes "-D" ∷ codes "d.csv" ∷ [])
+    ∷ (codes "encode" ∷ codes "a.txt" ∷ codes "-Dd.csv" ∷ codes "-B=b.csv" ∷ []) ∷ (codes "encode" ∷ codes "-B" ∷ codes "b" ∷ codes "-D" ∷ codes "d" ∷ codes "--form" ∷ codes "plain" ∷ []) ∷ [])
     ≡ [] ∷ [] ∷ [] ∷ [] ∷ [] ∷ []
 unfolding walk_fault walked defaults_fault flags_fault bundle_met chars encode
 understood = refl
@@ -37,7 +38,10 @@ no-command = refl
 
 -- invalid command lines
 -- rule: usage, one-file
-refused : map fault_of_words ((codes "dump" ∷ codes "-B" ∷ codes "b.csv" ∷ []) ∷ (codes "ls" ∷ codes "a" ∷ codes "b" ∷ []) ∷ (codes "ls" ∷ codes "-B" ∷ codes "b.csv" ∷ []) ∷ (codes "dump" ∷ codes "-B" ∷ codes "b" ∷ codes "-D" ∷ codes "d" ∷ codes "-B" ∷ codes "c" ∷ []) ∷ (codes "encode" ∷ codes "-B" ∷ codes "b" ∷ codes "-D" ∷ codes "d" ∷ codes "--form" ∷ []) ∷ (codes "dump" ∷ codes "-B" ∷ codes "b" ∷ codes "-D" ∷ codes "d" ∷ codes "--form" ∷ codes "plain" ∷ []) ∷ (codes "encode" ∷ codes "-B" ∷ codes "b" ∷ codes "-D" ∷ codes "d" ∷ codes "--form" ∷ codes "plain" ∷ codes "--form" ∷ codes "plain" ∷ []) ∷ [])
+refused : map fault_of_words ((codes "dump" ∷ codes "-B" ∷ codes "b.csv" ∷ []) ∷ (codes "ls" ∷ codes "a" ∷ codes "b" ∷ []) ∷ (codes "ls" ∷ codes "-B" ∷ codes "b.csv" ∷ [])
+    ∷ (codes "dump" ∷ codes "-B" ∷ codes "b" ∷ codes "-D" ∷ codes "d" ∷ codes "-B" ∷ codes "c" ∷ []) ∷ (codes "encode" ∷ codes "-B" ∷ codes "b" ∷ codes "-D" ∷ codes "d" ∷ codes "--form" ∷ [])
+    ∷ (codes "dump" ∷ codes "-B" ∷ codes "b" ∷ codes "-D" ∷ codes "d" ∷ codes "--form" ∷ codes "plain" ∷ [])
+    ∷ (codes "encode" ∷ codes "-B" ∷ codes "b" ∷ codes "-D" ∷ codes "d" ∷ codes "--form" ∷ codes "plain" ∷ codes "--form" ∷ codes "plain" ∷ []) ∷ [])
     ≡ (MissingRequiredArgument ∷ []) ∷ (UnknownArgument ∷ []) ∷ (UnknownArgument ∷ []) ∷ (ArgumentConflict ∷ []) ∷ (InvalidValue ∷ []) ∷ (UnknownArgument ∷ []) ∷ (ArgumentConflict ∷ []) ∷ []
 unfolding walk_fault walked defaults_fault flags_fault bundle_met chars encode
 refused = refl

@@ -1,16 +1,11 @@
 -- Which subcommands have no job, and what an error of clap reports.
-use Rattle.std.proofs.Common.{◌≡◌, ◌≢◌, ◌∙◌, List, Some, ◌∷◌, inl, inr, Option, None, codes, sym, subst, ◌⊎◌, IfNone}
+use Rattle.std.proofs.Common.{◌≡◌, ◌≢◌, List, Some, inl, inr, Option, None, sym, subst, ◌⊎◌, IfNone}
 use Rattle.clap.specs.Words.{HasKind, IsAmong, Kinds, Row, Text}
 use Rattle.clap.specs.Values.{kind_of}
 use Rattle.clap.specs.declared.error.Error.{Error}
 use Rattle.clap.specs.declared.error.kind.ErrorKind.{ErrorKind}
 use Rattle.clap.specs.declared.error.kind.ErrorKind.TheVariants.{DisplayHelp, DisplayVersion, OutOfMemory}
-use Rattle.bufr_cli.specs.declared.job.Job.{Job}
-use Rattle.bufr_cli.specs.Prelude.{GivesNoJob, IsJobOf, HasTables, IsWhyNoJob, SaysWhy, name_of}
-use Rattle.bufr_cli.specs.declared.job.NoJob.{NoJob}
-use Rattle.bufr_cli.specs.declared.job.NoJob.TheVariants.{UnknownCommand, MissingTable, UnknownForm}
-use Rattle.bufr_cli.specs.declared.job.Subcommand.{Subcommand}
-use Rattle.bufr_cli.specs.declared.job.Subcommand.TheVariants.{Ls, Dump, Encode}
+use Rattle.bufr_cli.specs.Prelude.{SaysWhy}
 use Rattle.bufr_cli.specs.declared.job.LineFault.{LineFault}
 use Rattle.bufr_cli.specs.declared.job.LineFault.TheVariants.{Help, Usage, Memory}
 

@@ -71,9 +71,11 @@ written text = encode_pieces AsWritten blocks [] (documents_of text)
 -- A document is read to its end before its template and items are checked. Faults 50 and 57 on a
 -- later line are reported instead of the fault of the item on line 24, except in the next document.
 -- rule: document-read-first, first-refusal-ends
-lines_then_items : map written (document_with (codes "subset 1\n001001 200\nend\n") ∷ document_with (codes "subset 1\n001001 200\nend \n") ∷ document_with (codes "subset 1\n001001 200\nsubset 2\n") ∷ document_with (codes "subset 1\n001001 200\n")
+lines_then_items : map written (document_with (codes "subset 1\n001001 200\nend\n") ∷ document_with (codes "subset 1\n001001 200\nend \n") ∷ document_with (codes "subset 1\n001001 200\nsubset 2\n")
+    ∷ document_with (codes "subset 1\n001001 200\n")
     ∷ (document_with (codes "subset 1\n001001 200\nend\n") ++ codes "end\n") ∷ [])
-    ≡ (OnErrors (codes "line 24: 53 out of range\n") ∷ []) ∷ (OnErrors (codes "line 25: 50 line\n") ∷ []) ∷ (OnErrors (codes "line 25: 57 subset count\n") ∷ []) ∷ (OnErrors (codes "line 25: 50 line\n") ∷ [])
+    ≡ (OnErrors (codes "line 24: 53 out of range\n") ∷ []) ∷ (OnErrors (codes "line 25: 50 line\n") ∷ []) ∷ (OnErrors (codes "line 25: 57 subset count\n") ∷ [])
+    ∷ (OnErrors (codes "line 25: 50 line\n") ∷ [])
     ∷ (OnErrors (codes "line 24: 53 out of range\n") ∷ []) ∷ []
 unfolding written
 lines_then_items = refl

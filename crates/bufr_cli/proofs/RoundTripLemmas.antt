@@ -1,6 +1,6 @@
 -- The dump text of a stream is encoded to messages that have the same dump text. A text that was
 -- written by hand is encoded to messages that have its normal text.
-use Rattle.std.proofs.Common.{subst, ◌-◌, None, option_map, ◌≡◌, ◌∙◌, ◌⊎◌, ℕ, suc, ◌+◌, ◌<◌, ◌≤◌, List, [], ◌∷◌, ◌++◌, length, map, Option, Some, Result, Ok, Err, refl, sym, ap, arith, inl, inr, length-append, flat_map, count_by, slice_index}
+use Rattle.std.proofs.Common.{subst, ◌-◌, None, option_map, ◌≡◌, ◌∙◌, ◌⊎◌, ℕ, suc, ◌+◌, ◌<◌, ◌≤◌, List, [], ◌∷◌, ◌++◌, length, map, Option, Some, Result, Ok, Err, refl, sym, ap, arith, inl, inr, length-append, flat_map, count_by, slice_index, rules}
 use Rattle.std.specs.List.{AllByRecursion, AllZip, concat, filter}
 use Rattle.std.proofs.lemmas.List.Sums.{length-filter}
 use Rattle.bufr_tables.specs.Prelude.{tree_of, tables_of, Record, Row, AreRows, Sequence, Tree}
@@ -20,7 +20,7 @@ use Rattle.bufr_text.proofs.LawLemmas.{spelled-proper}
 use Rattle.bufr_text.proofs.DumpTextLemmas.{text-spells}
 use Rattle.bufr_cli.specs.Prelude.{text_or_fault, dump_or_report, dump_piece, Piece, OnOutput, OnErrors, output_of, errors_of, is_accepted, is_refused, encoded, result_piece, up_to_refused, accepted_in, accepted_messages, dump_pieces, dumped, longer_by, rebuilding, rebuilt, IsBuiltAgain, IsWholeRound, IsCanonicalMessage, RoundTrips, Written, IsDumpedInOneSpelling, before_refused, built, form_pieces, normal_by, normal_text, normal_texts, holding, Tallies, WritesWhole, document_pieces, event_pieces}
 use Rattle.bufr_text.specs.declared.encode.Form.TheVariants.{AsWritten}
-use Rattle.bufr_cli.proofs.DumpLemmas.{data-of, data_or_report, data_piece, piece-by-template, read-piece, template_piece}
+use Rattle.bufr_cli.proofs.DumpLemmas.{data_or_report, data_piece, piece-by-template, read-piece, template_piece}
 use Rattle.std.proofs.lemmas.List.{length-map}
 use Rattle.bufr_text.specs.declared.encode.Form.{Form}
 use Rattle.bufr_text.proofs.NormalLemmas.{dump_is_normal, encoded_again_same, encoded_read}
@@ -37,11 +37,11 @@ octets-all (c ∷ s) small = (small 0, octets-all s (λ i. small (suc i)))
 pub outputs-whole : (ms : List (List ℕ)) → up_to_refused (map OnOutput ms) ≡ map OnOutput ms
 unfolding up_to_refused
 outputs-whole [] = refl
-outputs-whole (m ∷ ms) = ap (λ l. OnOutput m ∷ l) (outputs-whole ms)
+outputs-whole (m ∷ ms) = cc (outputs-whole ms)
 
 pub outputs-octets : (ms : List (List ℕ)) → flat_map output_of (map OnOutput ms) ≡ concat ms
 outputs-octets [] = refl
-outputs-octets (m ∷ ms) = ap (λ l. m ++ l) (outputs-octets ms)
+outputs-octets (m ∷ ms) = cc (outputs-octets ms)
 
 pub outputs-silent : (ms : List (List ℕ)) → flat_map errors_of (map OnOutput ms) ≡ []
 outputs-silent [] = refl
@@ -58,7 +58,7 @@ outputs-accepted (m ∷ ms) = ap suc (outputs-accepted ms)
 -- The accepted pieces contain all of the output.
 accepted-output : (ps : List Piece) → flat_map output_of (filter is_accepted ps) ≡ flat_map output_of ps
 accepted-output [] = refl
-accepted-output (OnOutput text ∷ ps) = ap (λ l. text ++ l) (accepted-output ps)
+accepted-output (OnOutput text ∷ ps) = cc (accepted-output ps)
 accepted-output (OnErrors text ∷ ps) = accepted-output ps
 
 accepted-silent : (ps : List Piece) → flat_map errors_of (filter is_accepted ps) ≡ []
@@ -100,9 +100,7 @@ module _ (records : List Record) (b : List Row) (d : List Sequence) (rows : AreR
   -- The piece of an accepted message is its dump text, at any offset.
   pub accepted-piece : (m : List ℕ) (s : Sections) (template : Tree) (values : Values) (used offset : ℕ) → IsAccepted b d m s template values used
       → dump_piece b d (FrameAt offset m) ≡ OnOutput (dump_text_of s (dump_items b s.subsets values))
-  accepted-piece m s template values used offset a =
-      ap (λ parsed. text_or_fault offset (dump_or_report b d parsed)) a.sections ∙ data-of b d offset s template a.expands ∙ read-piece b offset s template a.read.none
-      ∙ ap (λ v. OnOutput (dump_text_of s (dump_items b s.subsets v))) a.read.values_are
+  accepted-piece m s template values used offset a = cc (a.sections)
 
   module _ (offset : ℕ) (m : List ℕ) (small : AllByRecursion IsOctet m × (length m ≤ max_octets)) where
     data-kind : (s : Sections) (template : Tree) → sections_of m ≡ Ok s → tree_of (tables_of b d) s.descriptors ≡ Ok template
@@ -207,16 +205,7 @@ module _ (b : List Row) (d : List Sequence) where
   built-fault : (here : StreamEvent) (text' : List ℕ) (text : List ℕ) (accepted : List (List ℕ)) (pieces : List Piece) (most more line : ℕ) → most ≤ more
       → Built b d (record { text = text; accepted = accepted; pieces = pieces; most = most }) line
       → Built b d (record { text = text; accepted = accepted; pieces = OnErrors text' ∷ pieces; most = more }) line
-  built-fault here text' text accepted pieces most more line le r = record {
-    messages = r.messages;
-    readings = r.readings;
-    results = r.results;
-    no_longer = omega (arith, r.no_longer, le);
-    scanned = r.scanned;
-    again = r.again;
-    listed = r.listed;
-    kept = r.kept;
-  }
+  built-fault here text' text accepted pieces most more line le r = grind (arith, r.no_longer)
 
   -- An accepted message is rebuilt.
   built-message : (m : List ℕ) (s : Sections) (template : Tree) (values : Values) (used : ℕ) (records : List Record) (text : List ℕ) (accepted : List (List ℕ)) (pieces : List Piece) (most line : ℕ)
@@ -258,7 +247,6 @@ module _ (b : List Row) (d : List Sequence) where
   built-more records here es line rows (inl (text, is)) rest =
       rw is (built-fault here text (flat_map output_of (map piece es)) (accepted_of piece es) (map piece es) (framed_octets es) (framed_octets (here ∷ es)) line (framed-more here es) (rest line))
   built-more records here es line rows (inr x) rest =
-      let text = dump_text_of x.sections (dump_items b x.sections.subsets x.values) in
       rw x.text (rw x.is
       (built-message x.octets x.sections x.template x.values x.used records (flat_map output_of (map piece es)) (accepted_of piece es) (map piece es) (framed_octets es) line rows x.accepted
       (rest (line + length (dump_lines x.sections (dump_items b x.sections.subsets x.values))))))
@@ -283,17 +271,17 @@ module _ (b : List Row) (d : List Sequence) where
       let r = built_from records (scan s) 1 rows (small-frames 0 0 s octets) in
       let ms = r.messages in
       let pieces : rebuilding b d s ≡ map OnOutput ms = ap up_to_refused r.results ∙ outputs-whole ms in
-      let are : rebuilt b d s ≡ concat ms = ap (flat_map output_of) pieces ∙ outputs-octets ms in
+      let are : rebuilt b d s ≡ concat ms = rw (pieces, outputs-octets) in
       let events : scan (rebuilt b d s) ≡ placed 0 ms = ap scan are ∙ r.scanned 0 in
       let texts : dump_pieces b d (rebuilt b d s) ≡ filter is_accepted (dump_pieces b d s) = ap (map piece) events ∙ r.again 0 in
-      let listed : accepted_messages b d (rebuilt b d s) ≡ ms = ap (accepted_of piece) events ∙ r.listed 0 in
+      let listed : accepted_messages b d (rebuilt b d s) ≡ ms = rw (events, r.listed) in
       let many : length ms ≡ length (filter is_accepted (dump_pieces b d s)) = sym (placed-count piece 0 ms) ∙ ap length (r.again 0) in
       record {
         none_refused = ap (count_by is_refused) pieces ∙ sym (length-filter is_refused (map OnOutput ms)) ∙ ap length (outputs-refused ms);
         no_line = ap (flat_map errors_of) pieces ∙ outputs-silent ms;
         as_many = ap (count_by is_accepted) pieces ∙ sym (length-filter is_accepted (map OnOutput ms)) ∙ outputs-accepted ms ∙ many ∙ length-filter is_accepted (dump_pieces b d s);
         messages = are ∙ ap concat (sym listed);
-        no_longer = omega (arith, ap length are, r.no_longer, frames-within 0 0 s);
+        no_longer = omega (arith, ap length are, r.no_longer, frames-within);
         readings = rw listed r.readings;
         same_pieces = texts;
         same_text = ap (flat_map output_of) texts ∙ accepted-output (dump_pieces b d s);
@@ -320,8 +308,8 @@ module _ (b : List Row) (d : List Sequence) where
       → IsWholeRound b d stream text messages again
   whole-round records stream text messages again rows octets is_text first_counts is_messages is_lines second_counts is_again is_faults third_counts =
       let t = round-trips records stream rows octets in
-      let built_from : form_pieces AsWritten b d text.output ≡ rebuilding b d stream = ap (form_pieces AsWritten b d) is_text in
-      let are : messages.output ≡ rebuilt b d stream = is_messages ∙ ap (flat_map output_of) built_from in
+      let built_from : form_pieces AsWritten b d text.output ≡ rebuilding b d stream = rw is_text in
+      let are : messages.output ≡ rebuilt b d stream = cc (is_messages) in
       let pieces : dump_pieces b d messages.output ≡ filter is_accepted (dump_pieces b d stream) = ap (dump_pieces b d) are ∙ t.same_pieces in
       record {
         same_text = is_again ∙ ap (flat_map output_of) pieces ∙ accepted-output (dump_pieces b d stream) ∙ sym is_text;
@@ -343,8 +331,7 @@ pub three-runs : (records : List Record) (b : List Row) (d : List Sequence) (str
     → WritesWhole (document_pieces AsWritten b d) (holding (Some []) (Some [])) (holding (Some messages.output) (Some messages.errors)) messages.tally text.output
     → WritesWhole (event_pieces (dump_piece b d)) (holding (Some []) (Some [])) (holding (Some again.output) (Some again.errors)) again.tally messages.output
     → IsWholeRound b d stream text messages again
-three-runs records b d stream text messages again e e' rows octets (wrote, counts) (encodes, counted) (dumps, counts') =
-    whole-round b d records stream text messages again rows octets wrote.output counts encodes.output encodes.errors counted dumps.output dumps.errors counts'
+three-runs records b d stream text messages again e e' rows octets (wrote, counts) (encodes, counted) (dumps, counts') = search (rules, whole-round)
 
 -- ---- A text that is encoded and dumped has the normal spelling.
 
@@ -361,14 +348,7 @@ record AreBuilt (b : List Row) (d : List Sequence) (piece : StreamEvent → Piec
 -- If no piece is written before the first refusal, no messages are built.
 none-built : (b : List Row) (d : List Sequence) (piece : StreamEvent → Piece) (pieces : List Piece) → flat_map output_of (up_to_refused pieces) ≡ [] → filter is_accepted (up_to_refused pieces) ≡ []
     → AreBuilt b d piece pieces []
-none-built b d piece pieces silent none = record {
-  messages = [];
-  written = silent;
-  as_many = ap length none;
-  scanned = λ at. scan_from-nil 0 at;
-  results = λ at. refl;
-  again = λ line. ap (map (result_piece AsWritten b d)) (nothing-spelled line);
-}
+none-built b d piece pieces silent none = search (rules, scan_from-nil, nothing-spelled)
 
 module _ (form : Form) (records : List Record) (b : List Row) (d : List Sequence) (rows : AreRows records b) where
   abbrev piece_of : StreamEvent → Piece

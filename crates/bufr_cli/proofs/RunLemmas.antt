@@ -1,20 +1,19 @@
 -- The effects of a run on its devices, derived from its steps, and the outcome of a job.
 use Rattle.bufr_frame.specs.Prelude.{max_reads, read_failures_after, AddsReads}
-use Rattle.std.proofs.Common.{◌≡◌, ◌≢◌, ◌⊎◌, ◌∙◌, ◌<◌, ◌≤◌, ◌^◌, ℕ, ◌+◌, ◌-◌, Bool, true, false, List, [], ◌∷◌, ◌++◌, length, length-append, refl, sym, ap, subst, arith, append_assoc, Option, None, Ok, Err, append-nil, Some, inl, inr, Result, flat_map, map, count_by, IfSome}
+use Rattle.std.proofs.Common.{◌≡◌, ◌≢◌, ◌⊎◌, ◌∙◌, ◌<◌, ◌≤◌, ◌^◌, ℕ, ◌+◌, ◌-◌, Bool, true, false, List, [], ◌∷◌, ◌++◌, length, refl, sym, ap, subst, arith, Option, None, Ok, Err, append-nil, Some, inl, inr, Result, flat_map, map, count_by, IfSome}
 use Rattle.std.specs.Io.KnownBytes.{Consumes, IsAtEnd, Keeps}
-use Rattle.std.proofs.KnownBytes.{Appends-nil, Appends-trans, Appends-kept, Consumes-trans}
+use Rattle.std.proofs.KnownBytes.{Appends-nil, Appends-kept, Consumes-trans}
 use Rattle.std.proofs.lemmas.Bool.{false≢true}
-use Rattle.std.proofs.lemmas.Grind.{common_steps, flat_map-append}
+use Rattle.std.proofs.lemmas.Grind.{common_steps}
 use Rattle.bufr_bits.specs.Prelude.{counted}
-use Rattle.bufr_bits.proofs.CountLemmas.{counted-least, counted-then, counted-up}
+use Rattle.bufr_bits.proofs.CountLemmas.{counted-then, counted-up}
 use Rattle.bufr_frame.proofs.FinderLemmas.{adds-then}
 use Rattle.bufr_frame.specs.declared.fault.RunFault.{RunFault}
 use Rattle.bufr_frame.specs.declared.fault.RunFault.TheVariants.{Read, Write, InputTooLong, Memory}
 use Rattle.bufr_text.specs.Prelude.{GrowsByPrefix, Stays, Fails, Writes}
-use Rattle.bufr_cli.specs.Prelude.{BlamesWriter, CountsCalls, CountsRead, EndsRun, FlushesRest, TakesStep, HasFlushed, FlushesBoth, FlushesWritten, IsFlushedIf, IsFlushed, LeavesOther, unflushed_after, Writer, Input, IsCut, IsDone, InputName, IsOpen, Opens, HasNotFailed, InPart, Known, LeavesDevices, FlushesAtMost, FlushesByRead, FlushFails, NoFlushFails, OnErrors, OnOutput, Piece, Progress, ReadsAndWrites, ReadsAtMost, ReadsFewer, ReadsOctets, RunPieces, RunReads, RunsOver, RunsOverInput, StopsPiece, Tallies, Tally, Verdict, Writers, WritesHelp, WritesLine, WritesPieces, WritesPrefixes, WrittenInPart, counted_accepted, counted_refused, errors_of, is_accepted, is_refused, output_of, run_line, tally_after}
+use Rattle.bufr_cli.specs.Prelude.{BlamesWriter, CountsCalls, CountsRead, EndsRun, FlushesRest, TakesStep, HasFlushed, FlushesBoth, FlushesWritten, IsFlushedIf, IsFlushed, Writer, Input, IsCut, IsDone, InputName, IsOpen, Opens, HasNotFailed, InPart, Known, LeavesDevices, FlushesAtMost, FlushesByRead, FlushFails, NoFlushFails, OnErrors, OnOutput, Piece, Progress, ReadsAndWrites, ReadsAtMost, ReadsFewer, ReadsOctets, RunPieces, RunReads, RunsOver, RunsOverInput, StopsPiece, Tallies, Tally, Writers, WritesHelp, WritesLine, WritesPieces, WritesPrefixes, WrittenInPart, errors_of, is_accepted, is_refused, output_of, run_line}
 use Rattle.bufr_cli.specs.declared.run_pieces.RunStep.{RunStep}
 use Rattle.bufr_cli.specs.declared.run_pieces.Unflushed.{Unflushed}
-use Rattle.bufr_cli.specs.declared.outcome.Verdict.TheVariants as verdict
 use Rattle.bufr_cli.specs.declared.run_pieces.RunStep.TheVariants as step
 use Rattle.std.specs.Borrow.{Bor}
 
@@ -74,26 +73,12 @@ same-then : (f f1 f2 n n1 n2 : ℕ) → Stays f f1 n n1 → Stays f1 f2 n1 n2 �
 same-then f f1 f2 n n1 n2 before more = (more.0 ∙ before.0, more.1 ∙ before.1)
 
 fails-then : (f f1 f2 n n1 n2 : ℕ) → Stays f f1 n n1 → Fails f1 f2 n1 n2 → Fails f f2 n n2
-fails-then f f1 f2 n n1 n2 before (inl more) = inl (more.0 ∙ ap (λ k. counted k 1) before.0, more.1 ∙ before.1)
-fails-then f f1 f2 n n1 n2 before (inr more) = inr (more.0 ∙ before.0, more.1 ∙ ap (λ k. counted k 1) before.1)
+fails-then f f1 f2 n n1 n2 before h_fails = grind arith
 
 -- If no writer failed before `mid`, the blame from `mid` on is the blame for the whole run.
 blames-then : (X Y : Type 0) (before mid after : Writers) (f : RunFault) → HasNotFailed before.output mid.output × HasNotFailed before.errors mid.errors → BlamesWriter {X = X} mid after (Err f)
     → BlamesWriter {X = Y} before after (Err f)
-blames-then X Y before mid after f (out, err) blames = by f blames
-  where
-    o : HasNotFailed mid.output after.output → HasNotFailed before.output after.output
-    o more = same-then _ _ _ _ _ _ out more
-
-    e : HasNotFailed mid.errors after.errors → HasNotFailed before.errors after.errors
-    e more = same-then _ _ _ _ _ _ err more
-
-    by : (g : RunFault) → BlamesWriter {X = X} mid after (Err g) → BlamesWriter {X = Y} before after (Err g)
-    by Read (x, y) = (o x, e y)
-    by InputTooLong (x, y) = (o x, e y)
-    by Memory (x, y) = (o x, e y)
-    by Write (inl (x, y)) = inl (fails-then _ _ _ _ _ _ out x, e y)
-    by Write (inr (x, y)) = inr (o x, fails-then _ _ _ _ _ _ err y)
+blames-then X Y before mid after f (out, err) blames = grind (arith, same-then, fails-then)
 
 -- the number of reads in a run that made n reads
 abbrev reads-at-most : {X : Type 0} (reads reads' n : ℕ) (r : Result X RunFault) → AddsReads reads reads' 0 n → (r ≡ Err InputTooLong → n ≡ max_reads) → ReadsAtMost reads reads' r
@@ -112,10 +97,7 @@ flushes-then n m before mid after first second = (
 
 -- A bound on the number of flushes may be raised.
 pub flushes-up : (n m : ℕ) (before after : Writers) → n ≤ m → FlushesAtMost n before after → FlushesAtMost m before after
-flushes-up n m before after more is = (
-  counted-up before.output.flushes.made after.output.flushes.made n m more is.0,
-  counted-up before.errors.flushes.made after.errors.flushes.made n m more is.1,
-)
+flushes-up n m before after more is = omega (arith, counted-up)
 
 -- Writing does not flush.
 pub flushes-kept : (n : ℕ) (before mid after : Writers) → after.output.flushes ≡ mid.output.flushes → after.errors.flushes ≡ mid.errors.flushes → FlushesAtMost n before mid
@@ -128,8 +110,7 @@ flushes-by reads reads' n before after counts is = let e : n - 0 ≡ n = omega a
 
 -- `NoFlushFails` and `FlushFails` exclude each other.
 none-fails : (before after : Writers) → NoFlushFails before after → FlushFails before.output after.output ⊎ FlushFails before.errors after.errors → ⊥
-none-fails before after none (inl output) = output none.0
-none-fails before after none (inr errors) = errors none.1
+none-fails before after none h_flush_fails = omega arith
 
 -- ---- The progress of a run.
 
@@ -445,8 +426,7 @@ module _ (reaches : Progress → Type 0) (from to : Input) (before mid : Writers
 -- the number of reads in a run that made n reads
 run-reads : {X : Type 0} (takes : Bool) (reads reads' n : ℕ) (r : Result X RunFault) → AddsReads reads reads' 0 n → (r ≡ Err InputTooLong → n ≡ max_reads)
     → (takes ≡ false → r ≡ Err Memory → n < max_reads) → RunReads takes reads reads' r
-run-reads false reads reads' n r counts long wanted = let so = reads-at-most reads reads' n r counts long in (so.0, so.1, so.2, so.3, wanted refl)
-run-reads true reads reads' n r counts long wanted = reads-at-most reads reads' n r counts long
+run-reads takes reads reads' n r counts long wanted = grind arith
 
 -- A read failed, or was not made.
 pub run-reads-unread : (takes : Bool) (a b c n n' : ℕ) (r : Result (Unit {0}) RunFault) (f : RunFault) (result : Result Tally RunFault) → AddsReads a b 0 n → AddsReads b c n n' → CountsRead n n' r
@@ -491,7 +471,4 @@ opens-none None = tt
 opens-none (Some names) = sym (append-nil names)
 
 pub opens-then : (before mid after : Option (List InputName)) (names more : List InputName) → Opens before mid names → Opens mid after more → Opens before after (names ++ more)
-opens-then None mid after names more one two = tt
-opens-then (Some before) None after names more one two = absurd one
-opens-then (Some before) (Some mid) None names more one two = absurd two
-opens-then (Some before) (Some mid) (Some after) names more one two = two ∙ ap (λ l. l ++ more) one ∙ append_assoc before names more
+opens-then before mid after names more one two = grind (arith, common_steps)

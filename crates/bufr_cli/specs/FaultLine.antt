@@ -1,6 +1,6 @@
 -- The lines that report faults in streams, messages, and documents (not part of FM 94 BUFR).
 -- Cited by public contracts.
-use Rattle.std.specs.Prelude.{ℕ, List, [], ◌∷◌, ◌++◌, codes, decimal, Option}
+use Rattle.std.specs.Prelude.{ℕ, List, [], ◌∷◌, ◌++◌, codes, decimal}
 use Rattle.std.specs.Option.{option_map_or}
 use Rattle.bufr_frame.specs.Prelude.{section_report}
 use Rattle.bufr_tables.specs.Prelude.{template_report}

@@ -1,8 +1,8 @@
-use Rattle.std.proofs.Common.{◌≡◌, ◌∙◌, ◌<◌, ◌≤◌, ℕ, List, subst, ◌-◌, ◌++◌, length, take, drop, Ok, ap, refl, arith, rules, length-take, length-drop, length-append}
+use Rattle.std.proofs.Common.{◌≡◌, ◌∙◌, ◌<◌, ◌≤◌, ℕ, List, subst, ◌-◌, ◌++◌, length, drop, Ok, ap, refl, arith, rules, length-take, length-drop, length-append}
 use Rattle.bufr_bits.proofs.CountLemmas.{counted-from, empty_writes_after-some, whole_writes_after-most, whole_writes_after-part}
 use Rattle.bufr_bits.specs.Prelude.{whole_writes_after}
 use Rattle.bufr_bits.specs.declared.device.Failed.{Failed}
-use Rattle.bufr_text.proofs.PushLemmas.{more-written, write_steps}
+use Rattle.bufr_text.proofs.PushLemmas.{write_steps}
 use Rattle.bufr_cli.proofs.BufferingLemmas.{unflushed-some}
 use Rattle.bufr_cli.proofs.buffered.write_out.Goals as goal
 use Rattle.std.proofs.lemmas.Grind.{common_steps}

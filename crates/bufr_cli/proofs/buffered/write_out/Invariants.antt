@@ -1,6 +1,6 @@
 use Rattle.std.proofs.Common.{◌≡◌, ◌<◌, ◌≤◌, length, false}
 use Rattle.bufr_bits.specs.Prelude.{counted}
-use Rattle.bufr_text.specs.Prelude.{MovesPrefix, Stays}
+use Rattle.bufr_text.specs.Prelude.{MovesPrefix}
 use Rattle.bufr_cli.proofs.buffered.write_out.Given as goal
 
 -- A prefix was written, the other octets remain, and no call failed. While octets remain, no write

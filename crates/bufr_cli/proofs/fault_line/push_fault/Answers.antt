@@ -14,7 +14,8 @@ returns-in-Section g c =
 pub returns-in-Template : goal.returns-in-Template
 returns-in-Template g c =
     let number = rw c.number-in-Template.ensures at c.push_number-in-Template.ensures in
-    rw c.in-Template.is (line_pushed (codes "offset ") c.args.offset _ (template_report c.in-Template.fault.now).1 (c.push_named.ensures ⨾ number) c.push_template_fault.ensures c.push-in-Template.ensures)
+    rw c.in-Template.is (line_pushed (codes "offset ") c.args.offset _ (template_report c.in-Template.fault.now).1 (c.push_named.ensures ⨾ number) c.push_template_fault.ensures
+    c.push-in-Template.ensures)
 
 pub returns-in-Data : goal.returns-in-Data
 returns-in-Data g c =
