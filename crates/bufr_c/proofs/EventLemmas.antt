@@ -1,16 +1,14 @@
 -- The events of a stream in memory, and their texts.
-use Rattle.std.proofs.Common.{rules, min, eqb, ◌≡◌, ◌≢◌, ◌⊎◌, inl, inr, ◌∙◌, ◌<◌, ◌≤◌, ◌+◌, ◌-◌, ℕ, Bool, true, false, List, [], ◌∷◌, ◌++◌, length, take, drop, map, flat_map, count_by, codes, decimal, refl, sym, ap, subst, arith, Option, Some, None, Result, Ok, Err, IfErr, IfNone, IfOk, IfSome, OnOk, ℤ, pos, append-nil, append_assoc, length-take, length-drop, nat_lt, not, if◌then◌else◌}
+use Rattle.std.proofs.Common.{rules, min, ◌≡◌, ◌≢◌, ◌⊎◌, inl, inr, ◌∙◌, ◌<◌, ◌≤◌, ◌+◌, ◌-◌, ℕ, Bool, true, false, List, [], ◌∷◌, ◌++◌, length, take, drop, map, flat_map, count_by, codes, decimal, refl, sym, ap, subst, arith, Option, Some, None, Result, Ok, Err, IfErr, IfNone, IfOk, IfSome, OnOk, ℤ, pos, append-nil, append_assoc, length-take, length-drop, nat_lt, not}
 use Rattle.std.specs.Int.{from_bool}
-use Rattle.std.proofs.lemmas.Bool.Decides.{nat_tests}
 use Rattle.std.proofs.lemmas.Slice.Eq.{bytes_eq-Decides}
-use Rattle.std.specs.List.{starts_with}
 use Rattle.std.proofs.lemmas.Fmt.{decimal_digit}
 use Rattle.std.proofs.lemmas.Grind.{common_steps}
-use Rattle.std.proofs.lemmas.List.{drop_at, drop-drop, drop_min, length-append, length-take-le, take-append-drop, take_rest}
+use Rattle.std.proofs.lemmas.List.{drop-drop, drop_min, length-append, length-take-le, take-append-drop, take_rest}
 use Rattle.std.proofs.Math.Seq.{take-length, drop-length}
 use Rattle.std.proofs.Math.ListN.{drop_of_length-le}
 use Rattle.memchr.specs.Find.{FindsNeedle}
-use Rattle.bufr_frame.specs.Prelude.{Sections, StreamEvent, FrameAt, StrayAt, StartsWithBufr, cause_report, section_report, scan, scan_from, classify, stated_length, stream_event, candidate_len, has_word_at, sections_of}
+use Rattle.bufr_frame.specs.Prelude.{Sections, StreamEvent, FrameAt, StrayAt, StartsWithBufr, cause_report, section_report, scan, classify, stated_length, stream_event, candidate_len, has_word_at, sections_of}
 use Rattle.bufr_frame.specs.declared.fault.SectionFault.{SectionFault}
 use Rattle.bufr_frame.proofs.ScanLemmas.{holds-prefix, holds-there, stated-prefix, scan_from-here, scan_from-nil, scan_from-found, drop-twice}
 use Rattle.bufr_tables.specs.Prelude.{ReadsTableD, Record, Row, Sequence, records_of, table_b_of, table_d_of, table_report}
@@ -25,8 +23,7 @@ use Rattle.bufr_text.specs.declared.encode.Form.{Form}
 use Rattle.bufr_cli.specs.Prelude.{encode_pieces, WritesPieces, Tallies, Piece, OnOutput, OnErrors, output_of, errors_of, is_accepted, is_refused, fault_line, ls_piece, dump_piece, dump_or_report, text_or_fault, Writers, WritesWhole, event_pieces}
 use Rattle.bufr_cli.specs.declared.outcome.Tally.{Tally}
 use Rattle.bufr_c.specs.Moving.{moved}
-use Rattle.bufr_frame.specs.declared.fault.Cause.TheVariants.{Cut, ShortLength, NoEnd}
-use Rattle.bufr_c.specs.Leaving.{HasNoRoom, HasPut, IsCycleStatus, IsMessage, IsRunStatus, IsStray, IsTableStatus, LacksRoom, Leaves, LeavesRest, Passes, PassesOver, StopsBefore, WritesEvent, WritesNone, FindsEvent, ByTables, CallStatus, HasRun, Encodes, end_after, end_of, events_from}
+use Rattle.bufr_c.specs.Leaving.{HasNoRoom, HasPut, IsCycleStatus, IsMessage, IsRunStatus, IsTableStatus, LacksRoom, Leaves, LeavesRest, Passes, PassesOver, WritesEvent, WritesNone, FindsEvent, ByTables, CallStatus, HasRun, Encodes, end_after, end_of, events_from}
 use Rattle.bufr_c.specs.Commands.{IsTextOf, IsTextOfAll, form_by, piece_by}
 use Rattle.bufr_c.specs.declared.command.Command.{Command}
 use Rattle.bufr_c.specs.declared.command.Command.TheVariants as commands
@@ -36,23 +33,21 @@ use Rattle.bufr_c.specs.declared.texts.Texts.{Texts}
 -- ---- A line that reports another offset.
 
 at_least : (a b : ℕ) → b ≤ a → nat_lt a b ≡ false
-at_least a b h = grind (arith, nat_tests)
+at_least a b h = grind arith
 
 below : (a b : ℕ) → a < b → nat_lt a b ≡ true
-below a b h = grind (arith, nat_tests)
+below a b h = grind arith
 
 moved-long : (n : ℕ) (line : List ℕ) → 8 ≤ length line → moved n line ≡ (take 7 line ++ decimal n) ++ drop 8 line
-moved-long n line long = ap (λ b. if b then [] else (take 7 line ++ decimal n) ++ drop 8 line) (at_least (length line) 8 long)
+moved-long n line long = rw at_least
 
 -- the slices that the code takes
 pub moved-parts : (n : ℕ) (line : List ℕ) → 8 ≤ length line → (take 7 line ++ decimal n) ++ take (length line - 8) (drop 8 line) ≡ moved n line
-moved-parts n line long = ap (λ l. (take 7 line ++ decimal n) ++ l) (take_rest line 8) ∙ sym (moved-long n line long)
+moved-parts n line long = rw (take_rest, moved-long)
 
 -- a line that begins with seven octets and offset 0
 moved-word : (n a b c d e f g : ℕ) (rest : List ℕ) → moved n (a ∷ b ∷ c ∷ d ∷ e ∷ f ∷ g ∷ (decimal 0 ++ rest)) ≡ a ∷ b ∷ c ∷ d ∷ e ∷ f ∷ g ∷ (decimal n ++ rest)
-moved-word n a b c d e f g rest =
-    ap (λ zero'. moved n (a ∷ b ∷ c ∷ d ∷ e ∷ f ∷ g ∷ (zero' ++ rest))) (decimal_digit 0 (omega arith))
-    ∙ moved-long n (a ∷ b ∷ c ∷ d ∷ e ∷ f ∷ g ∷ 48 ∷ rest) (omega arith)
+moved-word n a b c d e f g rest = grind (arith, decimal_digit)
 
 pub moved-fault : (n : ℕ) (report : ℕ × List (List ℕ)) → moved n (fault_line 0 report) ≡ fault_line n report
 moved-fault n report = moved-word n 111 102 102 115 101 116 32 _
@@ -102,13 +97,7 @@ counts-piece (OnErrors text) = refl
 pub one-piece : (piece : StreamEvent → Piece) (octets : List ℕ) (before after : Writers) (tally : Tally) (output errors : List ℕ) → WritesWhole (event_pieces piece) before after tally octets
     → scan octets ≡ FrameAt 0 octets ∷ [] → before.output.taken ≡ Some [] → before.errors.taken ≡ Some [] → after.output.taken ≡ Some output → after.errors.taken ≡ Some errors
     → WritesPiece (piece (FrameAt 0 octets)) tally output errors
-one-piece piece octets before after tally output errors (writes, tallies) one b_output b_errors a_output a_errors =
-    let p = piece (FrameAt 0 octets) in
-    record {
-      output_is = rw (one, b_output, a_output) at writes.output ∙ append-nil (output_of p);
-      errors_is = rw (one, b_errors, a_errors) at writes.errors ∙ append-nil (errors_of p);
-      accepted = ap (nat_lt 0) (rw one at tallies.accepted) ∙ counts-piece p;
-    }
+one-piece piece octets before after tally output errors (writes, tallies) one b_output b_errors a_output a_errors = search (rules, append-nil)
 
 -- ---- A message of a stream, on its own.
 
@@ -118,12 +107,7 @@ one-piece piece octets before after tally output errors (writes, tallies) one b_
 pub stray-text : {X : Type 0} (r : Result X RunFault) (text : EventText) (offset : ℕ) (cause : Cause) (line new : List ℕ) → line ≡ fault_line 0 (cause_report cause)
     → Writes (Some []) (Some new) (moved offset line) r → text.output.octets.items ≡ [] → text.errors.octets.items ≡ new → text.accepted ≡ false
     → OnOk r (IsTextOf text (OnErrors (fault_line offset (cause_report cause))))
-stray-text (Ok x) text offset cause line new is writes output errors accepted = record {
-  output = output;
-  errors = errors ∙ writes ∙ ap (moved offset) is ∙ moved-fault offset (cause_report cause);
-  accepted = accepted;
-}
-stray-text (Err fault) text offset cause line new is writes output errors accepted = tt
+stray-text r text offset cause line new is writes output errors accepted = search (rules, moved-fault)
 
 pub stray-by : (command : Command) (offset : ℕ) (cause : Cause) → OnErrors (fault_line offset (cause_report cause)) ≡ piece_by command (StrayAt offset cause)
 stray-by commands.List offset cause = refl
@@ -134,12 +118,7 @@ pub message-text : {X : Type 0} (r : Result X RunFault) (text : EventText) (offs
     → text.output.octets.items ≡ output_of q → moved offset (errors_of p) ≡ errors_of q → is_accepted p ≡ is_accepted q
     → Writes (Some []) (Some new) (moved offset errors) r → text.errors.octets.items ≡ new → text.accepted ≡ nat_lt 0 tally.accepted
     → OnOk r (IsTextOf text q)
-message-text (Ok x) text offset p q tally output errors new wrote is moves same writes ends accepted = record {
-  output = is;
-  errors = ends ∙ writes ∙ ap (moved offset) wrote.errors_is ∙ moves;
-  accepted = accepted ∙ wrote.accepted ∙ same;
-}
-message-text (Err fault) text offset p q tally output errors new wrote is moves same writes ends accepted = tt
+message-text r text offset p q tally output errors new wrote is moves same writes ends accepted = grind arith
 
 -- ---- What begins at a `BUFR`.
 
@@ -152,52 +131,39 @@ four-long m here =
 tests : (m : List ℕ) (n : ℕ) → IsMessage m n
     → (has_word_at (codes "BUFR") 0 m ≡ true) × (nat_lt (length m) 8 ≡ false) × (nat_lt (length m) (stated_length m) ≡ false) × (nat_lt (stated_length m) 12 ≡ false)
     × (has_word_at (codes "7777") (stated_length m - 4) m ≡ true)
-tests m n is = (
-  is.begins,
-  at_least (length m) 8 (omega (arith, is.least, is.within)),
-  at_least (length m) (stated_length m) (omega (arith, is.states, is.within)),
-  at_least (stated_length m) 12 (omega (arith, is.states, is.least)),
-  ap (λ k. has_word_at (codes "7777") (k - 4) m) (sym is.states) ∙ is.ends,
-)
+tests m n is = search (rules, at_least)
 
 -- the event at the start of a message
 pub message-here : (m : List ℕ) (n : ℕ) → IsMessage m n → (offset : ℕ) → stream_event offset m (classify m) ≡ FrameAt offset (take (stated_length m) m) ∷ []
 message-here m n is offset = let (a, b, c, d, e) = tests m n is in rw (a, b, c, d, e) refl
 
 pub message-moves : (m : List ℕ) (n : ℕ) → IsMessage m n → candidate_len m (classify m) ≡ stated_length m
-message-moves m n is = let (a, b, c, d, e) = tests m n is in rw (a, b, c, d, e) refl
+message-moves m n is = search (rules, tests)
 
 -- The octets of a message are also a message on their own.
 alone : (f t : List ℕ) (n : ℕ) → length f ≡ n → IsMessage (f ++ t) n → IsMessage f n
 alone f t n long is =
     let least = is.least in
     record {
-      begins = sym (holds-prefix (codes "BUFR") 0 f t (omega (arith, long, least))) ∙ is.begins;
-      states = is.states ∙ stated-prefix f t (omega (arith, long, least));
+      begins = sym (holds-prefix (codes "BUFR") 0 f t (omega (arith, least))) ∙ is.begins;
+      states = is.states ∙ stated-prefix f t (omega (arith, least));
       least = least;
-      within = omega (arith, long);
-      ends = sym (holds-prefix (codes "7777") (n - 4) f t (omega (arith, long, least))) ∙ is.ends;
+      within = omega arith;
+      ends = sym (holds-prefix (codes "7777") (n - 4) f t (omega (arith, least))) ∙ is.ends;
     }
 
 -- octets that are exactly one message
 one-message : (f : List ℕ) → IsMessage f (length f) → scan f ≡ FrameAt 0 f ∷ []
 one-message f is =
     let size : stated_length f ≡ length f = sym is.states in
-    let moves = message-moves f (length f) is in
-    scan_from-here 0 f (omega (arith, is.least)) (omega (arith, moves, size, is.least))
-    ∙ ap (λ es. es ++ scan_from 0 (0 + candidate_len f (classify f)) (drop (candidate_len f (classify f)) f)) (message-here f (length f) is 0)
-    ∙ ap (λ k. FrameAt 0 (take (stated_length f) f) ∷ scan_from 0 (0 + k) (drop k f)) (moves ∙ size)
-    ∙ ap (λ k. FrameAt 0 (take k f) ∷ scan_from 0 (0 + length f) (drop (length f) f)) size
-    ∙ ap (λ l. FrameAt 0 l ∷ scan_from 0 (0 + length f) (drop (length f) f)) (take-length f)
-    ∙ ap (λ l. FrameAt 0 f ∷ scan_from 0 (0 + length f) l) (drop-length f)
-    ∙ ap (λ l. FrameAt 0 f ∷ l) (scan_from-nil 0 (0 + length f))
+    grind (arith, common_steps, scan_from-here, scan_from-nil, message-here f (length f) is 0, (message-moves f (length f) is) ∙ size, take-length f, drop-length f)
 
 pub message-alone : (m : List ℕ) (n : ℕ) → IsMessage m n → scan (take n m) ≡ FrameAt 0 (take n m) ∷ []
 message-alone m n is =
     let f = take n m in
     let long : length f ≡ n = length-take-le n m is.within in
-    let whole : IsMessage (f ++ drop n m) n = subst (λ l. IsMessage l n) (sym (take-append-drop n m)) is in
-    one-message f (subst (λ k. IsMessage f k) (sym long) (alone f (drop n m) n long whole))
+    let whole : IsMessage (f ++ drop n m) n = rw (take-append-drop n m) is in
+    one-message f (rw long (alone f (drop n m) n long whole))
 
 -- ---- The events of a stream from an index on.
 
@@ -206,13 +172,12 @@ pub events-found : (octets : List ℕ) (at place moves : ℕ) (event : StreamEve
     → moves ≡ candidate_len (drop (at + place) octets) (classify (drop (at + place) octets)) → 4 ≤ moves → moves ≤ length (drop (at + place) octets)
     → events_from at octets ≡ event ∷ events_from (at + place + moves) octets
 events-found octets at place moves event finds here is some within =
-    let m = drop (at + place) octets in
-    scan_from-found (drop at octets) (Some place) finds at
-    ∙ ap (scan_from 0 (at + place)) (drop-twice place at octets)
-    ∙ scan_from-here (at + place) m (omega (arith, some, within)) (omega (arith, some, is))
-    ∙ ap (λ k. stream_event (at + place) m (classify m) ++ scan_from 0 (at + place + k) (drop k m)) (sym is)
-    ∙ ap (λ es. es ++ scan_from 0 (at + place + moves) (drop moves m)) here
-    ∙ ap (λ l. event ∷ scan_from 0 (at + place + moves) l) (drop-twice moves (at + place) octets)
+    cc (
+      scan_from-found (drop at octets) (Some place) finds at,
+      drop-twice place at octets,
+      scan_from-here (at + place) (drop (at + place) octets) (omega (arith, some, within)) (omega (arith, some, is)),
+      drop-twice moves (at + place) octets,
+    )
 
 pub events-none : (octets : List ℕ) (at : ℕ) → FindsNeedle (drop at octets) (codes "BUFR") 0 None → events_from at octets ≡ []
 events-none octets at finds = scan_from-found (drop at octets) None finds at
@@ -222,7 +187,7 @@ pub events-absent : (octets rest word : List ℕ) (at : ℕ) → rest ≡ drop a
 events-absent octets rest word at rest_is word_is finds = events-none octets at (rw (rest_is, word_is) at finds)
 
 pub events-end : (octets : List ℕ) (at : ℕ) → length octets ≤ at → events_from at octets ≡ []
-events-end octets at past = ap (scan_from 0 at) (drop_of_length-le octets past) ∙ scan_from-nil 0 at
+events-end octets at past = rw (drop_of_length-le, scan_from-nil)
 
 -- the same, for the slices that the code takes
 pub starts-there : (octets rest m word : List ℕ) (at place : ℕ) → rest ≡ drop at octets → m ≡ drop (at + place) octets → word ≡ codes "BUFR" → FindsNeedle rest word 0 (Some place) → StartsWithBufr m
@@ -233,10 +198,9 @@ starts-there octets rest m word at place rest_is m_is word_is finds =
 pub event-next : (Is : StreamEvent → Type 0) (octets rest m word : List ℕ) (at place moves : ℕ) → rest ≡ drop at octets → m ≡ drop (at + place) octets → word ≡ codes "BUFR"
     → FindsNeedle rest word 0 (Some place) → (w : FindsEvent Is (at + place) m moves) → events_from at octets ≡ w.event ∷ events_from (at + place + moves) octets
 event-next Is octets rest m word at place moves rest_is m_is word_is finds w =
-    let here = rw (rest_is, word_is) at finds in
     let S : List ℕ → Type 0 = λ l. stream_event (at + place) l (classify l) ≡ w.event ∷ [] in
     let M : List ℕ → Type 0 = λ l. moves ≡ candidate_len l (classify l) in
-    events-found octets at place moves w.event here (subst S m_is w.here) (subst M m_is w.moves) w.some (omega (arith, w.within, ap length m_is))
+    events-found octets at place moves w.event (rw (rest_is, word_is) at finds) (subst S m_is w.here) (subst M m_is w.moves) w.some (omega (arith, w.within, ap length m_is))
 
 -- The events up to `at` were passed.
 pub record Reached (octets : List ℕ) (from : ℕ) (passed : List StreamEvent) (at : ℕ) : Type 0 where
@@ -258,38 +222,31 @@ module _ (octets : List ℕ) (from : ℕ) (passed : List StreamEvent) (at : ℕ)
       → events_from at octets ≡ w.event ∷ events_from (begin + moves) octets → at' ≡ begin + moves → Reached octets from (passed ++ w.event ∷ []) at'
   reached-next Is m begin moves at' w m_is next is = record {
     events = so.events ∙ ap (λ es. passed ++ es) (next ∙ ap (λ n. w.event ∷ events_from n octets) (sym is)) ∙ sym (append_assoc passed (w.event ∷ []) (events_from at' octets));
-    within = λ h. omega (arith, is, w.some, w.within, ap length m_is, length-drop begin octets);
-    past = λ h. omega (arith, ap length (sym (events-end octets at (omega (arith, h, so.past h))) ∙ next));
+    within = λ h. omega (arith, w.some, w.within, ap length m_is, length-drop begin octets);
+    past = λ h. omega (arith, ap length (sym (events-end octets at (omega (arith, so.past h))) ∙ next));
     ends = is ∙ (sym w.ends ∙ sym (ends-next from passed w.event));
   }
 
   pub reached-same : (at' : ℕ) → at' ≡ at → Reached octets from passed at'
-  reached-same at' is = subst (λ n. Reached octets from passed n) (sym is) so
+  reached-same at' is = rw is so
 
   -- There are no more events.
   pub over-end : (at' : ℕ) → events_from at octets ≡ [] → length octets ≤ at' → (from ≤ length octets → at' ≤ length octets)
       → (length octets < from → at' ≡ from) → PassesOver octets from passed at' (pos 0)
   over-end at' none past within stays =
       let end = events-end octets at' past in
-      record {
-        ran = inl refl;
-        events = so.events ∙ ap (λ es. passed ++ es) (none ∙ sym end);
-        within = within;
-        past = stays;
-        done = λ _. (end, past);
-        stopped = λ no. absurd (no refl);
-      }
+      grind (arith, common_steps)
 
   -- The call stopped before the end.
   pub over-stopped : (status : ℤ) → IsRunStatus status → ¬ (status ≡ pos 0) → PassesOver octets from passed at status
-  over-stopped status ran other = record { ran = ran; events = so.events; within = so.within; past = λ h. so.past (omega (arith, h)); done = λ is. absurd (other is); stopped = λ _. so.ends }
+  over-stopped status ran other = record { ran = ran; events = so.events; within = so.within; past = λ h. so.past (omega arith); done = λ is. absurd (other is); stopped = λ _. so.ends }
 
 -- ---- The caller's buffers, after the elements that were written.
 
 -- If everything after n elements is unchanged, so is everything after more elements.
 rest-after : {X : Type 0} (old mid new : List X) (n m : ℕ) → n ≤ m → drop n mid ≡ drop n old → drop m new ≡ drop m mid → drop m new ≡ drop m old
 rest-after old mid new n m few first more =
-    let at : n + (m - n) ≡ m = omega (arith, few) in
+    let at : n + (m - n) ≡ m = omega arith in
     more ∙ (sym (ap (λ k. drop k mid) at) ∙ (sym (drop-drop (m - n) n mid) ∙ (ap (drop (m - n)) first ∙ (drop-drop (m - n) n old ∙ ap (λ k. drop k old) at))))
 
 -- The number of written elements does not decrease.
@@ -299,11 +256,7 @@ written-more n m before after more fits fits' written =
 
 -- the elements after a part of a buffer into which the code writes
 pub put-rest : {X : Type 0} (at n : ℕ) (to part : List X) → length part ≡ n → at + n ≤ length to → drop (at + n) (take at to ++ (part ++ drop (at + n - at) (drop at to))) ≡ drop (at + n) to
-put-rest at n to part long room =
-    let rest = drop (at + n - at) (drop at to) in
-    let ends : length (take at to ++ part) ≡ at + n = omega (arith, length-append (take at to) part, length-take-le at to (omega (arith, room)), long) in
-    ap (drop (at + n)) (sym (append_assoc (take at to) part rest)) ∙ (drop_at (take at to ++ part) rest (at + n) ends
-    ∙ (drop-drop (at + n - at) at to ∙ ap (λ m. drop m to) (omega arith)))
+put-rest at n to part long room = grind (arith, common_steps, length-append (take at to) part)
 
 -- the same, after another part
 pub rest-next : {X : Type 0} (old before after more : List X) (n m : ℕ) → n ≤ length before → m ≤ length after → take m after ≡ take n before ++ more → drop n before ≡ drop n old
@@ -324,8 +277,8 @@ flat-next f piece passed event = grind (arith, common_steps)
 
 count-next : (f : Piece → Bool) (piece : StreamEvent → Piece) (passed : List StreamEvent) (event : StreamEvent)
     → count_by f (map piece (passed ++ event ∷ [])) ≡ count_by f (map piece passed) + from_bool (f (piece event))
-count-next f piece [] event = grind (arith, common_steps)
-count-next f piece (first ∷ passed) event = grind (arith, common_steps, count-next f piece passed event)
+count-next f piece [] event = grind arith
+count-next f piece (first ∷ passed) event = grind (arith, common_steps)
 
 refused-else : (p : Piece) → is_refused p ≡ not (is_accepted p)
 refused-else (OnOutput text) = refl
@@ -340,16 +293,16 @@ same-numbers : (a b : ℕ) → pos a ≡ pos b → a ≡ b
 same-numbers a b is = cc
 
 pub apart-0-74 : pos 0 ≡ pos 74 → ⊥
-apart-0-74 is = omega (arith, same-numbers 0 74 is)
+apart-0-74 is = omega (arith, same-numbers)
 
 pub apart-74-0 : pos 74 ≡ pos 0 → ⊥
-apart-74-0 is = omega (arith, same-numbers 74 0 is)
+apart-74-0 is = omega (arith, same-numbers)
 
 pub apart-73-0 : pos 73 ≡ pos 0 → ⊥
-apart-73-0 is = omega (arith, same-numbers 73 0 is)
+apart-73-0 is = omega (arith, same-numbers)
 
 pub apart-73-74 : pos 73 ≡ pos 74 → ⊥
-apart-73-74 is = omega (arith, same-numbers 73 74 is)
+apart-73-74 is = omega (arith, same-numbers)
 
 module _ (piece : StreamEvent → Piece) (octets : List ℕ) (from : ℕ) (output errors : List ℕ) (texts : Texts) (so : SoFar piece octets from output errors texts) where
   pub so-far-next : (event : StreamEvent) (output' errors' : List ℕ) (texts' : Texts) → Reached octets from (so.passed ++ event ∷ []) texts'.at → texts.at + 1 ≤ texts'.at
@@ -357,37 +310,11 @@ module _ (piece : StreamEvent → Piece) (octets : List ℕ) (from : ℕ) (outpu
       → texts'.output_length ≤ length output' → texts'.errors_length ≤ length errors'
       → texts'.accepted ≡ texts.accepted + from_bool (is_accepted (piece event)) → texts'.refused ≡ texts.refused + from_bool (not (is_accepted (piece event)))
       → SoFar piece octets from output' errors' texts'
-  so-far-next event output' errors' texts' reached moves written blamed output_fits errors_fits accepted refused = record {
-    passed = so.passed ++ event ∷ [];
-    reached = reached;
-    leaves = record {
-      written = written ∙ ap (λ l. l ++ output_of (piece event)) so.leaves.written ∙ sym (flat-next output_of piece so.passed event);
-      blamed = blamed ∙ ap (λ l. l ++ errors_of (piece event)) so.leaves.blamed ∙ sym (flat-next errors_of piece so.passed event);
-      output_fits = output_fits;
-      errors_fits = errors_fits;
-      accepted = accepted ∙ ap (λ n. n + from_bool (is_accepted (piece event))) so.leaves.accepted ∙ sym (count-next is_accepted piece so.passed event);
-      refused = refused ∙ ap (λ n. n + from_bool (not (is_accepted (piece event)))) so.leaves.refused
-          ∙ ap (λ b. count_by is_refused (map piece so.passed) + from_bool b) (sym (refused-else (piece event)))
-          ∙ sym (count-next is_refused piece so.passed event);
-    };
-    few = omega (arith, so.few, moves, accepted, refused, one-counted (is_accepted (piece event)));
-  }
+  so-far-next event output' errors' texts' reached moves written blamed output_fits errors_fits accepted refused = grind (arith, flat-next, count-next)
 
   pub so-far-same : (texts' : Texts) → texts'.at ≡ texts.at → texts'.output_length ≡ texts.output_length → texts'.errors_length ≡ texts.errors_length → texts'.accepted ≡ texts.accepted
       → texts'.refused ≡ texts.refused → SoFar piece octets from output errors texts'
-  so-far-same texts' at output_length errors_length accepted refused = record {
-    passed = so.passed;
-    reached = reached-same octets from so.passed texts.at so.reached texts'.at at;
-    leaves = record {
-      written = ap (λ n. take n output) output_length ∙ so.leaves.written;
-      blamed = ap (λ n. take n errors) errors_length ∙ so.leaves.blamed;
-      output_fits = omega (arith, so.leaves.output_fits, output_length);
-      errors_fits = omega (arith, so.leaves.errors_fits, errors_length);
-      accepted = accepted ∙ so.leaves.accepted;
-      refused = refused ∙ so.leaves.refused;
-    };
-    few = omega (arith, so.few, at, accepted, refused);
-  }
+  so-far-same texts' at output_length errors_length accepted refused = search (rules, reached-same)
 
   -- The text of the next event was put into the buffers.
   pub so-far-put : (place moves : ℕ) (m : List ℕ) (text : EventText) (mid texts' : Texts) (output' errors' : List ℕ) → (w : WritesEvent piece (texts.at + place) m moves text)
@@ -397,10 +324,10 @@ module _ (piece : StreamEvent → Piece) (octets : List ℕ) (from : ℕ) (outpu
       → SoFar piece octets from output' errors' texts'
   so-far-put place moves m text mid texts' output' errors' w m_is next put at output_length errors_length accepted refused =
       so-far-next w.event output' errors' texts'
-      (reached-next octets from so.passed texts.at so.reached (λ event. IsTextOf text (piece event)) m (texts.at + place) moves texts'.at w m_is next at) (omega (arith, at, w.some))
+      (reached-next octets from so.passed texts.at so.reached (λ event. IsTextOf text (piece event)) m (texts.at + place) moves texts'.at w m_is next at) (omega (arith, w.some))
       (ap (λ n. take n output') output_length ∙ put.written ∙ ap (λ l. take texts.output_length output ++ l) w.is.output)
       (ap (λ n. take n errors') errors_length ∙ put.blamed ∙ ap (λ l. take texts.errors_length errors ++ l) w.is.errors)
-      (omega (arith, output_length, put.output_fits)) (omega (arith, errors_length, put.errors_fits))
+      (omega (arith, put.output_fits)) (omega (arith, put.errors_fits))
       (accepted ∙ ap (λ n. n + from_bool text.accepted) put.accepted ∙ ap (λ b. texts.accepted + from_bool b) w.is.accepted)
       (refused ∙ ap (λ n. n + from_bool (not text.accepted)) put.refused ∙ ap (λ b. texts.refused + from_bool (not b)) w.is.accepted)
 
@@ -408,7 +335,7 @@ module _ (piece : StreamEvent → Piece) (octets : List ℕ) (from : ℕ) (outpu
   pub so-far-done : length octets ≤ texts.at → Passes piece octets from output errors texts (pos 0)
   so-far-done past = record {
     passed = so.passed;
-    over = over-end octets from so.passed texts.at so.reached texts.at (events-end octets texts.at past) past so.reached.within (λ h. so.reached.past (omega (arith, h)));
+    over = over-end octets from so.passed texts.at so.reached texts.at (events-end octets texts.at past) past so.reached.within (λ h. so.reached.past (omega arith));
     leaves = so.leaves;
     stops = λ is. absurd (apart-0-74 is);
   }
@@ -419,13 +346,13 @@ module _ (piece : StreamEvent → Piece) (octets : List ℕ) (from : ℕ) (outpu
       → texts'.accepted ≡ texts.accepted → texts'.refused ≡ texts.refused → Passes piece octets from output errors texts' (pos 0)
   so-far-ended texts' inside none at output_length errors_length accepted refused = record {
     passed = so.passed;
-    over = over-end octets from so.passed texts.at so.reached texts'.at none (omega (arith, at)) (λ _. omega (arith, at))
-        (λ h. omega (arith, h, inside, so.reached.past (omega (arith, h))));
+    over = over-end octets from so.passed texts.at so.reached texts'.at none (omega arith) (λ _. omega arith)
+        (λ h. omega (arith, h, inside, so.reached.past (omega arith)));
     leaves = record {
       written = ap (λ n. take n output) output_length ∙ so.leaves.written;
       blamed = ap (λ n. take n errors) errors_length ∙ so.leaves.blamed;
-      output_fits = omega (arith, so.leaves.output_fits, output_length);
-      errors_fits = omega (arith, so.leaves.errors_fits, errors_length);
+      output_fits = omega (arith, so.leaves.output_fits);
+      errors_fits = omega (arith, so.leaves.errors_fits);
       accepted = accepted ∙ so.leaves.accepted;
       refused = refused ∙ so.leaves.refused;
     };
@@ -447,7 +374,7 @@ module _ (piece : StreamEvent → Piece) (octets : List ℕ) (from : ℕ) (outpu
     passed = so.passed;
     over = over-stopped octets from so.passed texts.at so.reached (pos 74) (inr (inr refl)) apart-74-0;
     leaves = so.leaves;
-    stops = λ is. subst (λ es. StopsBefore piece output errors texts es) (sym next) lacks;
+    stops = λ is. rw next lacks;
   }
 
 -- There is no room for the text of the next event.
@@ -456,7 +383,7 @@ pub so-far-no-room : (piece : StreamEvent → Piece) (octets : List ℕ) (from :
     → SoFar piece octets from output errors texts → (w : WritesEvent piece (texts.at + place) m moves text) → events_from texts.at octets ≡ w.event ∷ events_from (texts.at + place + moves) octets
     → HasNoRoom text texts output errors texts' output' errors' → Passes piece octets from output' errors' texts' (pos 74)
 so-far-no-room piece octets from output errors texts texts' place moves m text output' errors' so w next none =
-    let so' : SoFar piece octets from output errors texts' = so-far-same piece octets from output errors texts so texts' none.at none.output_length none.errors_length none.accepted none.refused in
+    let so' : SoFar piece octets from output errors texts' = search (rules, so-far-same) in
     let lacks : LacksRoom output errors texts' (output_of (piece w.event)) (errors_of (piece w.event)) = record {
       output_needed = none.output_needed ∙ ap length w.is.output;
       errors_needed = none.errors_needed ∙ ap length w.is.errors;
@@ -475,12 +402,7 @@ pub record TextsLoop (piece : StreamEvent → Piece) (octets : List ℕ) (from :
 pub rest-put : (old_output old_errors output errors : List ℕ) (texts : Texts) (text : EventText) (mid texts' : Texts) (output' errors' : List ℕ) → texts.output_length ≤ length output
     → texts.errors_length ≤ length errors → LeavesRest old_output old_errors texts output errors → HasPut text texts output errors mid output' errors'
     → texts'.output_length ≡ mid.output_length → texts'.errors_length ≡ mid.errors_length → LeavesRest old_output old_errors texts' output' errors'
-rest-put old_output old_errors output errors texts text mid texts' output' errors' output_fits errors_fits rest put output_length errors_length = record {
-  output_rest = rw output_length (rest-next old_output output output' text.output.octets.items texts.output_length mid.output_length output_fits put.output_fits put.written rest.output_rest
-      put.rest.output_rest);
-  errors_rest = rw errors_length (rest-next old_errors errors errors' text.errors.octets.items texts.errors_length mid.errors_length errors_fits put.errors_fits put.blamed rest.errors_rest
-      put.rest.errors_rest);
-}
+rest-put old_output old_errors output errors texts text mid texts' output' errors' output_fits errors_fits rest put output_length errors_length = search (rules, rest-next)
 
 -- There was no room for the text.
 pub rest-no-room : (old_output old_errors output errors : List ℕ) (texts : Texts) (text : EventText) (texts' : Texts) (output' errors' : List ℕ) → LeavesRest old_output old_errors texts output errors
@@ -491,19 +413,7 @@ rest-no-room old_output old_errors output errors texts text texts' output' error
 -- Nothing was written.
 pub so-far-none : (piece : StreamEvent → Piece) (octets : List ℕ) (output errors : List ℕ) (texts : Texts) → texts.output_length ≡ 0 → texts.errors_length ≡ 0 → texts.accepted ≡ 0 → texts.refused ≡ 0
     → SoFar piece octets texts.at output errors texts
-so-far-none piece octets output errors texts output_length errors_length accepted refused = record {
-  passed = [];
-  reached = reached-none octets texts.at;
-  leaves = record {
-    written = ap (λ n. take n output) output_length;
-    blamed = ap (λ n. take n errors) errors_length;
-    output_fits = omega (arith, output_length);
-    errors_fits = omega (arith, errors_length);
-    accepted = accepted;
-    refused = refused;
-  };
-  few = omega (arith, accepted, refused);
-}
+so-far-none piece octets output errors texts output_length errors_length accepted refused = search (rules, reached-none)
 
 -- ---- A call that reads tables.
 
@@ -516,8 +426,7 @@ wrote_none from output errors texts at output_length errors_length accepted refu
 -- a call that stopped before it read its input
 pub unread : {A : Type 0} (from : ℕ) (output errors : List ℕ) (texts : Texts) (status : ℤ) → texts.at ≡ from → texts.output_length ≡ 0 → texts.errors_length ≡ 0 → texts.accepted ≡ 0
     → texts.refused ≡ 0 → ¬ HasRun status → A ⊎ ((¬ HasRun status) × WritesNone from output errors texts output errors)
-unread from output errors texts status at output_length errors_length accepted refused stopped =
-    inr (stopped, wrote_none from output errors texts at output_length errors_length accepted refused)
+unread from output errors texts status at output_length errors_length accepted refused stopped = search (rules, wrote_none)
 
 -- Both tables were read.
 pub by_both_tables : (table_b table_d : List ℕ) (b : List Row) (d : List Sequence) (status : ℤ) (Holds : List Row → List Sequence → Type 0) (Otherwise : Type 0)
@@ -562,39 +471,25 @@ table_b_status table_b table_d fault status is number =
 
 -- the numbers of the faults of tables
 number-bounds : (fault : TableFault) → (40 ≤ (table_report fault).0) × ((table_report fault).0 ≤ 73)
-number-bounds tables.Header = (omega arith, omega arith)
-number-bounds (tables.Row n) = (omega arith, omega arith)
-number-bounds (tables.Duplicate fxy) = (omega arith, omega arith)
-number-bounds (tables.Cycle fxy) = (omega arith, omega arith)
-number-bounds tables.TableSize = (omega arith, omega arith)
-number-bounds tables.Csv = (omega arith, omega arith)
-number-bounds tables.Memory = (omega arith, omega arith)
+number-bounds fault = grind arith
 
 stopped-at : (n : ℕ) → (n ≡ 0 → ⊥) → (n ≡ 74 → ⊥) → ¬ HasRun (pos n)
 stopped-at n some other (inl is) = some (same-numbers n 0 is)
 stopped-at n some other (inr is) = other (same-numbers n 74 is)
 
 pub stopped_73 : ¬ HasRun (pos 73)
-stopped_73 = stopped-at 73 (λ is. omega (arith, is)) (λ is. omega (arith, is))
+stopped_73 = stopped-at 73 (λ is. omega arith) (λ is. omega arith)
 
 pub stopped_by_b : (fault : TableFault) → ¬ HasRun (pos (table_report fault).0)
-stopped_by_b fault =
-    let (least, most) = number-bounds fault in
-    stopped-at (table_report fault).0 (λ is. omega (arith, is, least)) (λ is. omega (arith, is, most))
+stopped_by_b fault = search (rules, stopped-at)
 
 pub stopped_by_d : (fault : TableFault) → ¬ HasRun (pos (100 + (table_report fault).0))
-stopped_by_d fault = stopped-at (100 + (table_report fault).0) (λ is. omega (arith, is)) (λ is. omega (arith, is))
+stopped_by_d fault = stopped-at (100 + (table_report fault).0) (λ is. omega arith) (λ is. omega arith)
 
 -- the status of a call whose Table D cannot be read
 table-d-fault : (records : List Record) (fault : TableFault) (status : ℤ) → ReadsTableD records (Err fault) → fault ≢ tables.Memory → status ≡ pos (100 + (table_report fault).0)
     → IfErr (table_d_of records) (λ why. IsTableStatus 100 why status) × IfOk (table_d_of records) (λ d. IsRunStatus status ⊎ IsCycleStatus d status)
-table-d-fault records tables.Header status reads some is = rw (reads some) (inl is, tt)
-table-d-fault records (tables.Row n) status reads some is = rw (reads some) (inl is, tt)
-table-d-fault records (tables.Duplicate fxy) status reads some is = rw (reads some) (inl is, tt)
-table-d-fault records (tables.Cycle fxy) status (table, reads, cycle) some is = rw reads (tt, inr (is, (fxy, cycle)))
-table-d-fault records tables.TableSize status reads some is = rw (reads some) (inl is, tt)
-table-d-fault records tables.Csv status reads some is = rw (reads some) (inl is, tt)
-table-d-fault records tables.Memory status reads some is = absurd (some refl)
+table-d-fault records fault status reads some is = grind arith
 
 pub table_d_status : (table_b table_d : List ℕ) (b : List Row) (fault : TableFault) (status : ℤ) → table_b_of (records_of table_b) ≡ Ok b → ReadsTableD (records_of table_d) (Err fault)
     → fault ≢ tables.Memory → status ≡ pos (100 + (table_report fault).0) → CallStatus table_b table_d status
@@ -620,51 +515,18 @@ no-start n l is = ap (λ k. take k l) is
 -- the text from an index on
 pub rest-encoded : (form : Form) (b : List Row) (d : List Sequence) (rest rest' : List ℕ) (text : EventText) (tally : Tally) → rest ≡ rest'
     → IsTextOfAll (encode_pieces form b d (documents_of rest)) text tally → IsTextOfAll (encode_pieces form b d (documents_of rest')) text tally
-rest-encoded form b d rest rest' text tally same made = subst (λ l. IsTextOfAll (encode_pieces form b d (documents_of l)) text tally) same made
+rest-encoded form b d rest rest' text tally same made = grind arith
 
 module _ (pieces : List Piece) (octets : List ℕ) (from : ℕ) (output errors output' errors' : List ℕ) (old mid texts : Texts) (text : EventText) (tally : Tally)
     (is : IsTextOfAll pieces text tally) (none : WritesNone from output errors old output errors) where
   -- There is room for the text.
   pub encodes_all : HasPut text old output errors mid output' errors' → texts.output_length ≡ mid.output_length → texts.errors_length ≡ mid.errors_length → texts.at ≡ length octets
       → texts.accepted ≡ tally.accepted → texts.refused ≡ tally.refused → Encodes pieces octets from output errors texts output' errors' (pos 0)
-  encodes_all put output_length errors_length at accepted refused = record {
-    ran = inl refl;
-    done = λ _. (
-      record {
-        written = ap (λ n. take n output') output_length ∙ put.written ∙ ap (λ l. l ++ text.output.octets.items) (no-start old.output_length output none.output_length) ∙ is.output;
-        blamed = ap (λ n. take n errors') errors_length ∙ put.blamed ∙ ap (λ l. l ++ text.errors.octets.items) (no-start old.errors_length errors none.errors_length) ∙ is.errors;
-        output_fits = omega (arith, output_length, put.output_fits);
-        errors_fits = omega (arith, errors_length, put.errors_fits);
-        accepted = accepted ∙ is.tallies.accepted;
-        refused = refused ∙ is.tallies.refused;
-      },
-      at,
-    );
-    stops = λ no. absurd (apart-0-74 no);
-  }
+  encodes_all put output_length errors_length at accepted refused = search (rules, no-start, apart-0-74)
 
   -- There is no room for the text.
   pub encodes_none : HasNoRoom text old output errors texts output' errors' → Encodes pieces octets from output errors texts output' errors' (pos 74)
-  encodes_none full = record {
-    ran = inr refl;
-    done = λ no. absurd (apart-74-0 no);
-    stops = λ _. (
-      record {
-        output_needed = full.output_needed ∙ ap length is.output;
-        errors_needed = full.errors_needed ∙ ap length is.errors;
-        lacks = rw (full.same_output, full.same_errors) full.lacks;
-      },
-      record {
-        at = full.at ∙ none.at;
-        output_length = full.output_length ∙ none.output_length;
-        errors_length = full.errors_length ∙ none.errors_length;
-        accepted = full.accepted ∙ none.accepted;
-        refused = full.refused ∙ none.refused;
-        same_output = full.same_output;
-        same_errors = full.same_errors;
-      },
-    );
-  }
+  encodes_none full = grind (arith, apart-74-0)
 
 -- ---- The clauses of the calls.
 
@@ -672,13 +534,11 @@ module _ (pieces : List Piece) (octets : List ℕ) (from : ℕ) (output errors o
 pub dump_read : (table_b table_d : List ℕ) (b : List Row) (d : List Sequence) (octets : List ℕ) (from from' : ℕ) (output errors : List ℕ) (texts : Texts) (status : ℤ) (Otherwise : Type 0)
     → table_b_of (records_of table_b) ≡ Ok b → table_d_of (records_of table_d) ≡ Ok d → from' ≡ from → Passes (dump_piece b d) octets from' output errors texts status
     → ByTables table_b table_d status (λ b d. Passes (dump_piece b d) octets from output errors texts status) Otherwise
-dump_read table_b table_d b d octets from from' output errors texts status Otherwise is_b is_d at passes =
-    by_both_tables table_b table_d b d status (λ b d. Passes (dump_piece b d) octets from output errors texts status) Otherwise is_b is_d
-    (subst (λ n. Passes (dump_piece b d) octets n output errors texts status) at passes)
+dump_read table_b table_d b d octets from from' output errors texts status Otherwise is_b is_d at passes = grind arith
 
 -- a property of a form that is known
 if-known : {X : Type 0} (o : Option X) (x : X) (Holds : X → Type 0) → Some x ≡ o → Holds x → IfSome o Holds
-if-known o x Holds is holds = subst (λ o'. IfSome o' Holds) is holds
+if-known o x Holds is holds = rw (← is) holds
 
 -- the status of a call whose form is known
 pub known_status : (number : ℕ) (form : Form) (table_b table_d : List ℕ) (status : ℤ) → Some form ≡ form_by number → CallStatus table_b table_d status
@@ -686,7 +546,7 @@ pub known_status : (number : ℕ) (form : Form) (table_b table_d : List ℕ) (st
 known_status number form table_b table_d status known is = if-known (form_by number) form (λ form'. CallStatus table_b table_d status) known is
 
 pub known_form : (X : Type 0) (number : ℕ) (form : Form) → Some form ≡ form_by number → IfNone (form_by number) X
-known_form X number form known = subst (λ o. IfNone o X) known tt
+known_form X number form known = rw (← known) tt
 
 any-form : (X : Type 0) (o : Option Form) → X → IfNone o X
 any-form X None x = x
@@ -694,9 +554,7 @@ any-form X (Some form) x = tt
 
 pub unknown_form : (number from : ℕ) (output errors : List ℕ) (texts : Texts) → texts.at ≡ from → texts.output_length ≡ 0 → texts.errors_length ≡ 0 → texts.accepted ≡ 0 → texts.refused ≡ 0
     → IfNone (form_by number) ((pos 75 ≡ pos 75) × WritesNone from output errors texts output errors)
-unknown_form number from output errors texts at output_length errors_length accepted refused =
-    any-form ((pos 75 ≡ pos 75) × WritesNone from output errors texts output errors) (form_by number)
-    (refl, wrote_none from output errors texts at output_length errors_length accepted refused)
+unknown_form number from output errors texts at output_length errors_length accepted refused = search (rules, any-form)
 
 -- a call that stopped before it read its text
 pub encode_unread : (number : ℕ) (form : Form) (table_b table_d octets : List ℕ) (from : ℕ) (output errors : List ℕ) (texts : Texts) (status : ℤ) → Some form ≡ form_by number → texts.at ≡ from
@@ -714,8 +572,4 @@ pub encode_read : (number : ℕ) (form : Form) (table_b table_d : List ℕ) (b :
     → Encodes (encode_pieces form b d (documents_of (drop from octets))) octets from output errors texts output' errors' status
     → IfSome (form_by number) (λ form. ByTables table_b table_d status
     (λ b d. Encodes (encode_pieces form b d (documents_of (drop from octets))) octets from output errors texts output' errors' status) (WritesNone from output errors texts output' errors'))
-encode_read number form table_b table_d b d octets from output errors texts output' errors' status known is_b is_d encodes =
-    if-known (form_by number) form (λ form. ByTables table_b table_d status
-    (λ b d. Encodes (encode_pieces form b d (documents_of (drop from octets))) octets from output errors texts output' errors' status) (WritesNone from output errors texts output' errors')) known
-    (by_both_tables table_b table_d b d status (λ b d. Encodes (encode_pieces form b d (documents_of (drop from octets))) octets from output errors texts output' errors' status)
-    (WritesNone from output errors texts output' errors') is_b is_d encodes)
+encode_read number form table_b table_d b d octets from output errors texts output' errors' status known is_b is_d encodes = search (rules, if-known, by_both_tables)

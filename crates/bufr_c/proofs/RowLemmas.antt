@@ -1,31 +1,29 @@
 -- The rows of a message, call by call, and the rows of events.
-use Rattle.std.proofs.Common.{ℕ, ◌≡◌, ◌≢◌, ◌⊎◌, inl, inr, ◌∙◌, ◌-◌, ◌≤◌, ◌<◌, List, [], ◌∷◌, ◌++◌, length, take, sym, ap, subst, refl, arith, Result, Ok, Err, OnOk, None, Some, option_map, if◌then◌else◌, ℤ, pos, true}
+use Rattle.std.proofs.lemmas.Grind.{common_steps}
+use Rattle.std.proofs.Common.{ℕ, ◌≡◌, ◌≢◌, ◌⊎◌, inl, inr, ◌∙◌, ◌≤◌, ◌<◌, List, [], ◌∷◌, ◌++◌, length, take, sym, ap, refl, arith, Result, Ok, Err, OnOk, None, Some, ℤ, pos, true, rules}
 use Rattle.std.proofs.lemmas.List.{length-take-le}
 use Rattle.bufr_frame.specs.Prelude.{Sections, StreamEvent}
 use Rattle.bufr_tables.specs.Prelude.{Row, Sequence, Tree, records_of, table_b_of, table_d_of, tree_of, tables_of, template_report}
 use Rattle.bufr_tables.specs.declared.fault.TemplateFault.{TemplateFault}
-use Rattle.bufr_walk.specs.Prelude.{View, item_call, shown_number, Timed, Shows, Read, Data, AnswersReading, calls_of, turns_shown, data_of, data_report, read_by, fault_of, reading_of, next_item, fault_at}
+use Rattle.bufr_walk.specs.Prelude.{View, item_call, shown_number, Timed, Shows, Read, Data, AnswersReading, calls_of, turns_shown, data_of, data_report, read_by, fault_of, reading_of, next_item}
 use Rattle.bufr_walk.specs.declared.fault.WalkFault.{WalkFault}
 use Rattle.bufr_walk.specs.declared.fault.WalkFault.TheVariants as fault
 use Rattle.bufr_c.specs.declared.rows.Counts.{Counts}
 use Rattle.bufr_c.specs.declared.rows.RowBuffers.{RowBuffers}
 use Rattle.bufr_c.specs.Leaving.{ByTables, HasRun, events_from}
-use Rattle.bufr_c.specs.Rows.{HasNoRowRoom, HasPutRows, LacksRowRoom, LeavesRows, LeavesRowsRest, PassesRows, Put, PutsCall, RowPlace, Rows, SameBuffers, StopsBeforeRows, data_fault, data_put, is_wanted, join_rows, message_fault, message_put, no_rows, WritesNoRows, place_after, row_place, rows_after, rows_at, rows_of, template_fault, template_put, three, with_calls, with_number, with_value}
-use Rattle.bufr_c.proofs.EventLemmas.{Reached, apart-0-74, apart-73-0, apart-73-74, apart-74-0, events-end, over-end, over-stopped, reached-none, reached-same, rest-next, by_both_tables}
+use Rattle.bufr_c.specs.Rows.{HasNoRowRoom, HasPutRows, LacksRowRoom, LeavesRows, LeavesRowsRest, PassesRows, Put, PutsCall, RowPlace, Rows, SameBuffers, data_fault, is_wanted, join_rows, message_fault, message_put, no_rows, WritesNoRows, place_after, row_place, rows_after, rows_at, rows_of, template_fault, template_put, three, with_calls, with_number}
+use Rattle.bufr_c.proofs.EventLemmas.{Reached, apart-0-74, apart-73-0, apart-74-0, events-end, over-end, over-stopped, reached-none, reached-same, rest-next}
 
 -- ---- The calls that show what was read.
 
 calls_put : (E : Type 0) (p : Put) (calls : List Timed) (turns : ℕ) (q : Put) (steps : ℕ) → Shows {E = E} PutsCall p calls turns (Ok tt) q steps → q ≡ with_calls p calls
 calls_put E p [] turns q steps (same, made) = same
-calls_put E p (t ∷ calls) turns q steps (mid, one, more) = calls_put E mid calls turns q steps more ∙ ap (λ m. with_calls m calls) one
+calls_put E p (t ∷ calls) turns q steps (mid, one, more) = cc (calls_put E mid calls turns q steps more, one)
 
 -- A number was added.
 pub number-put : (E : Type 0) (r : Result (Unit {0}) E) (p q : Put) (v : View) (fxy : ℕ) (n scale : ℤ) → fxy ≡ v.fxy → v.value ≡ shown_number n scale → is_wanted p.wanted fxy ≡ true
     → OnOk r (q ≡ with_number p fxy scale n) → PutsCall p (item_call v) r q
-number-put E (Ok u) p q v fxy n scale same value wanted is =
-    is ∙ (ap (λ f. with_number p f scale n) same
-    ∙ sym (ap (λ b. if b then with_value p v.fxy v.value else p) (ap (λ f. is_wanted p.wanted f) (sym same) ∙ wanted) ∙ ap (λ x. with_value p v.fxy x) value))
-number-put E (Err fault) p q v fxy n scale same value wanted is = tt
+number-put E r p q v fxy n scale same value wanted is = grind arith
 
 abbrev calls_by : List Row → Tree → Data → List Timed
 calls_by table template source = calls_of (read_by table template source 0 0)
@@ -35,23 +33,18 @@ calls_same r b t source table template same =
     ap (λ x. calls_by x r.template r.source) table ∙ (ap (λ x. calls_by b x r.source) template ∙ ap (λ x. calls_by b t x) same)
 
 put_by_tree : (b : List Row) (d : List Sequence) (s : Sections) (p : Put) (t : Result Tree TemplateFault) → tree_of (tables_of b d) s.descriptors ≡ t → template_put b s p t ≡ message_put b d s p
-put_by_tree b d s p t tree = sym (ap (λ x. template_put b s p x) tree)
+put_by_tree b d s p t tree = rw tree
 
 fault_by_tree : (b : List Row) (d : List Sequence) (s : Sections) (t : Result Tree TemplateFault) → tree_of (tables_of b d) s.descriptors ≡ t → template_fault b s t ≡ message_fault b d s
-fault_by_tree b d s t tree = sym (ap (λ x. template_fault b s x) tree)
+fault_by_tree b d s t tree = rw tree
 
 -- Data that were read have no fault.
 no_fault : (b : List Row) (t : Tree) (s : Sections) (r : Read) (steps : ℕ) → AnswersReading b t (data_of s) (Ok r) steps → fault_of (data_of s) (reading_of (next_item b t) (data_of s)) ≡ None
-no_fault b t s r steps (table, template, source, rest) =
-    ap (λ st. option_map (λ why. fault_at why (reading_of (next_item b t) (data_of s)).subset (length (data_of s).bits - length (reading_of (next_item b t) (data_of s)).left)) st) rest.0
+no_fault b t s r steps (table, template, source, rest) = rw (rest.0)
 
 pub message_done : (E : Type 0) (b : List Row) (d : List Sequence) (s : Sections) (p q : Put) (t : Tree) (r : Read) (steps steps' : ℕ) → tree_of (tables_of b d) s.descriptors ≡ Ok t
     → AnswersReading b t (data_of s) (Ok r) steps → Shows {E = E} PutsCall p (calls_of r) (turns_shown r) (Ok tt) q steps' → q ≡ message_put b d s p
-message_done E b d s p q t r steps steps' tree (table, template, source, rest) shown =
-    calls_put E p (calls_of r) (turns_shown r) q steps' shown
-    ∙ (ap (λ cs. with_calls p cs) (calls_same r b t (data_of s) table template source)
-    ∙ (sym (ap (λ f. data_put p (calls_by b t (data_of s)) f) (no_fault b t s r steps (table, template, source, rest)))
-    ∙ put_by_tree b d s p (Ok t) tree))
+message_done E b d s p q t r steps steps' tree (table, template, source, rest) shown = grind (arith, common_steps, calls_put, calls_same, no_fault, put_by_tree)
 
 pub message_done_fault : (b : List Row) (d : List Sequence) (s : Sections) (t : Tree) (r : Read) (steps : ℕ) → tree_of (tables_of b d) s.descriptors ≡ Ok t
     → AnswersReading b t (data_of s) (Ok r) steps → 0 ≡ message_fault b d s
@@ -66,8 +59,7 @@ its_fault b s t why steps (inr (memory, turns, may, made)) other = absurd (other
 
 pub message_refused : (b : List Row) (d : List Sequence) (s : Sections) (p : Put) (t : Tree) (why : WalkFault) (steps : ℕ) → tree_of (tables_of b d) s.descriptors ≡ Ok t
     → AnswersReading b t (data_of s) (Err why) steps → why ≢ fault.Memory → p ≡ message_put b d s p
-message_refused b d s p t why steps tree answers other =
-    sym (ap (λ f. data_put p (calls_by b t (data_of s)) f) (its_fault b s t why steps answers other)) ∙ put_by_tree b d s p (Ok t) tree
+message_refused b d s p t why steps tree answers other = cc (its_fault b s t why steps answers other)
 
 pub message_refused_fault : (b : List Row) (d : List Sequence) (s : Sections) (t : Tree) (why : WalkFault) (steps : ℕ) → tree_of (tables_of b d) s.descriptors ≡ Ok t
     → AnswersReading b t (data_of s) (Err why) steps → why ≢ fault.Memory → (data_report why).0 ≡ message_fault b d s
@@ -120,19 +112,7 @@ module _ (b : List Row) (d : List Sequence) (wanted octets : List ℕ) (from : �
       ap (λ r. join_rows r made) before-is
       ∙ ap (λ r. join_rows rows r) (is ∙ ap (λ place. rows_of b d wanted place event) (sym (place-left room counts rows so.leaves)))
       ∙ sym (after-next b d wanted no_rows so.passed event) in
-      let left : LeavesRows room' mid now = subst (λ r. LeavesRows room' mid r) same put.leaves in
-      record {
-        passed = so.passed ++ event ∷ [];
-        reached = reached;
-        leaves = record {
-          items = ap (λ n. take n room'.items) items ∙ left.items;
-          octets = ap (λ n. take n room'.octets) octets' ∙ left.octets;
-          messages = ap (λ n. take n room'.messages) messages ∙ left.messages;
-          items_fit = omega (arith, items, left.items_fit);
-          octets_fit = omega (arith, octets', left.octets_fit);
-          messages_fit = omega (arith, messages, left.messages_fit);
-        };
-      }
+      grind arith
 
   -- There are no more events.
   pub rows-done : length octets ≤ counts.at → PassesRows b d wanted octets from room counts (pos 0)
@@ -144,27 +124,22 @@ module _ (b : List Row) (d : List Sequence) (wanted octets : List ℕ) (from : �
   }
 
   pub rows_stopped : PassesRows b d wanted octets from room counts (pos 73)
-  rows_stopped = record {
-    passed = so.passed;
-    over = over-stopped octets from so.passed counts.at so.reached (pos 73) (inr (inl refl)) apart-73-0;
-    leaves = so.leaves;
-    stops = λ is. absurd (apart-73-74 is);
-  }
+  rows_stopped = grind (arith, apart-73-0)
 
   -- After the last event, the search is at the end.
   pub rows-ended : (counts' : Counts) → counts.at < length octets → events_from counts.at octets ≡ [] → counts'.at ≡ length octets → counts'.items ≡ counts.items → counts'.octets ≡ counts.octets
       → counts'.messages ≡ counts.messages → PassesRows b d wanted octets from room counts' (pos 0)
   rows-ended counts' inside none at items octets' messages = record {
     passed = so.passed;
-    over = over-end octets from so.passed counts.at so.reached counts'.at none (omega (arith, at)) (λ _. omega (arith, at))
-        (λ h. omega (arith, h, inside, so.reached.past (omega (arith, h))));
+    over = over-end octets from so.passed counts.at so.reached counts'.at none (omega arith) (λ _. omega arith)
+        (λ h. omega (arith, h, inside, so.reached.past (omega arith)));
     leaves = record {
       items = ap (λ n. take n room.items) items ∙ so.leaves.items;
       octets = ap (λ n. take n room.octets) octets' ∙ so.leaves.octets;
       messages = ap (λ n. take n room.messages) messages ∙ so.leaves.messages;
-      items_fit = omega (arith, items, so.leaves.items_fit);
-      octets_fit = omega (arith, octets', so.leaves.octets_fit);
-      messages_fit = omega (arith, messages, so.leaves.messages_fit);
+      items_fit = omega (arith, so.leaves.items_fit);
+      octets_fit = omega (arith, so.leaves.octets_fit);
+      messages_fit = omega (arith, so.leaves.messages_fit);
     };
     stops = λ is. absurd (apart-0-74 is);
   }
@@ -173,10 +148,10 @@ module _ (b : List Row) (d : List Sequence) (wanted octets : List ℕ) (from : �
   pub rows-full : (event : StreamEvent) (more : List StreamEvent) (made : Rows) (counts' : Counts) (room' : Rows) → events_from counts.at octets ≡ event ∷ more
       → made ≡ rows_of b d wanted (row_place counts) event → HasNoRowRoom made counts room counts' room' → PassesRows b d wanted octets from room' counts' (pos 74)
   rows-full event more made counts' room' next is none =
-      let there : events_from counts'.at octets ≡ event ∷ more = ap (λ n. events_from n octets) none.at ∙ next in
+      let there : events_from counts'.at octets ≡ event ∷ more = rw (none.at, next) in
       let place : row_place counts ≡ row_place counts' = rw (none.messages, none.octets, none.items) refl in
       let lacks : LacksRowRoom room' counts' (rows_of b d wanted (row_place counts') event) =
-      subst (λ r. LacksRowRoom room' counts' r) (is ∙ ap (λ p. rows_of b d wanted p event) place) none.lacks in
+      rw (← is ∙ ap (λ p. rows_of b d wanted p event) place) none.lacks in
       rw none.same (record {
         passed = so.passed;
         over = over-stopped octets from so.passed counts'.at (reached-same octets from so.passed counts.at so.reached counts'.at none.at) (pos 74) (inr (inr refl)) apart-74-0;
@@ -188,24 +163,13 @@ module _ (b : List Row) (d : List Sequence) (wanted octets : List ℕ) (from : �
           octets_fit = omega (arith, none.octets, so.leaves.octets_fit);
           messages_fit = omega (arith, none.messages, so.leaves.messages_fit);
         };
-        stops = λ _. subst (λ es. StopsBeforeRows b d wanted room counts' es) (sym there) (rw none.same at lacks);
+        stops = λ _. rw there (rw none.same at lacks);
       })
 
 -- Nothing was written.
 pub rows-none : (b : List Row) (d : List Sequence) (wanted octets : List ℕ) (room : Rows) (counts : Counts) → counts.items ≡ 0 → counts.octets ≡ 0 → counts.messages ≡ 0
     → RowsSoFar b d wanted octets counts.at room counts
-rows-none b d wanted octets room counts items octets' messages = record {
-  passed = [];
-  reached = reached-none octets counts.at;
-  leaves = record {
-    items = ap (λ n. take n room.items) items;
-    octets = ap (λ n. take n room.octets) octets';
-    messages = ap (λ n. take n room.messages) messages;
-    items_fit = omega (arith, items);
-    octets_fit = omega (arith, octets');
-    messages_fit = omega (arith, messages);
-  };
-}
+rows-none b d wanted octets room counts items octets' messages = search (rules, reached-none)
 
 -- buffers that do not move
 pub buffers_here : (buffers : RowBuffers) → SameBuffers buffers buffers
@@ -254,8 +218,7 @@ pub record RowsLoop (b : List Row) (d : List Sequence) (wanted octets : List ℕ
 
 pub made-by-same : (b b' : List Row) (d d' : List Sequence) (wanted wanted' : List ℕ) (place : RowPlace) (event : StreamEvent) (made : Rows) → b' ≡ b → d' ≡ d → wanted' ≡ wanted
     → made ≡ rows_of b' d' wanted' place event → made ≡ rows_of b d wanted place event
-made-by-same b b' d d' wanted wanted' place event made table_b table_d same is =
-    is ∙ (ap (λ x. rows_of x d' wanted' place event) table_b ∙ (ap (λ x. rows_of b x wanted' place event) table_d ∙ ap (λ x. rows_of b d x place event) same))
+made-by-same b b' d d' wanted wanted' place event made table_b table_d same is = grind arith
 
 -- ---- The clause of the call.
 
@@ -268,9 +231,4 @@ unread_rows from room counts status at items octets' messages stopped = inr (sto
 pub items_read : (table_b table_d : List ℕ) (b b' : List Row) (d d' : List Sequence) (wanted wanted' octets : List ℕ) (from from' : ℕ) (room : Rows) (counts : Counts) (status : ℤ)
     (Otherwise : Type 0) → table_b_of (records_of table_b) ≡ Ok b → table_d_of (records_of table_d) ≡ Ok d → b' ≡ b → d' ≡ d → wanted' ≡ wanted → from' ≡ from
     → PassesRows b' d' wanted' octets from' room counts status → ByTables table_b table_d status (λ b d. PassesRows b d wanted octets from room counts status) Otherwise
-items_read table_b table_d b b' d d' wanted wanted' octets from from' room counts status Otherwise is_b is_d same_b same_d same at passes =
-    by_both_tables table_b table_d b d status (λ b d. PassesRows b d wanted octets from room counts status) Otherwise is_b is_d
-    (subst (λ x. PassesRows x d wanted octets from room counts status) same_b
-    (subst (λ x. PassesRows b' x wanted octets from room counts status) same_d
-    (subst (λ x. PassesRows b' d' x octets from room counts status) same
-    (subst (λ x. PassesRows b' d' wanted' octets x room counts status) at passes))))
+items_read table_b table_d b b' d d' wanted wanted' octets from from' room counts status Otherwise is_b is_d same_b same_d same at passes = grind arith
