@@ -3,10 +3,12 @@
 
     tests/line_width.py [--write [FILE..]]        --write: break the long lines in these proofs (default: in all proofs)
 
-The test reads each .rt file in src/, and each .antt file in specs/ and proofs/. It skips imports and attributes, which
-`rt fmt` keeps on one line, and quoted strings, which cannot contain line feeds. For each line that is too long, it prints
-the file and the line number. --write breaks a line before an arrow, after a comma, before an operator or between two arguments,
-wherever the fewest brackets are open, and indents the second part by four more spaces. `rt fmt` then formats both.
+The test reads each .rt file in src/, and each .antt file in specs/ and proofs/. For each line that is too long, it prints the
+file and the line number. It skips imports and attributes, which `rt fmt` keeps on one line, and `--` comments. Outside proofs,
+it also skips every line that contains a quoted string. In proofs, it skips such a line only if the line cannot be broken.
+
+--write breaks a line before an arrow, after a comma, before an operator or between two arguments, wherever the fewest brackets
+are open, and indents each continuation line by four more spaces. Afterwards, run `rt fmt`.
 """
 import pathlib
 import re
@@ -17,7 +19,7 @@ from lib import TOP, finish
 MOST, OF_PROOFS = 100, 200
 PROOFS_ARE_HELD = True  # true once all proofs are broken
 ONE_LINE = re.compile(r"\s*((unfoldable )?(pub )?use |ghost use |#\[|--)")
-TOKEN = re.compile(r"\s+|[()\[\]{}]|[,;]|[^\s()\[\]{},;]+")
+TOKEN = re.compile(r'"(?:[^"\\]|\\.)*"|\s+|[()\[\]{}]|[,;]|[^\s()\[\]{},;"]+')
 # What a line may begin with, the best first, and what may not be parted from what is before or after it.
 BEFORE = [{"→", "|"}, {"∙", "×", "⊎"}, {"≡", "≤", "<"}, {"++", "∷", "&&", "||"}]
 TIED_BEFORE = {":", "=", "≔", "at", "where", "in", "[", "{", ".", "as"}
@@ -66,7 +68,7 @@ def broken(line: str) -> list:
 
 def is_wide(path: pathlib.Path, line: str) -> bool:
     most = OF_PROOFS if "proofs" in path.parts else MOST
-    return len(line) > most and '"' not in line and not ONE_LINE.match(line)
+    return len(line) > most and not ONE_LINE.match(line) and ('"' not in line or most == OF_PROOFS and len(broken(line)) > 1)
 
 
 def write(paths: list) -> None:
