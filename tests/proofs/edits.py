@@ -16,6 +16,11 @@ WORD = re.compile(r"[^\s(){}\[\],;.`]+")
 MOST_CITED = 5  # facts of a tactic that takes the place of a term: with more, nobody sees which step fails
 LEAST_SAVED = 20  # characters: such a tactic says less than the term, so it has to be clearly shorter
 MOST_INLINE = 40  # characters: a longer `let` is not written where it is used, since that is harder to read
+LEAST_MERGED = 150  # characters that have to be saved if a tactic does the work of several clauses
+SHORT = 150  # characters: such a record, tuple or chain shows the whole proof
+SHORT_CALL = 100  # characters: so does such a lemma with its arguments
+MOST_HIDDEN = 3  # lemmas that a tactic may find beside those that it names; a tactic that names none may find one
+MOST_IDLE = 1  # `let`s that no text of the proof mentions, because a tactic finds them in scope
 
 
 def depths(text: str) -> list[int]:
@@ -83,6 +88,9 @@ class Let(NamedTuple):
     value: int
     value_end: int
     end: int
+
+    def is_typed(self, text: str) -> bool:
+        return text[self.colon : self.value].strip() != "="
 
 
 def lets(body: str) -> list[Let]:
@@ -213,7 +221,7 @@ def forms(text: str, citable: set[str]) -> list[str]:
     words = [word for word in dict.fromkeys(WORD.findall(text)) if word in citable]
     sets = ["nat_tests"] if "nat_tests" in text else []
     lemmas, facts = ", ".join([*sets, *words[:MOST_CITED]]), ", ".join(facts_of(text)[:MOST_CITED])
-    made = ["refl", "cc", "omega arith", "grind (arith, common_steps)"]
+    made = ["omega arith", "grind (arith, common_steps)"]
     if lemmas:
         made += [f"search (rules, {lemmas})", f"grind (arith, common_steps, {lemmas})", f"simp ({lemmas})"]
     for cited in {lemmas, facts} - {""}:
@@ -267,13 +275,16 @@ def weak_edits(file: ProofFile, lemma: Declaration, body: str) -> Iterator[Edit]
         if len(uses) == 1 and not body.startswith(".", uses[0] + len(one.name)):
             flat = " ".join(text.split())
             is_item = listed == uses or " " not in flat
-            if len(flat) <= MOST_INLINE:
+            if len(flat) <= MOST_INLINE and not one.is_typed(body):
                 yield ((one.start, one.end, ""), (uses[0], uses[0] + len(one.name), flat if is_item else f"({flat})"))
-        if body[one.colon : one.value].strip() != "=":
+        if one.is_typed(body):
             yield from (((one.value, one.value_end, form),) for form in forms(text, citable))
+    steps = {one.name for one in lets(body)}
     for tactic in TACTIC.finditer(body):
         found = items(body, tactic.end())
         optional = [one for one in found if one[1].strip() not in ("arith", "rules")]
+        if tactic[1] == "omega":  # a field of a record, or a step of the proof, says where a bound comes from
+            optional = [one for one in optional if "." not in one[1] and one[1].strip() not in steps]
         if len(optional) > 1 and len(optional) < len(found):
             yield tuple((place - 1, place + len(item), "") for place, item in optional)
         for place, item in optional:
@@ -281,7 +292,7 @@ def weak_edits(file: ProofFile, lemma: Declaration, body: str) -> Iterator[Edit]
                 yield ((place - 1, place + len(item), ""),)
             head = item.split()[0] if item.split() else ""
             if " " in item.strip() and head in citable:
-                yield ((place, place + len(item), f" {head}" if item.startswith(" ") else head),)
+                yield ((place, place + len(item), f" {head}" if item[:1].isspace() else head),)
     for found_at in re.finditer(r"subst \(λ", body):
         motive = argument_end(body, found_at.start() + 6)
         equation = argument_end(body, motive + 1)
@@ -293,11 +304,22 @@ def weak_edits(file: ProofFile, lemma: Declaration, body: str) -> Iterator[Edit]
                 yield ((found_at.start(), last, form),)
 
 
+def without_repeats(body: str) -> str:
+    """The body without facts that a tactic's list repeats."""
+    for tactic in reversed(list(TACTIC.finditer(body))):
+        found = items(body, tactic.end())
+        for number, (place, item) in reversed(list(enumerate(found))):
+            if item.strip() in [other.strip() for _, other in found[:number]]:
+                body = body[: place - 1] + body[place + len(item) :]
+    return body
+
+
 def applied(body: str, edit: Edit) -> str:
-    """The body after an edit, with no line that is too long."""
+    """The body after an edit, without doubled brackets and facts, and with no line that is too long."""
     for start, end, new in sorted(edit, reverse=True):
         body = body[:start] + new + body[end:]
     body = re.sub(r"(?<![^\s(\[{])(omega|grind|search|simp|rw) \(([^\s(){}\[\],;.]+)\)", r"\1 \2", body)
+    body = without_repeats(re.sub(r"\(\((omega arith|grind arith|search rules)\)\)", r"(\1)", body))
     body = re.sub(r"(?m)[ \t]+$", "", body)
     return "\n".join(piece for line in body.split("\n") for piece in (broken(line) if len(line) > OF_PROOFS else [line]))
 
@@ -307,12 +329,65 @@ def key_of(body: str, edit: Edit) -> tuple[tuple[str, str], ...]:
     return tuple((body[max(0, start - 60) : end], new) for start, end, new in edit)
 
 
+def ending(text: str) -> str:
+    """What follows the `let`s of a clause."""
+    at = len(text) - len(text.lstrip())
+    for one in lets(text):
+        at = one.end if one.start == at else at
+    return text[at:].strip()
+
+
+SEARCH = re.compile("(grind|search) ")
+BARE = re.compile("(grind|search) (arith|rules|.arith, common_steps.)$")
+
+
+def hides_steps(old: str, new: str, citable: set[str]) -> bool:
+    """Whether a tactic takes the place of a term that says more."""
+    if old == new:
+        return False
+    if SEARCH.match(old):
+        return new == "search rules" and not old.startswith("search")
+    if old.startswith("omega (") and new.startswith("omega "):
+        return any("." in fact and fact.strip() not in new for _, fact in items(old, len("omega ")))
+    is_call = len(old) < SHORT_CALL and "let " not in old and (old.split(" ")[0] in citable or re.match(r"ap [^\s(]+ ", old))
+    if is_call and re.match("(grind|search|simp|rw|cc) ", new) or old.startswith("absurd ") and not new.startswith("absurd "):
+        return True
+    is_literal = re.match(r"record \{|\(", old) and old[-1] in ")}"
+    if not SEARCH.match(new):
+        return bool(is_literal and len(old) < SHORT and new.startswith("omega"))
+    is_tactic = re.match("(omega|cc|rw|simp|refl)( |$)", old)
+    hidden = {word for word in WORD.findall(old) if word in citable} - set(WORD.findall(new))
+    is_short = len(old) < SHORT and (is_literal or " ∙ " in old or hidden and BARE.match(new))
+    return bool(is_tactic or is_short or len(hidden) > (1 if BARE.match(new) else MOST_HIDDEN) or new == "search rules")
+
+
+def idle(text: str) -> int:
+    """The number of `let`s in a clause that nothing mentions."""
+    return sum(not mentions(re.sub(r"\b(?=\.)", " ", text[one.end :]), one.name) for one in lets(text))
+
+
+def is_harder(file: ProofFile, lemma: Declaration, old: str, new: str) -> bool:
+    """Whether a reader would rather keep the old proof, although the new one is shorter."""
+    before, after = ([body[one.value : one.end].strip() for one in clauses(lemma, body)] for body in (old, new))
+    if len(before) != len(after):
+        return len(old) - len(new) < LEAST_MERGED and not re.search("= (cc|omega arith)$", new)
+    pairs: list[tuple[str, str]] = []
+    for text, made in zip(before, after):
+        values = {one.name: text[one.value : one.value_end] for one in lets(text)}
+        if idle(made) > max(MOST_IDLE, idle(text)):
+            return True
+        pairs += [(ending(text), ending(made)), *((values.get(one.name, ""), made[one.value : one.value_end]) for one in lets(made))]
+    citable = file.citable(lemma)
+    finds_record = any("record {" in text and re.fullmatch("grind arith|grind .arith, common_steps.|search rules", made) for text, made in zip(before, after))
+    return finds_record or any(hides_steps(one.strip(), other.strip(), citable) for one, other in pairs)
+
+
 def shorter(file: ProofFile, lemma: Declaration, body: str, is_first: bool) -> list[tuple[Edit, str]]:
-    """The edits that make a body shorter, with what they make of it."""
+    """The edits that make a body shorter and no harder to read, with what they make of it."""
     made: dict[str, Edit] = {}
     for edit in [*strong_edits(file, lemma, body), *([] if is_first else weak_edits(file, lemma, body))]:
         text = applied(body, edit)
-        if len(text) < len(body) and is_balanced(text):
+        if len(text) < len(body) and is_balanced(text) and not is_harder(file, lemma, file.body(lemma), text):
             made.setdefault(text, edit)
     return [(edit, text) for text, edit in made.items()]
 

@@ -138,7 +138,7 @@ class ProofFile:
         for lemma in reversed(self.declarations):
             if lemma.is_lemma and lemma.name in bodies:
                 lines[lemma.clauses : lemma.last] = bodies[lemma.name].split("\n")
-        return with_imports(lines, set(self.imported()) | tokens("\n".join(line for line in self.lines if not is_use(line))))
+        return with_imports(lines, set(self.imported()) | tokens("\n".join(line.partition("--")[0] for line in self.lines if not is_use(line))))
 
 
 # What the shorter proofs name, and where it is.

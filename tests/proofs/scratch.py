@@ -3,7 +3,6 @@ import fcntl
 import os
 import pathlib
 import re
-import resource
 import shutil
 import signal
 import subprocess
@@ -46,7 +45,6 @@ class Outcome(NamedTuple):
 class Run(NamedTuple):
     status: int
     output: str
-    seconds: float  # of processor time
 
 
 class Report(NamedTuple):
@@ -54,7 +52,6 @@ class Report(NamedTuple):
     outcomes: list[Outcome]
     errors: list[tuple[str, int, str]]  # those in other files: the file, the line and the message
     output: str
-    seconds: float  # of processor time
 
 
 def libraries(crate: str) -> list[str]:
@@ -169,7 +166,7 @@ class Scratch:
                 raise Bad(f"the checker wrote no file in {self.kept} for a module that it read, so times are not known")
             outcomes.append(Outcome(passed, times.get(name, 0.0), own))
         proved = ran.status == 0 and verdict[1] == verdict[2]
-        return Report(proved, outcomes, [one for one in errors if "/Tried" not in one[0]], ran.output, ran.seconds)
+        return Report(proved, outcomes, [one for one in errors if "/Tried" not in one[0]], ran.output)
 
     def times(self, names: list[str], began: float) -> dict[str, float]:
         """The seconds that each module took. The checker writes a file for each module as soon as it has checked it."""
@@ -185,13 +182,10 @@ class Scratch:
 
 def run(words: list[str], folder: pathlib.Path) -> Run:
     """Runs a command in a process group of its own, and ends all of the group if this program is stopped."""
-    before = resource.getrusage(resource.RUSAGE_CHILDREN)
     with subprocess.Popen(words, cwd=folder, stdout=subprocess.PIPE, stderr=subprocess.STDOUT, start_new_session=True) as process:
         try:
             output, _ = process.communicate()
         except BaseException:
             os.killpg(process.pid, signal.SIGKILL)
             raise
-    after = resource.getrusage(resource.RUSAGE_CHILDREN)
-    seconds = after.ru_utime + after.ru_stime - before.ru_utime - before.ru_stime
-    return Run(process.returncode, output.decode("utf-8", "replace"), seconds)
+    return Run(process.returncode, output.decode("utf-8", "replace"))

@@ -3,21 +3,24 @@
 
     tests/proofs/shrink.py FILE.antt..                  print the changes that shorten these files, as a diff
     tests/proofs/shrink.py --apply FILE.antt..          change the files
-    tests/proofs/shrink.py --unused [FILE.antt..]       list lemmas that nothing names (default: in all proofs)
+    tests/proofs/shrink.py --unused [FILE.antt..]       list unused lemmas (default: in all proof files)
 
 FILE is a file in the proofs/ of a crate: a file of lemmas, Answers.antt or Invariants.antt. Its crate must be proved, and the
-crates below it built (`rt lib`). The tool works in a copy of the crate, so a run that is stopped changes nothing.
+crates below it built (`rt lib`). The tool works in a copy of the crate. With --apply, it replaces each file only after all of
+that file's changes pass, so an interrupted run leaves no file half changed.
 
-For each lemma, the tool makes shorter proofs: one tactic in place of a term, fewer `let`s, shorter lists. Each of them is a
-module of its own, and one check judges hundreds of these modules. If several shorter proofs of a lemma pass, the next round
-tries all of their edits together, until nothing gets shorter. A new proof may take at most twice the time of the old one, and
-all of a file's at most a second more, so that a crate, which takes minutes, takes at most a tenth more. The tool prints or
-applies the changes only if a check of the whole file, with all changes, passes.
+For each lemma, the tool makes shorter proofs: one tactic in place of a term, fewer `let`s, shorter lists. Each of them is put
+in its own module, and one check tries up to 300 of them. If several shorter proofs of a lemma pass, the next round tries all of
+their edits together. The tool stops when a round saves fewer than 100 characters. A new proof may take at most twice as long to
+check as the old one, and together the new proofs of a file may add at most one second. The tool prints or applies the changes
+only if a check of the whole file passes with all of them. It skips a shorter proof that would be harder to read, such as a
+tactic that hides the lemmas used or replaces a short term (`is_harder` in edits.py).
 
-Each check runs at the lowest priority. --prefix puts words before its command, such as `flock FILE`.
+Each check runs at the lowest priority. `--prefix 'flock FILE'` runs each check under that command.
 """
 import argparse
 import difflib
+import itertools
 import os
 import pathlib
 import re
@@ -36,7 +39,7 @@ from lib import TOP, finish  # noqa: E402
 from scratch import Scratch  # noqa: E402
 
 MOST_TRIALS = 300  # in one check
-MOST_ROUNDS = 12
+LEAST_ROUND = 100  # characters: a round that saves less is the last one
 SLOWER = 2.0  # how many times its old time a proof may take
 MOST_ADDED = 1.0  # seconds that the new proofs of a file may add
 CLOCK = 0.012  # seconds: differences below this say nothing
@@ -128,8 +131,9 @@ class Shrinker:
         return [(one.passed, one.seconds) for one in report.outcomes[1:]]
 
     def search(self) -> None:
-        """Tries shorter proofs in rounds, until none passes."""
-        for number in range(MOST_ROUNDS):
+        """Tries shorter proofs in rounds, until none passes or a round saves little."""
+        for number in itertools.count(1):
+            before = self.saved()
             batch: list[Trial] = []
             batches = [batch]
             for one in self.searches.values():
@@ -142,8 +146,8 @@ class Shrinker:
             for batch in filter(None, batches):
                 began = time.monotonic()
                 self.learn(batch, self.judge(batch))
-                print(f"{self.name}: round {number + 1}: {len(batch)} trials in {time.monotonic() - began:.0f} s, {self.saved()} characters fewer", file=sys.stderr)
-            if all(one.is_done for one in self.searches.values()):
+                print(f"{self.name}: round {number}: {len(batch)} trials in {time.monotonic() - began:.0f} s, {self.saved()} characters fewer", file=sys.stderr)
+            if all(one.is_done for one in self.searches.values()) or number > 1 and self.saved() < before + LEAST_ROUND:
                 break
 
     def learn(self, batch: list[Trial], verdicts: list[tuple[bool, float]]) -> None:
@@ -166,23 +170,22 @@ class Shrinker:
     def bodies(self) -> dict[str, str]:
         return {name: one.body for name, one in self.searches.items() if one.body != one.old}
 
-    def choose(self, budget: float) -> None:
-        """Takes short proofs that together add at most this many seconds. It begins with the shortest of each lemma, and goes
-        on to a longer one where a character saves most time. If it cannot save enough time, it takes the old proofs."""
+    def added(self) -> float:
+        """The seconds that the chosen proofs add."""
+        return sum(one.options[one.body] for one in self.searches.values())
+
+    def choose(self) -> None:
+        """Takes short proofs that together add at most MOST_ADDED seconds. It begins with the shortest of each lemma, and goes
+        on to a longer one where a character saves most time."""
         for one in self.searches.values():
             one.body = min(one.options, key=len)
-        while sum(one.options[one.body] for one in self.searches.values()) > budget:
-            steps = [
+        while self.added() > MOST_ADDED:
+            _, name, body = max(
                 ((one.options[one.body] - added) / (len(body) - len(one.body)), name, body)
                 for name, one in self.searches.items()
                 for body, added in one.options.items()
                 if added < one.options[one.body] and len(body) > len(one.body)
-            ]
-            if not steps:
-                for one in self.searches.values():
-                    one.body = one.old
-                return
-            _, name, body = max(steps)
+            )
             self.searches[name].body = body
 
     def measure(self) -> bool:
@@ -202,37 +205,23 @@ class Shrinker:
                     search.drop()
         return bool(names)
 
-    def seconds(self, text: str, checked: str) -> float:
-        """How much processor time a text takes as the whole file, while the file itself has a text that was just checked. Other
-        programs that run at the same time hardly change the result."""
-        report = self.scratch.check(checked, ["", *[text] * 3])
-        if not all(one.passed for one in report.outcomes):
-            raise Bad(f"{self.name}: a copy of the file is refused: {[one.errors for one in report.outcomes if not one.passed][0]}")
-        return (report.seconds - self.scratch.check(checked, [""]).seconds) / 3
-
-    def whole(self) -> tuple[str, float, float]:
-        """The text of the file with all changes that pass together in time, and the seconds before and after."""
-        before = self.seconds(self.text, self.text) if self.bodies() else 0.0
-        budget = MOST_ADDED
+    def whole(self) -> str:
+        """The text of the file with all changes that pass together in time."""
         while True:
-            self.choose(budget)
+            self.choose()
             while self.measure():
-                self.choose(budget)
+                self.choose()
             if not self.bodies():
-                return self.text, before, before
+                return self.text
             text = self.file.changed(self.bodies())
             report = self.scratch.check(text, [])
-            if not report.proved or report.errors:
-                wrong = self.wrong_lemmas(text, [line for _, line, _ in report.errors])
-                if not wrong:
-                    raise Bad(f"{self.name}: the file with all changes is refused:\n{report.output[-3000:]}")
-                for name in wrong:
-                    self.searches[name].drop()
-                continue
-            after = self.seconds(text, text)
-            if after <= before + MOST_ADDED:
-                return text, before, after
-            budget = min(budget, sum(one.options[one.body] for one in self.searches.values())) - max(after - before - MOST_ADDED, CLOCK)
+            if report.proved and not report.errors:
+                return text
+            wrong = self.wrong_lemmas(text, [line for _, line, _ in report.errors])
+            if not wrong:
+                raise Bad(f"{self.name}: the file with all changes is refused:\n{report.output[-3000:]}")
+            for name in wrong:
+                self.searches[name].drop()
 
     def wrong_lemmas(self, text: str, lines: list[int]) -> set[str]:
         """The changed lemmas at these lines."""
@@ -243,7 +232,7 @@ class Shrinker:
         began = time.monotonic()
         try:
             self.search()
-            text, before, after = self.whole()
+            text = self.whole()
         finally:
             self.scratch.close()
         if len(text) >= len(self.text):
@@ -264,7 +253,7 @@ class Shrinker:
             shown = difflib.unified_diff(self.text.splitlines(True), text.splitlines(True), f"a/{self.name}", f"b/{self.name}")
             sys.stdout.writelines(shown)
         print(
-            f"{self.name}: {len(self.text)} to {len(text)} characters, {before:.2f} to {after:.2f} s, {len(self.bodies())} of {len(self.searches)} lemmas "
+            f"{self.name}: {len(self.text)} to {len(text)} characters, {self.added():+.2f} s, {len(self.bodies())} of {len(self.searches)} lemmas "
             f"({self.number} trials in {time.monotonic() - began:.0f} s)"
         )
 
