@@ -188,6 +188,9 @@ def definitions(place: tuple) -> list:
     opened = None
     for number, line in enumerate([*lines, "use end"], 1):
         begins = line[:1] not in ("", " ", ")", "}") and (line.startswith("--") or NO_DECLARATION.match(line) or SIGNATURE.match(line))
+        if opened and line.startswith("--"):
+            equation = next((after for after in lines[number:] if not after.startswith("--")), "")
+            begins = not equation.startswith(DECLARATION.match(lines[opened[0] - 1])[2] + " ")  # a comment between equations
         if begins:
             if opened:
                 text = "\n".join(lines[opened[0] - 1 : number - 1])
