@@ -35,7 +35,7 @@ HEADINGS = {
     "The sections of a message": "frame: section1 Section1 Sections",
     "Tables B and D": "tables: fxy Fxy fault FaultNumber Records table_b TableB TableD",
     "Expanding a descriptor list": "tables: Tree Expansion",
-    "Fields and operators": "walk: spec Content Rules",
+    "Fields and operators": "walk: spec fault.DataFault Content Rules",
     "Reading the data of a message": "walk: fault walker Course Reading Pass",
     "The lines of a dump": "frame: Section1.greatest Section1.values_of Section1.greatest_values; fill: Draft.DraftValue; text: line Line",
     "Writing a listing and a dump": "fill: RoundTrip; text: Dump",
@@ -115,6 +115,7 @@ Names that are not defined below come from std (rattle/std and rattle/core in th
   `concat xs`, `flat_map f xs`                 the lists in xs joined; the lists that f gives for the elements of xs joined
   `pointwise p xs ys`                          whether the lists are equally long and p holds for each pair of elements
   `from_bool b`                                1 for true, 0 for false
+  `starts_with_minus xs`                       whether a text begins with `-`
 
 Names that are defined in later sections are listed after the first lines of a file. These lines cite the part of FM 94 BUFR
 (WMO-No. 306, Volume I.2) that the file defines. Other rules are marked as our choice, or as not part of FM 94 BUFR.

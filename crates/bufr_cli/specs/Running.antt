@@ -1,5 +1,6 @@
 -- Defines what a run reads and writes, when it flushes, and which input or writer causes a fault
--- (not part of FM 94 BUFR).
+-- (not part of FM 94 BUFR). Counts stop at 2^64 - 1 (see `counted`). What the comments say about
+-- numbers of calls applies while every count is below that.
 -- Cited by public contracts.
 use Rattle.std.specs.Prelude.{if◌then◌else◌, ◌+◌, ℕ, Bool, true, OnOk, IfErr, IfOk, ◌≢◌, List, Option, ◌≡◌, ◌⊎◌, Result, Ok, Err, ◌<◌, ◌≤◌, false, ◌++◌, None, flat_map, count_by, option_to_list, map, [], IfSome, Vec, length}
 use Rattle.bufr_frame.specs.declared.fault.RunFault.{RunFault}

@@ -6,7 +6,7 @@ use Rattle.bufr_fill.proofs.EntryLemmas.{length-cells}
 use Rattle.std.proofs.lemmas.Bool.{ltb-false}
 use Rattle.std.specs.List.{AllByRecursion}
 use Rattle.bufr_tables.specs.Prelude.{IsLegal, Row, Tree}
-use Rattle.bufr_walk.specs.Prelude.{FieldSpec, IsSpec, Content, bits_for, FieldFault, found, content_at, Course, Next, take_next, at_end, astray, refused, next_item, max_values, Item, DataCoding, plain, packed, ReadsItems, answers_in, apart, together, each_subset, items_of_subset, subsets_from, would_be_many}
+use Rattle.bufr_walk.specs.Prelude.{FieldSpec, IsSpec, Content, bits_for, found, content_at, Course, Next, take_next, at_end, astray, refused, next_item, max_values, Item, DataCoding, plain, packed, ReadsItems, answers_in, apart, together, each_subset, items_of_subset, subsets_from, would_be_many}
 use Rattle.bufr_fill.specs.Prelude.{packing_fault, Draft, Subset, ItemFault, DraftFault, at_line, too_many_values, content_of, plain_filler, RowCell, ItemRow, cells_at, rows, most_items, map_err, content_here, contents_here, pack_across, packed_filler, plain_data, packed_data, first_line, ◌>>=◌, WrittenItem, written_item, Filler, fill, with_bits_before, packing, Fits, AllFit, HasOctets, AllHaveOctets, IsSaid, IsReadBack, data_bits, AreDrafts, AreSaid}
 use Rattle.bufr_fill.proofs.FillSteps.{filled, bits_with, fill_at}
 use Rattle.bufr_walk.proofs.NextField.{AreRead, IsGoodCourse, next_field}
@@ -183,7 +183,7 @@ packed_one n some spec a w good row e = by_many (would_be_many (length a.cells) 
       read = λ more. fitting_again n spec good c cs bits more are.fits (are.count ∙ row.0) q;
     }
 
-    by_packing : (cs : List Content) → (a.index + 1) * n ≤ max_values → AreCellsSaid spec a.cells cs → (r : Result (List Bool) FieldFault) → packing spec cs ≡ r
+    by_packing : (cs : List Content) → (a.index + 1) * n ≤ max_values → AreCellsSaid spec a.cells cs → (r : Result (List Bool) ItemFault) → packing spec cs ≡ r
         → result_map_both (written_item cs) (packing_fault cs a.cells) r ≡ Ok w
         → IsOneBack (packed n) (IsSaidAcross n) spec a w
     by_packing cs few are (Ok bits) q r = subst (IsOneBack (packed n) (IsSaidAcross n) spec a) (same_ok (written_item cs bits) w r) (by_list cs bits few are q)

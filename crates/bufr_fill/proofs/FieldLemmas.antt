@@ -9,7 +9,7 @@ use Rattle.std.proofs.lemmas.Bool.Decides.{nat_tests}
 use Rattle.std.proofs.lemmas.Nat.{shr_high}
 use Rattle.bufr_bits.specs.Prelude.{bits_of, bits_of_octet, bits_in, number_after_bits, number_of, are_all_ones}
 use Rattle.bufr_bits.proofs.BitLemmas.{are_all_ones-bits_of, bit, number_after_bits-is, number_of-below, number-bits_of_octet, length-bits_of, bits_in-above, bits_in-octet, length-bits_in, number_of-bits_in, are_all_ones-number, and_false}
-use Rattle.bufr_walk.specs.Prelude.{HasWidth, FieldSpec, is_reference, Content, number, text, missing, octets_in, signed_by, content_by, Coding, coding_by, numbers, texts, sign_bit, bits_for, answer_of, answer_by_role, count_in, reference_in}
+use Rattle.bufr_walk.specs.Prelude.{reference, HasWidth, FieldSpec, is_reference, Content, number, text, missing, octets_in, signed_by, content_by, Coding, coding_by, numbers, texts, sign_bit, bits_for, answer_of, answer_by_role}
 use Rattle.bufr_fill.specs.Prelude.{Role, Kind, AreOctets, FitsKind, FitsNumber, FitsText, raw_limit, is_of, is_marked, wrong_for, content_by_form, Draft, draft, ValueKind, value_by, entry_with, entry_here, map_err, at_line}
 use Rattle.std.proofs.lemmas.Int.{ints}
 use Rattle.std.proofs.lemmas.Bool.{eq-eqb, eqb-true}
@@ -267,8 +267,30 @@ answer_element spec c e = rw e
 pub answer_inserted : (spec : FieldSpec) (c : Content) → spec.role ≡ role.Inserted → taken.Plain ≡ answer_of spec c
 answer_inserted spec c e = rw e
 
+-- the count in the content of a factor
+abbrev pub count_in : Content → ℕ
+count_in (number raw) = raw
+count_in _ = 0
+
+-- the value in the content of a redefined reference value
+abbrev pub reference_in : Content → ℤ
+reference_in (reference value) = value
+reference_in _ = pos 0
+
+counted_is : (c : Content) → taken.Count (count_in c) ≡ answer_by_role role.Factor c
+counted_is (number raw) = refl
+counted_is (text octets) = refl
+counted_is missing = refl
+counted_is (reference value) = refl
+
+referred_is : (c : Content) → taken.Reference (reference_in c) ≡ answer_by_role role.Reference c
+referred_is (number raw) = refl
+referred_is (text octets) = refl
+referred_is missing = refl
+referred_is (reference value) = refl
+
 pub answer_count : (spec : FieldSpec) (c : Content) (n : ℕ) → spec.role ≡ role.Factor → n ≡ count_in c → taken.Count n ≡ answer_of spec c
-answer_count spec c n e h = ap taken.Count h ∙ sym (ap (λ r. answer_by_role r c) e)
+answer_count spec c n e h = ap taken.Count h ∙ counted_is c ∙ sym (ap (λ r. answer_by_role r c) e)
 
 pub answer_reference : (spec : FieldSpec) (c : Content) (v : ℤ) → spec.role ≡ role.Reference → v ≡ reference_in c → taken.Reference v ≡ answer_of spec c
-answer_reference spec c v e h = ap taken.Reference h ∙ sym (ap (λ r. answer_by_role r c) e)
+answer_reference spec c v e h = ap taken.Reference h ∙ referred_is c ∙ sym (ap (λ r. answer_by_role r c) e)

@@ -4,7 +4,7 @@ use Rattle.std.proofs.lemmas.Slice.Zip.{AllZip-long}
 use Rattle.std.proofs.Common.{◌≡◌, ℕ, ◌+◌, ◌*◌, ◌≤◌, Bool, false, List, [], ◌∷◌, length, Ok, Err, refl, sym, ◌∙◌, ap, subst, arith, zero, suc, ◌<◌, true, ◌++◌, Result, append_assoc, ◌⊎◌, inl, inr, max, drop, if◌then◌else◌, slice_get, flat_map, rules}
 use Rattle.std.specs.List.{list_all, AllByRecursion, AllZip}
 use Rattle.std.proofs.lemmas.Bool.{le-ltb}
-use Rattle.bufr_walk.specs.Prelude.{FieldSpec, IsSpec, Content, found, bits_for, answer_by_role, answer_of, FieldFault, missing, unequal_factor, packed_field, answer_first, max_values, Item, packed, plain, after, apart, ReadsItems, answers_in, content_at, Course, take_next, at_end, subsets_from, items_of_subset, would_be_many}
+use Rattle.bufr_walk.specs.Prelude.{FieldSpec, IsSpec, Content, found, bits_for, answer_by_role, answer_of, missing, packed_field, answer_first, max_values, Item, packed, plain, after, apart, ReadsItems, answers_in, content_at, Course, take_next, at_end, subsets_from, items_of_subset, would_be_many}
 use Rattle.bufr_walk.proofs.CourseLemmas.{IsSane}
 use Rattle.bufr_fill.proofs.ReadsLemmas.{AreReadAs, subset_then, items_read, none_read, none_read_together}
 use Rattle.bufr_fill.specs.Prelude.{ItemFault, Taken, Role, packing, same, packed_bits, packed_unlike, written_item, fill, with_bits_before, plain_filler, RowCell, ItemRow, map_err, content_here, contents_here, pack_across, packed_filler, first_line, unlike_line, ◌>>=◌, plain_data, item_row, cells_at, rows, most_items, packing_fault, packed_data, Fits, AllFit, IsDumped, AreDrafts, AreDumped, IsSaid, AreSaid, IsUnlike, IsTogetherOrNot, Draft, Subset, at_line, content_of}
@@ -15,13 +15,14 @@ use Rattle.bufr_bits.proofs.DecimalLemmas.{and_first, and_second}
 use Rattle.bufr_fill.proofs.LeastLemmas.{content_same}
 use Rattle.std.specs.Result.{result_map_both}
 use Rattle.bufr_fill.specs.declared.fault.ItemFault.TheVariants as wrong
+use Rattle.bufr_walk.specs.declared.spec.Role.TheVariants as role
 
 -- Unless there are too many values, the contents of a row are packed.
 pub across : (spec : FieldSpec) (cs : List Content) (a : ItemRow) → contents_here spec a.cells ≡ Ok cs → (a.index + 1) * length a.cells ≤ max_values
     → pack_across spec a ≡ result_map_both (written_item cs) (packing_fault cs a.cells) (packing spec cs)
 across spec cs a contents few = rw (le-ltb, contents)
 
-abbrev pub bits_or_none : Result (List Bool) FieldFault → List Bool
+abbrev pub bits_or_none : Result (List Bool) ItemFault → List Bool
 bits_or_none (Ok bits) = bits
 bits_or_none (Err why) = []
 
@@ -133,7 +134,7 @@ same_at c [] j e h = absurd (omega arith)
 same_at c (d ∷ cs) zero e h = sym (content_same c d (and_first (same c d) (list_all (same c) cs) e))
 same_at c (d ∷ cs) (suc j) e h = same_at c cs j (and_second (same c d) (list_all (same c) cs) e) (omega arith)
 
-abbrev packed_or : Bool → Role → FieldSpec → Content → List Content → Result (List Bool) FieldFault
+abbrev packed_or : Bool → Role → FieldSpec → Content → List Content → Result (List Bool) ItemFault
 packed_or b r spec c cs = if b then Ok (packed_bits (bits_for spec.width c) 0 []) else packed_unlike r spec (c ∷ cs)
 
 alike : (b : Bool) (r : Role) (spec : FieldSpec) (c : Content) (cs : List Content) (out : List Bool) (j : ℕ) → list_all (same c) cs ≡ b → packed_or b r spec c cs ≡ Ok out → j < length cs
@@ -364,26 +365,42 @@ record IsNot (course : Course) (drafts : List ItemRow) (end_line : ℕ) (many : 
 abbrev Either : (n : ℕ) → Course → List (List (Item Content)) → List ItemRow → (end_line : ℕ) → (many : Bool) → Type 0
 Either n course rests drafts end_line many = IsTogether n course rests drafts end_line many ⊎ IsNot course drafts end_line many
 
+-- The fault of contents that cannot be packed is `UnequalFactor` or `Increment`.
+refused_unlike : (spec : FieldSpec) (cs : List Content) (why : ItemFault) → packing spec cs ≡ Err why → IsUnlike why
+refused_unlike spec [] why e = cc
+refused_unlike spec (c ∷ cs) why e = by (list_all (same c) cs) spec.role e
+  where
+    over : (b : Bool) (bits : List Bool) → (if b then Ok bits else Err wrong.Increment) ≡ Err why → IsUnlike why
+    over true bits e = cc
+    over false bits e = grind arith
+
+    by : (b : Bool) (r : Role) → packed_or b r spec c cs ≡ Err why → IsUnlike why
+    by true r e = cc
+    by false role.Factor e = grind arith
+    by false role.Reference e = grind arith
+    by false role.Element e = over _ _ e
+    by false role.Inserted e = over _ _ e
+
 module _ (end_line : ℕ) (many : Bool) where
-  fill_first : (course : Course) (spec : FieldSpec) (a : ItemRow) (more : List ItemRow) (r : Result (List Bool) FieldFault) (cs : List Content) → course [] ≡ take_next spec
+  fill_first : (course : Course) (spec : FieldSpec) (a : ItemRow) (more : List ItemRow) (r : Result (List Bool) ItemFault) (cs : List Content) → course [] ≡ take_next spec
       → pack_across spec a ≡ result_map_both (written_item cs) (packing_fault cs a.cells) r
       → fill (packed_filler end_line many) course (a ∷ more) ≡ filled (packed_filler end_line many) spec (result_map_both (written_item cs) (packing_fault cs a.cells) r)
       (λ t. fill (packed_filler end_line many) (λ answer_of. course (t ∷ answer_of)) more)
   fill_first course spec a more r cs next gives = search (rules, fill_more)
 
-  not_packed : (course : Course) (drafts : List ItemRow) (cs : List Content) (cells : List RowCell) (why : FieldFault)
+  not_packed : (course : Course) (drafts : List ItemRow) (cs : List Content) (cells : List RowCell) (why : ItemFault) → IsUnlike why
       → fill (packed_filler end_line many) course drafts ≡ Err (packing_fault cs cells why) → IsNot course drafts end_line many
-  not_packed course drafts cs cells unequal_factor e = record { line = unlike_line cs cells; why = wrong.UnequalFactor; is = e; unlike = tt }
-  not_packed course drafts cs cells w e = record { line = first_line cells; why = wrong.Increment; is = e; unlike = tt }
+  not_packed course drafts cs cells wrong.UnequalFactor unlike e = record { line = unlike_line cs cells; why = wrong.UnequalFactor; is = e; unlike = tt }
+  not_packed course drafts cs cells why unlike e = record { line = first_line cells; why = why; is = e; unlike = unlike }
 
   -- the first row, followed by the others
   onto : (n : ℕ) (course : Course) (spec : FieldSpec) (c : Content) (cs : List Content) (rs : List (List (Item Content))) (a : ItemRow) (more : List ItemRow) → IsSpec spec
       → course [] ≡ take_next spec → AreHeaded spec rs → firsts rs ≡ c ∷ cs → length rs ≡ n
-      → (r : Result (List Bool) FieldFault) → packing spec (c ∷ cs) ≡ r → pack_across spec a ≡ result_map_both (written_item (c ∷ cs)) (packing_fault (c ∷ cs) a.cells) r
+      → (r : Result (List Bool) ItemFault) → packing spec (c ∷ cs) ≡ r → pack_across spec a ≡ result_map_both (written_item (c ∷ cs)) (packing_fault (c ∷ cs) a.cells) r
       → ((out : List Bool) → packing spec (c ∷ cs) ≡ Ok out → Either n (λ answer_so. course (answer_of spec c ∷ answer_so)) (tails rs) more end_line many)
       → Either n course rs (a ∷ more) end_line many
   onto n course spec c cs rs a more good next h f count (Err why) p gives rest =
-      inr (not_packed course (a ∷ more) (c ∷ cs) a.cells why (fill_first course spec a more (Err why) (c ∷ cs) next gives))
+      inr (not_packed course (a ∷ more) (c ∷ cs) a.cells why (refused_unlike spec (c ∷ cs) why p) (fill_first course spec a more (Err why) (c ∷ cs) next gives))
   onto n course spec c cs rs a more good next h f count (Ok w) p gives rest = by (rest w p)
     where
       by : Either n (λ answer_so. course (answer_of spec c ∷ answer_so)) (tails rs) more end_line many → Either n course rs (a ∷ more) end_line many

@@ -29,6 +29,10 @@ answer_within role.Reference spec (reference v) good hr h =
     let p : 2 ^ (spec.width - 1) ≤ 2 ^ 63 = pow_mono n in
     omega (arith, p, h)
 answer_within role.Reference spec c good hr h = absurd h
+answer_within role.Factor spec (number raw) good hr h = tt
+answer_within role.Factor spec (text octets) good hr h = tt
+answer_within role.Factor spec missing good hr h = tt
+answer_within role.Factor spec (reference value) good hr h = tt
 answer_within r spec c good hr h = tt
 
 module _ {C : Type 0} (form : DataCoding C) (gives : (spec : FieldSpec) (c : C) (bits mid : List Bool) → IsSpec spec → form.field spec bits ≡ Ok (found c mid) → IsWithin (form.gives spec c)) where

@@ -3,19 +3,20 @@ use Rattle.std.proofs.lemmas.Grind.{common_steps}
 use Rattle.std.proofs.Common.{Result, ◌≡◌, ℕ, zero, suc, ◌+◌, ◌<◌, ◌≤◌, ◌≢◌, ◌&&◌, min, Bool, true, false, List, [], ◌∷◌, Option, Some, None, refl, sym, ◌∙◌, ap, arith, ◌-◌, ◌^◌, max, ◌++◌, length, Ok, pow_mono, append_assoc, ◌/◌, not, take, replicate, Err, ◌==◌, if◌then◌else◌, nat_lt, unwrap_or, nat_le, rules}
 use Rattle.std.proofs.lemmas.Bool.{false≢true, eqb-true, le-leb, leb-false, leb-true, lt-leb, lt-ltb, ltb-true, eq-eqb}
 use Rattle.bufr_bits.proofs.DecimalLemmas.{and_first, and_second}
-use Rattle.bufr_walk.specs.Prelude.{Coding, numbers, texts, coding_of, Content, number, text, missing, reference, FieldFault, increment, FieldSpec, is_reference}
+use Rattle.bufr_walk.specs.Prelude.{Coding, numbers, texts, coding_of, Content, number, text, missing, reference, FieldSpec, is_reference}
 use Rattle.bufr_walk.proofs.PlainLemmas.{number_coding, text_coding}
 use Rattle.bufr_bits.proofs.BitLemmas.{bits_in-zero}
 use Rattle.std.specs.Str.{bytes_eq}
 use Rattle.std.proofs.lemmas.Slice.Eq.{bytes_eq-Decides}
 use Rattle.std.proofs.lemmas.Bool.Decides.{Decides-int_eq}
-use Rattle.bufr_fill.specs.Prelude.{raw_limit, spaced, padded_content, same, lowest, first_from, has_increment, least_k, increment_for, packed_bits, packed_over, FitsNumber, FieldContent, AreContentsOf, padded_contents, spread, least_from, AreShort, trimmed, need, most_need, over_of, number_or, least_number}
+use Rattle.bufr_fill.specs.Prelude.{raw_limit, spaced, padded_content, same, lowest, first_from, has_increment, least_k, increment_for, packed_bits, packed_over, FitsNumber, FieldContent, AreContentsOf, padded_contents, spread, least_from, AreShort, trimmed, need, most_need, over_of, number_or, least_number, ItemFault}
 use Rattle.std.specs.List.{list_all, flat_map, AllByRecursion}
 use Rattle.std.proofs.lemmas.List.{length-append, take_all}
 use Rattle.bufr_bits.specs.Prelude.{bits_in}
 use Rattle.bufr_tables.specs.Prelude.{is_character}
 use Rattle.std.specs.Option.{option_map_or}
 use Rattle.bufr_fill.specs.declared.field_value.FieldContent.TheVariants as field_content
+use Rattle.bufr_fill.specs.declared.fault.ItemFault.TheVariants as wrong
 
 -- The first number that passes is not greater than any other that passes.
 first_step : (b : Bool) (from k x : ℕ) → from ≤ k → (b ≡ false → x ≤ k) → (if b then from else x) ≤ k
@@ -215,8 +216,8 @@ k_short spec numeric element base ds k some narrow all e =
     (least_fits spec.may_be_missing (spread base ds) spec.width some narrow (spread_under spec numeric element base ds some all)))
 
 -- contents that differ, packed with this base and this k
-abbrev pub over_at : FieldSpec → List Content → Coding → (base k : ℕ) → Result (List Bool) FieldFault
-over_at spec cs c base k = if nat_le k 63 then Ok (packed_bits (bits_in base spec.width) k (flat_map (increment_for c base k) cs)) else Err increment
+abbrev pub over_at : FieldSpec → List Content → Coding → (base k : ℕ) → Result (List Bool) ItemFault
+over_at spec cs c base k = if nat_le k 63 then Ok (packed_bits (bits_in base spec.width) k (flat_map (increment_for c base k) cs)) else Err wrong.Increment
 
 pub over_is : (spec : FieldSpec) (cs : List Content) (c : Coding) (base k : ℕ) → coding_of spec ≡ c → unwrap_or (lowest cs) 0 ≡ base → least_k (has_increment c base) cs ≡ k
     → packed_over spec cs ≡ over_at spec cs c base k
@@ -398,7 +399,7 @@ texts_packed spec ds k char element some all is few =
     )
 
 pub texts_apart : (spec : FieldSpec) (ds : List FieldContent) (k : ℕ) → is_character spec.kind ≡ true → is_reference spec.role ≡ false → 1 ≤ most_need ds → AreContentsOf spec ds → k ≡ most_need ds
-    → 63 < k → packed_over spec (padded_contents (spec.width / 8) ds) ≡ Err increment
+    → 63 < k → packed_over spec (padded_contents (spec.width / 8) ds) ≡ Err wrong.Increment
 texts_apart spec ds k char element some all is many =
     let greatest : min (most_need ds) 64 ≡ 64 = omega (arith, is, many) in
     over_is spec (padded_contents (spec.width / 8) ds) (texts (spec.width / 8)) 0 64 (text_coding spec char element) (ap (λ o. unwrap_or o 0) (texts_lowest spec (spec.width / 8) ds char all))

@@ -41,15 +41,11 @@ top_ones false k v h e = absurd cc
 there_more : (o : Option Content) (os : List (Option Content)) (c : Content) (cs : List Content) → o ≡ Some c → all_there os ≡ Some cs → all_there (o ∷ os) ≡ Some (c ∷ cs)
 there_more o os c cs e f = rw (e, f)
 
-any_not : (m full last : Bool) → (full && m) ≡ false → (m && last) ≡ false → (m && (full || last)) ≡ false
-any_not true true last h g = h
-any_not true false last h g = g
-any_not false full last h g = refl
+any_not : (m full last whole : Bool) → (full && m) ≡ false → (m && last) ≡ false → (m && whole) ≡ false → (m && (full || last || whole)) ≡ false
+any_not m full last whole h g i = grind arith
 
-any_last : (m full : Bool) → m ≡ true → (m && (full || true)) ≡ true
-any_last true true e = refl
-any_last true false e = refl
-any_last false full e = e
+any_last : (m full whole : Bool) → m ≡ true → (m && (full || true || whole)) ≡ true
+any_last m full whole e = grind arith
 
 module _ (m : Bool) (w base k : ℕ) (fits : base < raw_limit m w) where
   number_increased : (n : ℕ) → base ≤ n → n < raw_limit m w → n - base < raw_limit m k → increased (numbers w m) k (bits_in base w) (bits_in (n - base) k) ≡ Some (number n)
@@ -177,7 +173,7 @@ differ a b h = grind arith
 -- whether the base and the increment are all ones, whether their sum exceeds the width, and whether
 -- it is all ones.
 read_by_tests : (m full last past whole : Bool) (w base k i : ℕ) (c : Content) → i < 2 ^ k → (i == ones k) ≡ last → nat_lt (ones w) (base + i) ≡ past → (base + i == ones w) ≡ whole
-    → (if m && (full || last) then Some missing else if past then None else Some (if m && whole then missing else number (base + i))) ≡ Some c → IsIncreased m w base k c
+    → (if m && (full || last || whole) then Some missing else if past then None else Some (number (base + i))) ≡ Some c → IsIncreased m w base k c
 read_by_tests m full last past whole w base k i c small p q r e = search rules
 
 read_one : (m : Bool) (w k : ℕ) (base i : List Bool) (c : Content) → length i ≡ k → increased (numbers w m) k base i ≡ Some c → IsIncreased m w (number_of base) k c

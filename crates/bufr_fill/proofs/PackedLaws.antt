@@ -9,8 +9,8 @@ use Rattle.bufr_bits.proofs.BitLemmas.{number_of-below, length-bits_in}
 use Rattle.bufr_bits.proofs.DecimalLemmas.{and_first, and_second}
 use Rattle.bufr_tables.specs.declared.table_b.Kind.{Kind}
 use Rattle.bufr_walk.specs.declared.spec.Role.{Role}
-use Rattle.bufr_walk.specs.Prelude.{Coding, numbers, texts, references, coding_by, coding_of, step_of, increased, all_there, contents_across, if_equal, content_by, is_reference, FieldSpec, IsSpec, HasWidth, Content, number, text, missing, content_in, bits_for, FieldFault, increment, FieldRead, found, increments, packed_field}
-use Rattle.bufr_walk.proofs.PackedLemmas.{item_by, item_parts, neither, varied, copied, copies_equal, next_there, some_same, equal_or}
+use Rattle.bufr_walk.specs.Prelude.{Coding, numbers, texts, references, coding_by, coding_of, step_of, increased, all_there, contents_across, if_equal, content_by, is_reference, FieldSpec, IsSpec, HasWidth, Content, number, text, missing, content_in, bits_for, FieldRead, found, increments, packed_field}
+use Rattle.bufr_walk.proofs.PackedLemmas.{item_by, item_parts, neither, varied, copied, copies_equal, next_there, some_same}
 use Rattle.bufr_fill.specs.Prelude.{raw_limit, same, lowest, has_increment, increment_for, least_k, packed_bits, packed_over, packed_unlike, packing, k_of, HasLeastK, first_from, FitsNumber, FitsText, FitsKind, FitsRole, Fits, AllFit, Role, Kind}
 use Rattle.bufr_fill.proofs.FieldLemmas.{coded, coding_is, number_again, same_ok}
 use Rattle.bufr_fill.proofs.LeastLemmas.{first_least, first_passes, first_from_start, content_same, are_same_copies, AreNumbers, AreOver, none_over, lowest_over, lowest_fits, under_lowest, octets_self, top_some, over_at, over_is, over_written}
@@ -18,6 +18,9 @@ use Rattle.bufr_fill.proofs.PackedBack.{pieces_length, pieces_found, numbers_bac
 use Rattle.bufr_fill.proofs.PlainLaws.{content_back, content_length, content_fits}
 use Rattle.bufr_tables.specs.declared.table_b.Kind.TheVariants as kind
 use Rattle.bufr_walk.specs.declared.spec.Role.TheVariants as role
+use Rattle.bufr_fill.specs.declared.fault.ItemFault.TheVariants as wrong
+use Rattle.bufr_walk.specs.declared.fault.DataFault.{DataFault}
+use Rattle.bufr_tables.specs.Prelude.{only_if}
 
 -- ---- The parts of bits that were read.
 
@@ -26,7 +29,7 @@ pub record IsUnpacked (n : ℕ) (spec : FieldSpec) (bits : List Bool) (cs : List
   pub base : length (take spec.width bits) ≡ spec.width
   pub enough : n * step_of (coding_of spec) k ≤ length (drop (spec.width + 6) bits)
   pub across : contents_across (coding_of spec) k n (take spec.width bits) (drop (spec.width + 6) bits) ≡ Some cs
-  pub equal : if_equal spec.role cs ≡ Ok cs
+  pub equal : if_equal spec.role cs ≡ Some cs
   pub used : spec.width + 6 + n * step_of (coding_of spec) k + length mid ≡ length bits
 
 module _ (n : ℕ) (spec : FieldSpec) where
@@ -41,7 +44,7 @@ module _ (n : ℕ) (spec : FieldSpec) where
       let k = number_of (take 6 (drop spec.width bits)) in
       let suffix = drop (spec.width + 6) bits in
       let used = n * step_of (coding_of spec) k in
-      let t = item_parts spec.role (nat_lt (length bits) (spec.width + 6) || nat_lt (length suffix) used) (contents_across (coding_of spec) k n (take spec.width bits) suffix)
+      let t = item_parts spec.fxy spec.role (nat_lt (length bits) (spec.width + 6) || nat_lt (length suffix) used) (contents_across (coding_of spec) k n (take spec.width bits) suffix)
       (drop used suffix) cs mid e in
       let ends = neither (nat_lt (length bits) (spec.width + 6)) (nat_lt (length suffix) used) t.0 in
       let long : spec.width + 6 ≤ length bits = omega (arith, ltb-false) in
@@ -56,12 +59,12 @@ module _ (n : ℕ) (spec : FieldSpec) where
       }
 
   -- ---- How packed bits are read, part by part.
-  abbrev by_parts : (bits : List Bool) (k : ℕ) (base suffix : List Bool) → Result (FieldRead (List Content)) FieldFault
-  by_parts bits k base suffix = item_by spec.role (nat_lt (length bits) (spec.width + 6) || nat_lt (length suffix) (n * step_of (coding_of spec) k))
+  abbrev by_parts : (bits : List Bool) (k : ℕ) (base suffix : List Bool) → Result (FieldRead (List Content)) DataFault
+  by_parts bits k base suffix = item_by spec.fxy spec.role (nat_lt (length bits) (spec.width + 6) || nat_lt (length suffix) (n * step_of (coding_of spec) k))
       (contents_across (coding_of spec) k n base suffix) (drop (n * step_of (coding_of spec) k) suffix)
 
   pub packed_reads : (base : List Bool) (k : ℕ) (pieces more : List Bool) (cs : List Content) → length base ≡ spec.width → k ≤ 63 → length pieces ≡ n * step_of (coding_of spec) k
-      → contents_across (coding_of spec) k n base (pieces ++ more) ≡ Some cs → if_equal spec.role cs ≡ Ok cs
+      → contents_across (coding_of spec) k n base (pieces ++ more) ≡ Some cs → if_equal spec.role cs ≡ Some cs
       → packed_field n spec (packed_bits base k pieces ++ more) ≡ Ok (found cs more)
   packed_reads base k pieces more cs lb small lp across equal =
       let w = spec.width in
@@ -257,7 +260,7 @@ no_k k n base suffix cs some e = grind arith
 -- The field is an element or an inserted text.
 record IsOpen (spec : FieldSpec) : Type 0 where
   coding : coding_of spec ≡ coded spec.kind spec.width spec.may_be_missing
-  equal : (cs : List Content) → if_equal spec.role cs ≡ Ok cs
+  equal : (cs : List Content) → if_equal spec.role cs ≡ Some cs
   packings : (cs : List Content) → packed_unlike spec.role spec cs ≡ packed_over spec cs
   fit : (c : Content) → FitsKind spec.kind spec.may_be_missing spec.width c → Fits spec c
 
@@ -352,7 +355,7 @@ module _ (n : ℕ) (spec : FieldSpec) (good : IsSpec spec) where
     of_open o = of_element o c cs k (spec.width + 6 + n * step_of (coding_of spec) k) (list_all (same c) cs) refl some small (varies_so o.coding) count_is (omega arith)
 
     -- contents that were read with k above 0, by the role of the field
-    by_role : (r : Role) → spec.role ≡ r → if_equal spec.role (c ∷ cs) ≡ Ok (c ∷ cs) → PacksWithin n spec (c ∷ cs) (spec.width + 6 + n * step_of (coding_of spec) k)
+    by_role : (r : Role) → spec.role ≡ r → if_equal spec.role (c ∷ cs) ≡ Some (c ∷ cs) → PacksWithin n spec (c ∷ cs) (spec.width + 6 + n * step_of (coding_of spec) k)
     by_role role.Element er q = of_open (open_element spec er)
     by_role role.Inserted er q = of_open (open_inserted spec er)
     by_role role.Reference er q =
@@ -363,13 +366,13 @@ module _ (n : ℕ) (spec : FieldSpec) (good : IsSpec spec) where
         uniform c cs _ (subst (λ r. FitsRole r spec c) (sym er) (first_fits_kind spec.kind k c cs v))
         (same_of (list_all (same c) cs) (ap (λ r. if_equal r (c ∷ cs)) (sym er) ∙ q)) count_is (omega arith)
       where
-        same_of : (b : Bool) → equal_or b (c ∷ cs) ≡ Ok (c ∷ cs) → b ≡ true
+        same_of : (b : Bool) → only_if b (c ∷ cs) ≡ Some (c ∷ cs) → b ≡ true
         same_of true e = refl
         same_of false e = absurd cc
 
   -- contents that were read with any k
   by_k : (b : Bool) (k : ℕ) → (k == 0) ≡ b → (c : Content) (cs : List Content) (base suffix : List Bool) → length base ≡ spec.width → k ≤ 63
-      → n * step_of (coding_of spec) k ≤ length suffix → contents_across (coding_of spec) k n base suffix ≡ Some (c ∷ cs) → if_equal spec.role (c ∷ cs) ≡ Ok (c ∷ cs)
+      → n * step_of (coding_of spec) k ≤ length suffix → contents_across (coding_of spec) k n base suffix ≡ Some (c ∷ cs) → if_equal spec.role (c ∷ cs) ≡ Some (c ∷ cs)
       → PacksWithin n spec (c ∷ cs) (spec.width + 6 + n * step_of (coding_of spec) k)
   by_k true k p c cs base suffix lb small enough e q =
       let copies = some_same (replicate n (content_in spec base)) (c ∷ cs) (sym (copied (coding_of spec) k n base suffix (eqb-true k 0 p)) ∙ e) in
@@ -492,13 +495,13 @@ text_varies b spec cs out wide are q e =
     let passes = has_increment (texts count) 0 in
     let k = least_k passes cs in
     let few : k ≤ 63 = leb-true k 63 (q ∙ written b (packed_bits (bits_in 0 spec.width) k (flat_map (increment_for (texts count) 0 k) cs))
-    (sym (ap (λ t. if t then Ok (packed_bits (bits_in 0 spec.width) k (flat_map (increment_for (texts count) 0 k) cs)) else Err increment) q) ∙ e)) in
+    (sym (ap (λ t. if t then Ok (packed_bits (bits_in 0 spec.width) k (flat_map (increment_for (texts count) 0 k) cs)) else Err wrong.Increment) q) ∙ e)) in
     let some : 1 ≤ count = omega arith in
     let pass : list_all (passes k) cs ≡ true = found_from (λ k. list_all (passes k) cs) 63 1 (omega (arith, few)) in
     let least : k ≤ count = first_least (λ k. list_all (passes k) cs) 63 1 count some (texts_have count cs are) in
     (k, first_from_start (λ k. list_all (passes k) cs) 63 1, few, (are, pass, least))
   where
-    written : (b : Bool) (x : List Bool) → (if b then Ok x else Err increment) ≡ Ok out → b ≡ true
+    written : (b : Bool) (x : List Bool) → (if b then Ok x else Err wrong.Increment) ≡ Ok out → b ≡ true
     written true x e = refl
     written false x e = absurd cc
 

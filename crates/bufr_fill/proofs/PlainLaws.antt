@@ -1,7 +1,7 @@
 -- A plain field that was read is written from the item in its dump, and read back.
 use Rattle.std.proofs.lemmas.Grind.{common_steps}
 use Rattle.std.proofs.lemmas.Bool.{le-ltb, lt-ltb}
-use Rattle.bufr_walk.specs.Prelude.{FieldSpec, IsSpec, IsField, HasWidth, HasRole, HasMissing, is_reference, Content, found, number, text, missing, reference, content_by, coding_by, content_in, bits_for, data_end, plain_field, signed_by, sign_bit, max_values, Item, DataCoding, ReadsItems, answers_in, after, Course, take_next, at_end}
+use Rattle.bufr_walk.specs.Prelude.{FieldSpec, IsSpec, IsField, HasWidth, HasRole, HasMissing, is_reference, Content, found, number, text, missing, reference, content_by, coding_by, content_in, bits_for, plain_field, signed_by, sign_bit, max_values, Item, DataCoding, ReadsItems, answers_in, after, Course, take_next, at_end}
 use Rattle.bufr_fill.specs.Prelude.{Role, Kind, Draft, DraftValue, number_token, text_form, missing_form, reference_token, draft_value_of, content_of, content_by_form, raw_within, raw_of, reference_of, text_within, is_marked, wrong_for, IsMinusZero, is_of, decimal_again, normal_form, raw_limit, ItemRow, written_item, Filler, fill, with_bits_before, AreDrafts, contents_here, FitsText, FitsKind, FitsRole, Fits}
 use Rattle.bufr_fill.specs.declared.fault.ItemFault.TheVariants as wrong
 use Rattle.bufr_fill.proofs.FillSteps.{fill_more, fill_end}
@@ -18,6 +18,7 @@ use Rattle.bufr_fill.proofs.FieldLemmas.{coded, coding_is, kind_back, kind_lengt
 use Rattle.bufr_bits.specs.declared.decimal.NumberFault.{NumberFault}
 use Rattle.bufr_tables.specs.declared.table_b.Kind.TheVariants as kind
 use Rattle.bufr_walk.specs.declared.spec.Role.TheVariants as role
+use Rattle.bufr_walk.specs.declared.fault.DataFault.TheVariants as data_fault
 
 -- Properties of lists in the lemmas about round trips: the field of each item, the number of its
 -- contents, and its row.
@@ -182,7 +183,8 @@ module _ (spec : FieldSpec) (good : IsSpec spec) where
   plain_again c h more = grind (arith, common_steps, content_length, le-ltb, drop_at, content_back)
 
   by_end : (b : Bool) (bits mid : List Bool) (c : Content) → b ≡ nat_lt (length bits) spec.width
-      → (if b then Err data_end else Ok (found (content_in spec (take spec.width bits)) (drop spec.width bits))) ≡ Ok (found c mid) → Fits spec c × (spec.width + length mid ≤ length bits)
+      → (if b then Err (data_fault.DataEnd spec.fxy) else Ok (found (content_in spec (take spec.width bits)) (drop spec.width bits))) ≡ Ok (found c mid)
+      → Fits spec c × (spec.width + length mid ≤ length bits)
   by_end b bits mid c t e = search (rules, content_fits, length-drop)
 
   -- A content that was read fits, and all of its bits were present.

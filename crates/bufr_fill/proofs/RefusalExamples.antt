@@ -7,7 +7,7 @@ use Rattle.bufr_tables.specs.declared.table_b.Kind.TheVariants as kind
 use Rattle.bufr_tables.specs.Prelude.{Tree, bare, element, operator, delayed}
 use Rattle.bufr_walk.specs.declared.spec.TurnRefusal.TheVariants as refusal
 use Rattle.bufr_walk.specs.declared.spec.Role.TheVariants as role
-use Rattle.bufr_walk.specs.Prelude.{FieldSpec, FieldFault, Content, number, text, missing}
+use Rattle.bufr_walk.specs.Prelude.{FieldSpec, Content, number, text, missing}
 use Rattle.bufr_fill.specs.Prelude.{Kind, Role, DraftValue, DraftFault, ItemFault, Subset, draft, number_token, text_form, missing_form, reference_token, subset, at_line, too_many_values, walk_refused, pack_across, packing, k_of}
 use Rattle.bufr_fill.specs.declared.fault.ItemFault.TheVariants as wrong
 use Rattle.bufr_fill.specs.declared.fault.Expected.TheVariants as expected
@@ -290,7 +290,7 @@ too_many_values_first = (refl, refl, refl, refl, refl, refl)
 -- ---- The least k.
 
 -- the k of packed contents, or 64 if they cannot be packed
-k_in : FieldSpec → Result (List Bool) FieldFault → ℕ
+k_in : FieldSpec → Result (List Bool) ItemFault → ℕ
 k_in spec (Ok bits) = k_of spec bits
 k_in spec (Err why) = 64
 

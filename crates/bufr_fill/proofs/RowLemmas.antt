@@ -12,7 +12,7 @@ use Rattle.std.specs.Str.{bytes_eq}
 use Rattle.bufr_fill.specs.Prelude.{packing_fault, spaced, Taken, Role, FieldContent, padded_content, IsContentOf, raw_limit, AreContentsOf, padded_contents, need_of, most_need, FitsIncrement, AreShort, least_from, entry_or_end, entry_here, and_end, all_at_end, IsPutWithin, trimmed, same, first_from, packing, packed_bits, packed_over, packed_unlike, RowCell, content_here, contents_here, first_unlike, unlike_line, cell_line, first_line, ◌>>=◌, item_row, cells_at, pack_across, written_item, Draft, DraftEntry, Holds, Ends, Subset, DraftFault, at_line, item_too_many, too_many_values, IfDraftFault, is_end}
 use Rattle.bufr_fill.specs.declared.fault.ItemFault.TheVariants as wrong
 use Rattle.bufr_walk.specs.Prelude.{is_reference}
-use Rattle.bufr_walk.specs.Prelude.{FieldSpec, Content, reference, answer_of, bits_for, increment, unequal_factor, answer_first, max_values}
+use Rattle.bufr_walk.specs.Prelude.{FieldSpec, Content, reference, answer_of, bits_for, answer_first, max_values}
 use Rattle.bufr_fill.proofs.EntryLemmas.{entry_line}
 use Rattle.bufr_fill.proofs.LeastLemmas.{octets_self, content_self}
 use Rattle.std.specs.Option.{option_map_or}
@@ -293,11 +293,11 @@ module _ (spec : FieldSpec) (index : ℕ) (subsets : List Subset) where
         → pack_across spec (item_row index subsets) ≡ Ok (written_item cs bits)
     put_ok cs bits h e = given cs h ∙ ap (result_map_both (written_item cs) (packing_fault cs (cells_at index subsets))) e
 
-    pub put_unequal : (cs : List Content) → contents_here spec (cells_at index subsets) ≡ Ok cs → packing spec cs ≡ Err unequal_factor
+    pub put_unequal : (cs : List Content) → contents_here spec (cells_at index subsets) ≡ Ok cs → packing spec cs ≡ Err wrong.UnequalFactor
         → pack_across spec (item_row index subsets) ≡ Err (at_line (unlike_line cs (cells_at index subsets)) wrong.UnequalFactor)
     put_unequal cs h e = given cs h ∙ ap (result_map_both (written_item cs) (packing_fault cs (cells_at index subsets))) e
 
-    pub put_uneven : (cs : List Content) → contents_here spec (cells_at index subsets) ≡ Ok cs → packing spec cs ≡ Err increment
+    pub put_uneven : (cs : List Content) → contents_here spec (cells_at index subsets) ≡ Ok cs → packing spec cs ≡ Err wrong.Increment
         → pack_across spec (item_row index subsets) ≡ Err (at_line (first_line (cells_at index subsets)) wrong.Increment)
     put_uneven cs h e = given cs h ∙ ap (result_map_both (written_item cs) (packing_fault cs (cells_at index subsets))) e
 

@@ -204,8 +204,8 @@ abbrev pub wrong_for : FieldSpec → ItemFault
 wrong_for spec = item_fault.WrongDescriptor
     (if is_reference spec.role then expected.Reference spec.fxy else expected.Item spec.fxy)
 
--- The content of a field, given its item. The item's descriptor is checked first, then the kind of
--- its value, and finally whether the value fits.
+-- The content of a field, given its item. The item's descriptor and mark are checked first, then
+-- the kind of its value, and finally whether the value fits.
 -- rule: fault-order-of-an-item
 abbrev pub content_of : FieldSpec → Draft → Result Content ItemFault
 content_of spec d = if is_of spec d then content_by_form d.form spec else Err (wrong_for spec)

@@ -4,7 +4,7 @@
 -- Cited by public contracts.
 use Rattle.std.specs.Prelude.{Bool, List, [], ◌∷◌, ◌++◌, Result, Ok, Err, ℕ, zero, suc, ◌+◌, ◌-◌, ◌==◌, ◌&&◌, nat_lt, nat_le, min, not, true, false, if◌then◌else◌, take, replicate, length, Option, Some, None, unwrap_or, ◌≡◌, ◌≤◌, drop, max, map, slice_get}
 pub use Rattle.bufr_walk.specs.declared.spec.Taken.{Taken}
-use Rattle.bufr_walk.specs.Prelude.{Coding, numbers, texts, coding_of, step_of, same, FieldSpec, Content, number, text, bits_for, FieldFault, increment, unequal_factor, found, answer_of, packed_field, answer_first, Course, Item, Step, Passing, Pass, pass, would_be_many}
+use Rattle.bufr_walk.specs.Prelude.{Coding, numbers, texts, coding_of, step_of, same, FieldSpec, Content, number, text, bits_for, found, answer_of, packed_field, answer_first, Course, Item, Step, Passing, Pass, pass, would_be_many}
 use Rattle.std.specs.List.{list_all, flat_map}
 use Rattle.std.specs.Option.{option_map_or}
 use Rattle.std.specs.Result.{result_map_both}
@@ -12,7 +12,7 @@ use Rattle.std.specs.Str.{bytes_eq}
 use Rattle.bufr_bits.specs.Prelude.{◌>>=◌, bits_of, bits_in, number_of, map_err}
 pub use Rattle.bufr_tables.specs.declared.table_b.Kind.{Kind}
 use Rattle.bufr_walk.specs.declared.spec.Role.TheVariants as role
-use Rattle.bufr_fill.specs.Draft.{TurnRefusal, Draft, Subset, DraftFault, at_line, item_too_many, walk_refused, too_many_values, Role, content_of, wrong_for, raw_limit}
+use Rattle.bufr_fill.specs.Draft.{TurnRefusal, Draft, Subset, DraftFault, at_line, item_too_many, walk_refused, too_many_values, Role, content_of, wrong_for, raw_limit, ItemFault}
 use Rattle.bufr_fill.specs.declared.fault.ItemFault.TheVariants as item_fault
 
 -- an item that was written, with its content and its bits
@@ -102,11 +102,11 @@ lowest [] = None
 lowest (number n ∷ cs) = Some (option_map_or (min n) (lowest cs) n)
 lowest (_ ∷ cs) = lowest cs
 
--- Whether the content of a field can be read back from an increment with the given k. The increment
--- of a number must fit in k bits and, if the field may be missing, must not have all bits set. The
--- first k octets of a string must not all be 255, and all later octets must be spaces. A missing
--- value can always be represented by an increment with all bits set. The definition assumes that no
--- number is less than `base` and that no string is shorter than k octets.
+-- Whether the content of a field can be read back from an increment with the given k, provided that
+-- no number is less than `base` and no string is shorter than k octets. The increment of a number
+-- must fit in k bits and, if the field may be missing, must not have all bits set. The first k
+-- octets of a string must not all be 255, and all later octets must be spaces. A missing value can
+-- always be represented by an increment with all bits set.
 -- rule: packs-numbers, packs-texts-not-missing
 abbrev pub has_increment : Coding → (base k : ℕ) → Content → Bool
 has_increment (numbers width m) base k (number n) = nat_lt (n - base) (raw_limit m k)
@@ -140,26 +140,27 @@ packed_bits base k more = base ++ (bits_in k 6 ++ more)
 -- The bits of an item whose content differs between subsets. The base is the least number, or 0 for
 -- strings. If a string would need a k greater than 63, the result is fault 59.
 -- rule: packs-numbers, packs-texts, fault-59
-abbrev pub packed_over : FieldSpec → List Content → Result (List Bool) FieldFault
+abbrev pub packed_over : FieldSpec → List Content → Result (List Bool) ItemFault
 packed_over spec cs =
     let c = coding_of spec in
     let base = unwrap_or (lowest cs) 0 in
     let k = least_k (has_increment c base) cs in
     let increments = flat_map (increment_for c base k) cs in
-    if nat_le k 63 then Ok (packed_bits (bits_in base spec.width) k increments) else Err increment
+    if nat_le k 63 then Ok (packed_bits (bits_in base spec.width) k increments)
+    else Err item_fault.Increment
 
 -- the bits of an item that differs between subsets, or a fault; replication factors and redefined
 -- reference values must not differ
 -- rule: packs-factors-and-references, fault-59
-abbrev pub packed_unlike : Role → FieldSpec → List Content → Result (List Bool) FieldFault
-packed_unlike role.Factor spec cs = Err unequal_factor
-packed_unlike role.Reference spec cs = Err increment
+abbrev pub packed_unlike : Role → FieldSpec → List Content → Result (List Bool) ItemFault
+packed_unlike role.Factor spec cs = Err item_fault.UnequalFactor
+packed_unlike role.Reference spec cs = Err item_fault.Increment
 packed_unlike _ spec cs = packed_over spec cs
 
 -- the bits of one item, given its content in each subset; if the content is the same in every
 -- subset, it is written as the base, and k is 0
 -- rule: packs-equal, packs-all-missing
-abbrev pub packing : FieldSpec → List Content → Result (List Bool) FieldFault
+abbrev pub packing : FieldSpec → List Content → Result (List Bool) ItemFault
 packing spec [] = Ok []
 packing spec (c ∷ cs) =
     if list_all (same c) cs then Ok (packed_bits (bits_for spec.width c) 0 [])
@@ -277,11 +278,13 @@ abbrev pub unlike_line : List Content → List RowCell → ℕ
 unlike_line [] cells = 0
 unlike_line (c ∷ cs) cells = first_unlike c (c ∷ cs) cells
 
--- the fault in a row that cannot be packed
+-- the fault in a row that cannot be packed; `UnequalFactor` is reported for the first item that
+-- differs from that of subset 1, and any other fault for the item of subset 1
 -- rule: fault-58
-abbrev pub packing_fault : List Content → List RowCell → FieldFault → DraftFault
-packing_fault cs cells unequal_factor = at_line (unlike_line cs cells) item_fault.UnequalFactor
-packing_fault cs cells _ = at_line (first_line cells) item_fault.Increment
+abbrev pub packing_fault : List Content → List RowCell → ItemFault → DraftFault
+packing_fault cs cells item_fault.UnequalFactor =
+    at_line (unlike_line cs cells) item_fault.UnequalFactor
+packing_fault cs cells why = at_line (first_line cells) why
 
 -- The item that is written for a row, or the first fault. The number of values is checked first,
 -- and then the item of each subset; finally, the contents are packed. `result_map_both` applies its

@@ -2,7 +2,7 @@
 -- the least increment size k (our choice).
 use Rattle.std.specs.Prelude.{ℕ, ◌≡◌, ◌≤◌, ◌<◌, ◌*◌, ◌^◌, Bool, List, [], ◌∷◌, ◌++◌, length, Option, Some, None, Result, Ok, Err, ◌+◌, ◌-◌, suc, ◌==◌, ◌&&◌, nat_lt, max, min, if◌then◌else◌, take, slice_get, ◌%◌, false}
 use Rattle.bufr_walk.specs.declared.spec.Taken.{Taken}
-use Rattle.bufr_walk.specs.Prelude.{FieldSpec, Content, answer_of, bits_for, Next, take_next, at_end, astray, refused, FieldFault, answer_first, max_values}
+use Rattle.bufr_walk.specs.Prelude.{FieldSpec, Content, answer_of, bits_for, Next, take_next, at_end, astray, refused, answer_first, max_values}
 use Rattle.bufr_fill.specs.Draft.{DraftFault, Draft, DraftEntry, Holds, Ends, ItemFault, at_line, item_too_many, walk_refused, Subset, content_of, wrong_for, FieldContent, raw_limit, padded_content, IsContentOf, subsets_of, has_octets, entry_with, ends_of}
 use Rattle.bufr_fill.specs.declared.fault.DraftFault.{DraftFault}
 use Rattle.bufr_fill.specs.Encoding.{written_item, RowCell, ItemRow, rows, most_items, item_row, cells_at, first_line, pack_across, content_here, contents_here, first_from, Taken}
@@ -78,7 +78,7 @@ EndsSubset s (Err e) s' =
     (after_end s.left ≡ Err e) × (s' ≡ s)
 
 -- The next item is invalid or missing, the walk rejects a descriptor, or an item follows the end of
--- the template. A rejected descriptor is reported for the line of the next entry.
+-- the template. If the walk rejects a descriptor, the fault has the line number of the next entry.
 abbrev pub IsFaultNext : Next → List DraftEntry → DraftFault → Type 0
 IsFaultNext (take_next spec) left f = IsFaultOf spec left f
 IsFaultNext (refused why) left f = f ≡ at_line (line_at left) (walk_refused why)
@@ -173,8 +173,8 @@ abbrev pub all_at_end : List RowCell → Result (Unit {0}) DraftFault
 all_at_end [] = Ok tt
 all_at_end (c ∷ cells) = and_end c.draft (all_at_end cells)
 
--- A call succeeded if no subset has an item at the given index; otherwise, it returned the fault in
--- the first such item.
+-- A call succeeded if no subset has an item at the given index; otherwise, it returned the fault
+-- for that item in the first subset that has one.
 abbrev pub EndsAllSubsets : (index : ℕ) → List Subset → Result (Unit {0}) DraftFault → Type 0
 EndsAllSubsets index subsets (Ok _) = all_at_end (cells_at index subsets) ≡ Ok tt
 EndsAllSubsets index subsets (Err e) = all_at_end (cells_at index subsets) ≡ Err e
@@ -246,7 +246,7 @@ most_need (d ∷ ds) = max (need_of d) (most_need ds)
 
 -- The expected bits of an item (at most `most` bits) were appended, or a fault occurred and nothing
 -- was appended.
-abbrev pub PacksItem : (old new : List Bool) → (expected : Result (List Bool) FieldFault)
+abbrev pub PacksItem : (old new : List Bool) → (expected : Result (List Bool) ItemFault)
     → (most : ℕ) → {E : Type 0} → Result (Unit {0}) E → Type 0
 PacksItem old new expected most (Ok _) =
     (bits : List Bool) × (expected ≡ Ok bits) × (new ≡ old ++ bits) × (length bits ≤ most)
@@ -298,8 +298,8 @@ pub record IsRangeOf (range : NumberRange) (contents : List FieldContent) : Type
   pub least : range.least ≡ least_number contents
   pub greatest : range.greatest ≡ spread 0 contents
 
--- A call converted all cells and returned the range of their numbers, or it failed because a cell
--- is invalid or memory ran out.
+-- A call converted all cells and returned the least and the greatest of their numbers, or it failed
+-- because a cell was invalid or memory ran out.
 abbrev pub ReturnsRow : (count : ℕ) → FieldSpec → List RowCell → List FieldContent
     → Result NumberRange DraftFault → Type 0
 ReturnsRow count spec cells contents (Ok range) =

@@ -33,10 +33,10 @@ pub data HeadOctets : Type 0 where
   TwoOctets : (n : ℕ) → HeadOctets
   NoOctets : HeadOctets
 
--- The head of a message in the given edition; `value key in_4 in_3` computes every other value. The
--- number `key` is the index of the value's line in the header of a dump (the edition has index 0).
--- The value is stored in the octets `in_4` in edition 4 and in the octets `in_3` in edition 3. This
--- definition is used for the values in a message (`head_of`), for the values in a dump
+-- The head of a message in the given edition; `value key in_4 in_3` gives each of the other values.
+-- The number `key` is the index of the value's line in the header of a dump (the edition has index
+-- 0). The value is stored in the octets `in_4` in edition 4 and in the octets `in_3` in edition 3.
+-- This definition is used for the values in a message (`head_of`), for the values in a dump
 -- (`header_in`), and for the maximum values (`greatest_values`). In edition 3, the year is the year
 -- of the century, as in the message (our choice).
 -- rule: section-1-of-edition-3, section-1-of-edition-4, year-of-the-century, edition-3-lacks

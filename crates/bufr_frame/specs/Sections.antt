@@ -43,7 +43,8 @@ section_end m k least p =
 -- Whether section 3 or 4 is padded with a zero octet when it is written, given its unpadded length.
 -- FM 94 requires even section lengths in edition 3. Sections 1 and 2 are not padded (our choice),
 -- because a padding octet would be read back as an octet for local use. Therefore, an edition 3
--- message does not conform to FM 94 if section 1 or 2 has an odd length.
+-- message does not conform to FM 94 if section 1 or 2 has an odd length. Without octets for local
+-- use, section 1 has 17 octets in edition 3, so a message without these octets does not conform.
 abbrev pub is_padded : (edition size : ℕ) → Bool
 is_padded edition size = (edition == 3) && (size % 2 == 1)
 

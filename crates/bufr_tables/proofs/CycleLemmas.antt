@@ -1,10 +1,12 @@
 -- Chains of members, and what the search for a cycle has established.
 use Rattle.std.proofs.lemmas.Grind.{common_steps}
-use Rattle.std.proofs.Common.{◌≡◌, ℕ, ◌+◌, ◌<◌, ◌≤◌, ◌⊎◌, inl, inr, Bool, true, false, List, [], ◌∷◌, ◌++◌, length, set, take, drop, Option, Some, None, refl, sym, ap, ◌∙◌, arith, suc, zero, get_or, length-append, replicate, ◌==◌, cond, option_map, slice_index, IsSome, Contains}
+use Rattle.std.proofs.Common.{◌≡◌, ℕ, ◌+◌, ◌<◌, ◌≤◌, ◌⊎◌, inl, inr, Bool, true, false, List, [], ◌∷◌, ◌++◌, length, set, take, Option, Some, None, refl, ◌∙◌, arith, suc, zero, get_or, length-append, replicate, ◌==◌, cond, option_map, slice_index, IsSome, Contains}
 use Rattle.std.proofs.lemmas.Bool.{eqb-true}
-use Rattle.std.proofs.lemmas.List.{append_assoc, get_or_append_left, get_or-set_same, get_or_default, length-set, drop_more, take-append-drop, get_or-map, get_or-take, length-take-le}
+use Rattle.std.proofs.lemmas.List.{append_assoc, get_or_append_left, get_or-set_same, get_or_default, length-set, get_or-map, get_or-take, length-take}
 use Rattle.std.proofs.lemmas.List.Elements.{Contains-append_cases, Contains-append_left, Contains-append_right, Contains-push, Contains-push_cases, Contains-get_or}
-use Rattle.std.specs.List.{find}
+use Rattle.std.specs.List.{find, prefix_len}
+use Rattle.std.specs.Prelude.{not, unwrap_or}
+use Rattle.std.proofs.lemmas.List.Sums.{prefix_len_passes}
 use borrow.Author.Count.{below_more}
 use Rattle.bufr_tables.specs.Prelude.{Chain, IsFirstCycle, Leads, ReachesItself, one, more, Sequence, fxys_of, members_or_none, members_of, IsAbove, IsSet, IsVisited, Falls, rank_of, unset}
 
@@ -61,16 +63,7 @@ listed-leads table from to l = grind (arith, common_steps, get_or_default)
 
 pub leads-listed : (table : List Sequence) (from k : ℕ) → k < length (members_or_none table from) → IsSome (members_of table (slice_index (members_or_none table from) k))
     → Leads table from (slice_index (members_or_none table from) k)
-leads-listed table from k inside sequence = by (members_of table from) refl
-  where
-    by : (o : Option (List ℕ)) → members_of table from ≡ o → Leads table from (slice_index (members_or_none table from) k)
-    by None e = absurd (empty (rw e at inside))
-      where
-        empty : k < length {A = ℕ} [] → ⊥
-        empty h = omega arith
-    by (Some members) e =
-        let same : members_or_none table from ≡ members = rw e refl in
-        record { members = members; has = e; member = rw same (Contains-get_or members k 0 (rw same at inside)); sequence = sequence }
+leads-listed table from k inside sequence = (Contains-get_or (members_or_none table from) k 0 inside, sequence)
 
 -- Ranks do not rise along a chain.
 pub chain-falls : (table : List Sequence) (ranks : List ℕ) → Falls table ranks → {a b : ℕ} → Chain table a b → rank_of ranks b ≤ rank_of ranks a
@@ -217,10 +210,15 @@ none-set zero fxy is = cc is
 none-set (suc n) zero is = cc is
 none-set (suc n) (suc fxy) is = none-set n fxy is
 
+-- A sequence that has a member is in the table.
+has-members : (o : Option (List ℕ)) (to : ℕ) → Contains (unwrap_or o []) to → IsSome o
+has-members None to (k, inside, at) = absurd (omega (arith, inside))
+has-members (Some members) to has = refl
+
 -- A chain begins with a sequence of the table.
 chain-sequence : (table : List Sequence) → {a b : ℕ} → Chain table a b → IsSome (members_of table a)
-chain-sequence table (one l) = rw l.has refl
-chain-sequence table (more l rest) = rw l.has refl
+chain-sequence table {a} (one {to = to} l) = has-members (members_of table a) to l.0
+chain-sequence table {a} (more {by = by} l rest) = has-members (members_of table a) by l.0
 
 -- A sequence of the table has an index in the file.
 place-in : (table : List Sequence) (fxy : ℕ) → IsSome (members_of table fxy) → (k : ℕ) × (k < length table) × (slice_index (fxys_of table) k ≡ fxy)
@@ -242,6 +240,10 @@ falls-all table ranks count falls all fxy to l =
     let (k, inside, at) = place-in table fxy (chain-sequence table (one l)) in
     (rw at at (falls k (omega arith) inside)) to l
 
+-- whether a sequence has another descriptor
+abbrev differs : (fxy : ℕ) → Sequence → Bool
+differs fxy s = not (s.fxy == fxy)
+
 -- the sequences before index `place`, none of which reaches itself
 module _ (table : List Sequence) (place : ℕ) (was : IsPassed table place) where
   -- The next sequence does not reach itself either.
@@ -252,19 +254,15 @@ module _ (table : List Sequence) (place : ℕ) (was : IsPassed table place) wher
   pub passed-first : (fxy : ℕ) → fxy ≡ slice_index (fxys_of table) place → place < length table → ReachesItself table fxy → IsFirstCycle table fxy
   passed-first fxy at inside chain =
       let d : Sequence = record { fxy = fxy; members = [] } in
-      record {
-        before = take place table;
-        sequence = get_or table place d;
-        after = drop (place + 1) table;
-        split = sym (take-append-drop place table) ∙ ap (λ (rest : List Sequence). take place table ++ rest) (drop_more table place d inside);
-        named = sym (get_or-map (λ (s : Sequence). s.fxy) table place d 0 inside) ∙ sym at;
-        reaches = chain;
-        first = λ k e below. earlier k e (omega (arith, length-take-le place table (omega arith)));
-      }
+      let here : differs fxy (get_or table place d) ≡ false = grind (arith, get_or-map (λ (s : Sequence). s.fxy) table place d 0 inside) in
+      let most : prefix_len (differs fxy) table ≤ place = grind (arith, prefix_len_passes (differs fxy) table place d) in
+      (chain, λ k e under. earlier k e (omega (arith, length-take (prefix_len (differs fxy) table) table, under)) most)
     where
-      earlier : (k : ℕ) (e : Sequence) → k < place → ReachesItself table (get_or (take place table) k e).fxy → ⊥
-      earlier k e under again =
-          was k under (omega arith) (rw (get_or-map (λ (s : Sequence). s.fxy) table k e 0 (omega arith), ← get_or-take place table k e under) again)
+      earlier : (k : ℕ) (e : Sequence) → k < prefix_len (differs fxy) table → prefix_len (differs fxy) table ≤ place
+          → ReachesItself table (get_or (take (prefix_len (differs fxy) table) table) k e).fxy → ⊥
+      earlier k e under most again =
+          was k (omega (arith, under, most)) (omega (arith, under, most, inside))
+          (rw (get_or-map (λ (s : Sequence). s.fxy) table k e 0 (omega (arith, under, most, inside)), ← get_or-take (prefix_len (differs fxy) table) table k e under) again)
 
   -- No sequence reaches itself.
   pub passed-all : length table ≤ place → (fxy : ℕ) → ¬ ReachesItself table fxy

@@ -4,7 +4,7 @@ use Rattle.std.specs.Prelude.{⊤}
 use Rattle.csv.specs.Machine.{next_record}
 use Rattle.csv.specs.Reading.{records_from, strip_bom}
 use Rattle.csv.specs.Records.{field_at}
-use Rattle.bufr_tables.specs.Prelude.{IsFirstCycle, Leads, one, more, fxy_of, fxy_text, begins_with, kind_of, i64_of, integer_of, natural_of, records_of, table_from, table_of}
+use Rattle.bufr_tables.specs.Prelude.{IsFirstCycle, Leads, one, more, fxy_of, fxy_text, begins_with, kind_of, i64_of, natural_of, records_of, table_from, table_of}
 use Rattle.bufr_tables.specs.TableB as b
 use Rattle.bufr_tables.specs.TableD as d
 use Rattle.bufr_tables.specs.declared.fault.TableFault.TheVariants.{Header, Row, Duplicate, TableSize, Csv}
@@ -12,7 +12,7 @@ use Rattle.bufr_tables.specs.declared.table_b.Kind.TheVariants.{Character, Coded
 
 -- the definitions that the examples unfold
 unfoldable on_literals : ⊤
-unfolding next_record records_from strip_bom field_at begins_with kind_of i64_of integer_of natural_of table_from table_of b.element_of b.plain_of b.scale_of b.width_of b.row_of
+unfolding next_record records_from strip_bom field_at begins_with kind_of i64_of natural_of table_from table_of b.element_of b.plain_of b.scale_of b.width_of b.is_valid_factor b.row_of
     b.with_record_b d.sequence_of d.member_of d.added d.with_record_d
 on_literals = tt
 
@@ -91,19 +91,11 @@ unfolding on_literals
 circle-read = refl
 
 there : Leads circle 0xC001 0xC002
-there = record { members = 0xC002 ∷ []; has = refl; member = (0, lit< tt, refl); sequence = refl }
+there = ((0, lit< tt, refl), refl)
 
 back : Leads circle 0xC002 0xC001
-back = record { members = 0xC001 ∷ []; has = refl; member = (0, lit< tt, refl); sequence = refl }
+back = ((0, lit< tt, refl), refl)
 
 -- rule: fault-43
 circle-named : IsFirstCycle circle 0xC001
-circle-named = record {
-  before = [];
-  sequence = record { fxy = 0xC001; members = 0xC002 ∷ [] };
-  after = record { fxy = 0xC002; members = 0xC001 ∷ [] } ∷ [];
-  split = refl;
-  named = refl;
-  reaches = more there (one back);
-  first = λ k e below. absurd (omega arith);
-}
+circle-named = (more there (one back), λ k e below. absurd (omega arith))

@@ -5,7 +5,7 @@ use Rattle.std.specs.Prelude.{⊤}
 use Rattle.csv.specs.Machine.{next_record}
 use Rattle.csv.specs.Reading.{records_from, strip_bom}
 use Rattle.csv.specs.Records.{field_at}
-use Rattle.bufr_tables.specs.Prelude.{fxy_of, begins_with, kind_of, i64_of, integer_of, natural_of, records_of, table_from, table_of, ◌>>=◌}
+use Rattle.bufr_tables.specs.Prelude.{fxy_of, begins_with, kind_of, i64_of, natural_of, records_of, table_from, table_of, ◌>>=◌}
 use Rattle.bufr_tables.specs.TableB as b
 use Rattle.bufr_tables.specs.TableD as d
 use Rattle.bufr_tables.specs.declared.fault.TableFault.{TableFault}
@@ -14,7 +14,7 @@ use Rattle.bufr_tables.specs.declared.table_b.Kind.TheVariants.{Character, Coded
 
 -- the definitions that the examples unfold
 unfoldable on_literals : ⊤
-unfolding next_record records_from strip_bom field_at begins_with kind_of i64_of integer_of natural_of table_from table_of b.element_of b.plain_of b.scale_of b.width_of b.row_of
+unfolding next_record records_from strip_bom field_at begins_with kind_of i64_of natural_of table_from table_of b.element_of b.plain_of b.scale_of b.width_of b.is_valid_factor b.row_of
     b.with_record_b d.sequence_of d.member_of d.added d.with_record_d
 on_literals = tt
 

@@ -1,6 +1,6 @@
 -- Steps of a record reader, its rows and its numbers.
 use Rattle.std.proofs.lemmas.Grind.{common_steps}
-use Rattle.std.proofs.Common.{◌≡◌, ℕ, neg_ℤ, ◌+◌, ◌^◌, ◌<◌, ◌≤◌, Bool, true, false, List, [], ◌∷◌, length, Option, Some, None, refl, ap, ◌∙◌, add-one, arith, suc, zero, Bor, sym, drop, get_or, Result, Ok, Err, ◌≢◌, ◌-◌, ◌*◌, min, take, ℤ, pos, option_map, IsSome, if◌then◌else◌, ◌==◌, ◌&&◌, not, option_and_then, rules}
+use Rattle.std.proofs.Common.{negsuc, ◌≡◌, ℕ, neg_ℤ, ◌+◌, ◌^◌, ◌<◌, ◌≤◌, Bool, true, false, List, [], ◌∷◌, length, Option, Some, None, refl, ap, ◌∙◌, add-one, arith, suc, zero, Bor, sym, drop, get_or, Result, Ok, Err, ◌≢◌, ◌-◌, ◌*◌, min, take, ℤ, pos, option_map, IsSome, if◌then◌else◌, ◌==◌, ◌&&◌, not, option_and_then, rules, nat_lt, nat_le}
 use Rattle.std.proofs.lemmas.Bool.{cases_Bool}
 use Rattle.std.proofs.lemmas.Option.{same_Some}
 use Rattle.std.proofs.lemmas.Bool.Decides.{nat_tests}
@@ -17,7 +17,7 @@ use Rattle.csv.specs.declared.parser.State.{State}
 use Rattle.csv.specs.declared.parser.Terminator.{Terminator}
 use Rattle.csv.specs.declared.parser.Action.{Action}
 use Rattle.csv.specs.declared.reader.Reader.{Reader}
-use Rattle.bufr_tables.specs.Prelude.{◌>>=◌, Record, GivesNext, IsBetween, count_of, record_given, records_after, text_left, field_of, IsOpened, records_left, field_texts, has_header, table_from, table_of, ReturnsUnlessMemory, only_if, fits_i64, i64_of, integer_of, natural_of, TableFault, ReadsTableD, Sequence, table_d_of, with_record_d}
+use Rattle.bufr_tables.specs.Prelude.{◌>>=◌, Record, GivesNext, IsBetween, count_of, record_given, records_after, text_left, field_of, IsOpened, records_left, field_texts, has_header, table_from, table_of, ReturnsUnlessMemory, only_if, i64_of, natural_of, TableFault, ReadsTableD, Sequence, table_d_of, with_record_d}
 use Rattle.bufr_tables.specs.declared.rows.RecordReader.{RecordReader}
 use Rattle.std.specs.Str.{bytes_eq}
 use Rattle.std.specs.Cmp.Lexicographic.{pointwise}
@@ -276,34 +276,39 @@ number_more digits i number m tens digit more inside all is by_ten last sum =
 abbrev pub negated : ℕ → ℤ
 negated n = neg_ℤ (pos n)
 
+abbrev fits_i64 : ℤ → Bool
+fits_i64 (pos n) = nat_lt n (2 ^ 63)
+fits_i64 (negsuc n) = nat_lt n (2 ^ 63)
+
 abbrev pub if_i64 : ℤ → Option ℤ
 if_i64 z = only_if (fits_i64 z) z
 
--- A magnitude that does not fit in 64 bits does not fit an `i64`, even if it is capped.
-pub fitting-capped : (n : ℕ) → if_i64 (pos (min n (2 ^ 64 - 1))) ≡ if_i64 (pos n)
-fitting-capped n = grind arith
+-- A magnitude that does not fit in 64 bits does not fit in an `i64`, even if it is capped.
+capped-positive : (n : ℕ) → if_i64 (pos (min n (2 ^ 64 - 1))) ≡ only_if (nat_lt n (2 ^ 63)) (pos n)
+capped-positive n = grind arith
 
-past : (k : ℕ) → 2 ^ 63 < k → if_i64 (negated k) ≡ None
-past zero h = absurd (omega arith)
-past (suc k) h = grind arith
+negated-fits : (n : ℕ) → if_i64 (negated n) ≡ only_if (nat_le n (2 ^ 63)) (negated n)
+negated-fits zero = grind arith
+negated-fits (suc n) = grind arith
 
-pub fitting-negated_capped : (n : ℕ) → if_i64 (negated (min n (2 ^ 64 - 1))) ≡ if_i64 (negated n)
-fitting-negated_capped zero = refl
-fitting-negated_capped (suc n) = grind arith
+capped-negative : (n : ℕ) → if_i64 (negated (min n (2 ^ 64 - 1))) ≡ only_if (nat_le n (2 ^ 63)) (negated n)
+capped-negative n = grind (arith, negated-fits (min n (2 ^ 64 - 1)))
 
--- the `i64` of a capped number, if there is a number
-capped_then : (o : Option ℕ) (f : ℕ → ℤ) (m : ℕ) → ((n : ℕ) → if_i64 (f (min n (2 ^ 64 - 1))) ≡ if_i64 (f n))
-    → Some m ≡ option_map (λ n. min n (2 ^ 64 - 1)) o → if_i64 (f m) ≡ option_and_then if_i64 (option_map f o)
-capped_then None f m same is = cc is
-capped_then (Some n) f m same is = grind arith
+-- the value of a function of a number, if there is a number, from the capped number
+capped_then : (o : Option ℕ) (f g : ℕ → Option ℤ) (m : ℕ) → ((n : ℕ) → f (min n (2 ^ 64 - 1)) ≡ g n)
+    → Some m ≡ option_map (λ n. min n (2 ^ 64 - 1)) o → f m ≡ option_and_then g o
+capped_then None f g m same is = cc is
+capped_then (Some n) f g m same is = grind arith
 
 -- the `i64` of a text, from a magnitude that is capped at the greatest `u64`
 pub i64_of-negative : (text digits : List ℕ) (m : ℕ) (result : Option ℤ) → (get_or text 0 0 == 45) ≡ true → digits ≡ drop 1 text
     → Some m ≡ option_map (λ n. min n (2 ^ 64 - 1)) (natural_of digits) → result ≡ if_i64 (negated m) → result ≡ i64_of text
-unfolding i64_of integer_of
-i64_of-negative text digits m result minus rest is so = grind arith
+unfolding i64_of
+i64_of-negative text digits m result minus rest is so =
+    rw minus (so ∙ capped_then (natural_of (drop 1 text)) (λ n. if_i64 (negated n)) (λ n. only_if (nat_le n (2 ^ 63)) (negated n)) m capped-negative (rw (← rest) is))
 
 pub i64_of-positive : (text : List ℕ) (m : ℕ) (result : Option ℤ) → (get_or text 0 0 == 45) ≡ false
     → Some m ≡ option_map (λ n. min n (2 ^ 64 - 1)) (natural_of text) → result ≡ if_i64 (pos m) → result ≡ i64_of text
-unfolding i64_of integer_of
-i64_of-positive text m result plus is so = grind arith
+unfolding i64_of
+i64_of-positive text m result plus is so =
+    rw plus (so ∙ capped_then (natural_of text) (λ n. if_i64 (pos n)) (λ n. only_if (nat_lt n (2 ^ 63)) (pos n)) m capped-positive is)

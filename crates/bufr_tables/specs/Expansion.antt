@@ -6,11 +6,10 @@ use Rattle.bufr_tables.specs.Records.{◌>>=◌}
 use Rattle.bufr_tables.specs.declared.fault.TemplateFault.{TemplateFault}
 use Rattle.bufr_tables.specs.Fxy.{f_of, x_of, y_of}
 pub use Rattle.bufr_tables.specs.Fxy.{is_factor}
-use Rattle.bufr_tables.specs.Tree.{is_legal_operator, gives_width, Tree, bare, element, operator, fixed, delayed, join, size, consumes, places}
+use Rattle.bufr_tables.specs.Tree.{is_legal_operator, gives_width, Tree, bare, element, operator, fixed, delayed, join, size, consumes}
 use Rattle.bufr_tables.specs.TableB.{Row, entry_of}
 use Rattle.bufr_tables.specs.TableD.{Sequence, members_of}
 use Rattle.bufr_tables.specs.declared.fault.TemplateFault.TheVariants as template
-use Rattle.bufr_tables.specs.declared.fault.TemplateFault.TheVariants.{Memory}
 
 -- the table lookups needed for expansion (whether an element is in Table B, and the members of a
 -- sequence in Table D)

@@ -36,13 +36,13 @@ template_report (template.UnknownSequence fxy) = (21, codes "unknown sequence " 
 template_report (template.Operator fxy) = (22, codes "operator " ∷ fxy_text fxy ∷ [])
 -- A replication has an X of 0, or there are fewer than X descriptors for it to repeat.
 template_report (template.GroupShape fxy) = (23, codes "group shape " ∷ fxy_text fxy ∷ [])
--- A delayed replication has no factor.
+-- A delayed replication is not followed by a supported factor (see `is_factor`).
 template_report (template.NoFactor fxy) = (24, codes "no factor " ∷ fxy_text fxy ∷ [])
 -- The body of a group, or the whole template, consumes no data bits.
 template_report (template.EmptyGroup fxy) = (25, codes "empty group " ∷ fxy_text fxy ∷ [])
 -- Groups and sequences are nested more than 32 levels deep.
 template_report (template.Depth fxy) = (26, codes "depth " ∷ fxy_text fxy ∷ [])
--- The template has more than 65,535 cells (see `places`).
+-- The template has more than 65,535 cells (see `size`), including one for its end.
 template_report (template.TemplateSize fxy) = (27, codes "template size " ∷ fxy_text fxy ∷ [])
 -- 2 06 Y is not directly followed by an element.
 template_report (template.LocalShape fxy) = (28, codes "local shape " ∷ fxy_text fxy ∷ [])

@@ -1,12 +1,7 @@
--- The records of a table file, and the numbers in their fields (our choice). `records`, which is
--- defined in the crate `csv`, allows any number of fields in a record and does not trim spaces. The
--- header is record 1.
+-- How a table file is divided into records (our choice). `records`, which is defined in the crate
+-- `csv`, allows any number of fields in a record and does not trim spaces. The header is record 1.
 -- Cited by public contracts.
-use Rattle.std.specs.Prelude.{ℕ, ◌+◌, ◌^◌, ◌==◌, ◌&&◌, Bool, nat_lt, if◌then◌else◌, ℤ, pos, negsuc, neg_ℤ, List, [], ◌∷◌, length, drop, slice_index, Option, Some, None, option_and_then, option_map, unwrap_or, ◌≡◌, ◌≢◌, Result, Ok, Err, true, false, ◌<◌, map, IsSome}
-use Rattle.std.specs.Char.{is_ascii_digit}
-use Rattle.std.specs.List.{list_all}
-use Rattle.std.specs.Str.Parse.{digits_value}
-use Rattle.bufr_tables.specs.Fxy.{only_if}
+use Rattle.std.specs.Prelude.{ℕ, ◌+◌, ◌^◌, Bool, if◌then◌else◌, List, [], ◌∷◌, length, drop, Option, Some, None, unwrap_or, ◌≡◌, ◌≢◌, Result, Ok, Err, true, false, ◌<◌, map, IsSome}
 use Rattle.csv.specs.Reading.{default_config, records, strip_bom, Ready, is_flexible, reader_config, reader_state, reader_trim, records_from, source_of}
 use Rattle.csv.specs.Records.{field_at, fields_of}
 use Rattle.bufr_tables.specs.declared.fault.TableFault.{TableFault}
@@ -19,29 +14,6 @@ use Rattle.csv.specs.declared.parser.State.{State}
 use Rattle.csv.specs.declared.reader.Reader.{Reader}
 use Rattle.bufr_tables.specs.declared.rows.RecordReader.{RecordReader}
 use Rattle.csv.specs.declared.reader.Trim.TheVariants as trim
-
--- ---- Integers, written as an optional `-` followed by one or more digits (not part of FM 94
--- BUFR).
-
--- the number represented by a string of one or more digits, or `None` for any other string
-unfoldable pub natural_of : List ℕ → Option ℕ
-natural_of text =
-    only_if (nat_lt 0 (length text) && list_all is_ascii_digit text) (digits_value 10 text)
-
--- the integer represented by one or more digits after an optional `-`, or `None` for other strings
-unfoldable pub integer_of : List ℕ → Option ℤ
-integer_of text =
-    if slice_index text 0 == 45 then option_map (λ n. neg_ℤ (pos n)) (natural_of (drop 1 text))
-    else option_map pos (natural_of text)
-
--- whether a number fits in an `i64`
-abbrev pub fits_i64 : ℤ → Bool
-fits_i64 (pos n) = nat_lt n (2 ^ 63)
-fits_i64 (negsuc n) = nat_lt n (2 ^ 63)
-
--- the integer that a string represents, or `None` if the string does not represent an `i64`
-unfoldable pub i64_of : List ℕ → Option ℤ
-i64_of text = option_and_then (λ z. only_if (fits_i64 z) z) (integer_of text)
 
 -- a record, represented as the list of its fields
 abbrev pub Record : Type 0

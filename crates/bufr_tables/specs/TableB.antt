@@ -1,7 +1,7 @@
 -- The rows of Table B, the limits on their fields, and the kinds of elements (FM 94 BUFR, Table B;
 -- the format of the file, the limits, the faults and the kinds are our choice).
 -- Cited by public contracts.
-use Rattle.std.specs.Prelude.{ℕ, Bool, if◌then◌else◌, ◌||◌, List, length, take, codes, ◌≡◌, ◌%◌, ◌==◌, ◌&&◌, true, false, not, nat_le, ℤ, [], ◌∷◌, ◌++◌, map, nat_eq, Option, Some, None, is_some, Result, Ok, Err, ◌+◌, ◌-◌, ◌≤◌, slice_range, ◌<◌}
+use Rattle.std.specs.Prelude.{ℕ, Bool, if◌then◌else◌, ◌||◌, List, length, take, codes, ◌≡◌, ◌%◌, ◌==◌, ◌&&◌, true, false, not, nat_le, ℤ, [], ◌∷◌, ◌++◌, map, nat_eq, Option, Some, None, is_some, Result, Ok, Err, ◌+◌, ◌-◌, ◌≤◌, slice_range, ◌<◌, slice_index, drop, pos, neg_ℤ, nat_lt, ◌^◌}
 use Rattle.std.specs.Str.{str_eq_ignore_ascii_case}
 use Rattle.bufr_tables.specs.declared.table_b.Kind.{Kind}
 use Rattle.bufr_tables.specs.declared.table_b.Kind.TheVariants.{Character, Coded, Numeric}
@@ -10,10 +10,27 @@ use Rattle.std.specs.Int.RustNames.{unsigned_abs}
 use Rattle.bufr_tables.specs.declared.fault.TableFault.{TableFault}
 use Rattle.bufr_tables.specs.declared.fault.TableFault.TheVariants as table
 use Rattle.bufr_tables.specs.Fxy.{◌>>=◌, only_if, f_of, fxy_of, fxy_text, is_factor, y_of}
-use Rattle.bufr_tables.specs.Records.{i64_of, natural_of, Record, field_of, table_of}
+use Rattle.bufr_tables.specs.Records.{Record, field_of, table_of}
 use Rattle.bufr_tables.specs.declared.table_b.Stored.{Stored}
 use Rattle.bufr_tables.specs.declared.table_b.ParsedRow.{ParsedRow}
 use Rattle.bufr_tables.specs.declared.table_b.TableB.TheInside.{Inside}
+use Rattle.std.specs.Char.{is_ascii_digit}
+use Rattle.std.specs.Str.Parse.{digits_value}
+
+-- ---- The numbers in the fields of a row (not part of FM 94 BUFR).
+
+-- the number represented by a string of one or more digits, or `None` for any other string
+unfoldable pub natural_of : List ℕ → Option ℕ
+natural_of text =
+    only_if (nat_lt 0 (length text) && list_all is_ascii_digit text) (digits_value 10 text)
+
+-- the integer that a string represents (one or more digits after an optional `-`), or `None` if the
+-- string does not represent an integer from -2^63 to 2^63 - 1
+unfoldable pub i64_of : List ℕ → Option ℤ
+i64_of text =
+    if slice_index text 0 == 45
+    then (natural_of (drop 1 text) >>= λ n. only_if (nat_le n (2 ^ 63)) (neg_ℤ (pos n)))
+    else natural_of text >>= λ n. only_if (nat_lt n (2 ^ 63)) (pos n)
 
 -- ---- The kind of an element, which depends on its unit. Letter case is ignored (not part of FM 94
 -- BUFR).
@@ -86,24 +103,18 @@ allows_width _ width = nat_le 1 width && nat_le width 63
 unfoldable pub width_of : Kind → List ℕ → Option ℕ
 width_of kind text = natural_of text >>= λ width. only_if (allows_width kind width) width
 
--- the data width that a replication factor must have, or `None` for other elements
-abbrev pub factor_width : ℕ → Option ℕ
-factor_width fxy =
-    if is_factor fxy then Some (if y_of fxy == 0 then 1 else if y_of fxy == 1 then 8 else 16)
-    else None
-
 abbrev pub is_character : Kind → Bool
 is_character Character = true
 is_character _ = false
 
--- Whether a row passes the checks for replication factors; rows of other elements always pass. The
--- first argument is the `factor_width` of the element. A factor must have that data width, scale 0
--- and reference value 0, and must not be text.
-abbrev pub is_valid_factor : Option ℕ → Row → Bool
-is_valid_factor None row = true
-is_valid_factor (Some width) row =
-    (row.width == width) && (unsigned_abs row.scale == 0) && (unsigned_abs row.reference == 0)
-    && not (is_character row.kind)
+-- Whether a row passes the checks for replication factors; rows of other elements always pass. A
+-- factor must be 1, 8 or 16 bits wide, depending on its Y, must have scale 0 and reference value 0,
+-- and must not be text.
+unfoldable pub is_valid_factor : Row → Bool
+is_valid_factor row =
+    let width = if y_of row.fxy == 0 then 1 else if y_of row.fxy == 1 then 8 else 16 in
+    not (is_factor row.fxy) || ((row.width == width) && (unsigned_abs row.scale == 0)
+    && (unsigned_abs row.reference == 0) && not (is_character row.kind))
 
 -- the row that a record contains, or `None` if any field is invalid
 -- rule: fault-41-of-table-b
@@ -125,7 +136,7 @@ row_of r = do
         reference = reference;
         width = width;
       }
-  only_if (is_valid_factor (factor_width fxy) row) row
+  only_if (is_valid_factor row) row
 
 -- The row is valid. The row's unit determines its kind, and its data width is valid for that kind.
 -- If the element is a replication factor, the row also satisfies `is_valid_factor`.
@@ -135,7 +146,7 @@ pub record IsRow (row : Row) : Type 0 where
   pub kind : row.kind ≡ kind_of row.unit
   pub scale : nat_le (unsigned_abs row.scale) 127 ≡ true
   pub width : allows_width row.kind row.width ≡ true
-  pub factor : is_valid_factor (factor_width row.fxy) row ≡ true
+  pub factor : is_valid_factor row ≡ true
 
 -- the row for an element, or `None` if the table has no such row
 abbrev pub entry_of : List Row → ℕ → Option Row

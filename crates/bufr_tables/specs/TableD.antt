@@ -1,7 +1,7 @@
 -- The sequences of Table D, and chains in which each sequence contains the next (FM 94 BUFR, Table
 -- D; the format of the file, the limits and the faults are our choice).
 -- Cited by public contracts.
-use Rattle.std.specs.Prelude.{◌≡◌, ◌≢◌, ℕ, ◌-◌, ◌==◌, ◌&&◌, Bool, true, false, not, nat_le, if◌then◌else◌, List, [], ◌∷◌, ◌++◌, length, map, codes, Option, Some, None, is_some, option_map, unwrap_or, Result, Ok, Err, IsSome, Contains, All, ⊤, ◌≤◌, ◌<◌, slice_range, ◌+◌, ◌⊎◌, slice_index, slice_index_or}
+use Rattle.std.specs.Prelude.{◌≡◌, ◌≢◌, ℕ, ◌-◌, ◌==◌, ◌&&◌, Bool, true, false, not, nat_le, if◌then◌else◌, List, [], ◌∷◌, ◌++◌, length, map, codes, Option, Some, None, is_some, option_map, unwrap_or, Result, Ok, Err, IsSome, Contains, All, take_while, ⊤, ◌≤◌, ◌<◌, slice_range, ◌+◌, ◌⊎◌, slice_index, slice_index_or}
 use Rattle.std.specs.List.{find, AllByRecursion}
 use Rattle.bufr_tables.specs.declared.fault.TableFault.{TableFault}
 use Rattle.bufr_tables.specs.declared.fault.TableFault.TheVariants as table
@@ -110,11 +110,8 @@ pub record AreSequences (records : List Record) (table : List Sequence) : Type 0
 -- the fault is our choice).
 
 -- Sequence `from` has the member `to`, which is also a sequence in the table.
-pub record Leads (table : List Sequence) (from to : ℕ) : Type 0 where
-  pub members : List ℕ
-  pub has : members_of table from ≡ Some members
-  pub member : Contains members to
-  pub sequence : IsSome (members_of table to)
+abbrev pub Leads : List Sequence → (from to : ℕ) → Type 0
+Leads table from to = Contains (members_or_none table from) to × IsSome (members_of table to)
 
 -- One sequence contains another, directly or through other sequences.
 pub data Chain (table : List Sequence) : ℕ → ℕ → Type 0 where
@@ -127,14 +124,10 @@ ReachesItself table fxy = Chain table fxy fxy
 
 -- The given sequence is the first one in the file that contains itself.
 -- rule: fault-43
-pub record IsFirstCycle (table : List Sequence) (fxy : ℕ) : Type 0 where
-  pub before : List Sequence
-  pub sequence : Sequence
-  pub after : List Sequence
-  pub split : table ≡ before ++ sequence ∷ after
-  pub named : sequence.fxy ≡ fxy
-  pub reaches : ReachesItself table fxy
-  pub first : All (λ s. ¬ ReachesItself table s.fxy) before
+abbrev pub IsFirstCycle : List Sequence → (fxy : ℕ) → Type 0
+IsFirstCycle table fxy =
+    ReachesItself table fxy
+    × All (λ s. ¬ ReachesItself table s.fxy) (take_while (λ s. not (s.fxy == fxy)) table)
 
 -- Reading Table D returns the table or the first fault. A sequence that contains itself is reported
 -- only if the records contain no other fault.

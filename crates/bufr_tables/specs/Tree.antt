@@ -62,8 +62,8 @@ consumes (delayed factor body rest) = true
 
 -- Whether the operator 2 X Y is supported. If X is 1, 2 or 8, Y can have any value. If X is 3, Y is
 -- 1 to 63 (the width of redefined reference values), 255 (end) or 0 (cancel). If X is 5 or 6, Y is
--- at least 1. If X is 7, Y is at most 18 (our choice), because 2 07 019 would add 64 bits, and no
--- quantity can be wider than 63 bits. Other operators of Table C, such as 2 04, are rejected (our
+-- at least 1. If X is 7, Y is at most 18 (our choice), because 2 07 019 alone would add 64 bits,
+-- and a quantity can have at most 63. Other operators of Table C, such as 2 04, are rejected (our
 -- choice).
 -- rule: operators-known
 abbrev pub has_legal_operand : ℕ → ℕ → Bool

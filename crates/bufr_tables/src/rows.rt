@@ -1,6 +1,7 @@
 //! Reads the CSV records of a table and parses the integers in their fields.
 ghost use Rattle.std.specs.Prelude.{◌≡◌, ◌≢◌, ◌-◌, ◌^◌, ◌<◌, ◌==◌, IfOk, IfErr, false, min, option_map, slice_index};
-ghost use Rattle.bufr_tables.specs.Records.{i64_of, natural_of, GivesNext, IsBetween, IsOpened, field_texts, field_of, records_of, has_header};
+ghost use Rattle.bufr_tables.specs.TableB.{i64_of, natural_of};
+ghost use Rattle.bufr_tables.specs.Records.{GivesNext, IsBetween, IsOpened, field_texts, field_of, records_of, has_header};
 ghost use Rattle.std.specs.Str.{bytes_eq};
 ghost use Rattle.std.specs.Cmp.Lexicographic.{pointwise};
 ghost use Rattle.bufr_tables.specs.declared.fault.TableFault.TheVariants.{Header, Memory};
@@ -93,7 +94,7 @@ fn has_fields(fields: &ByteRecord, names: &[&[u8]]) -> bool
 
 /// Parses an integer, which consists of an optional `-` followed by one or more digits. Returns
 /// `None` if `text` is not an integer or if the integer does not fit in an `i64`.
-#[tactic(auto, unfolding(crate::specs::Records::i64_of, crate::specs::Records::integer_of))]
+#[tactic(auto, unfolding(crate::specs::TableB::i64_of))]
 pub(crate) fn integer(text: &[u8]) -> Option<i64>
     ensures { result ≡ i64_of text.now }
 {
@@ -115,7 +116,7 @@ fn is_negative(text: &[u8]) -> bool
 
 /// Parses an unsigned integer, which consists of one or more digits. The result is capped at
 /// `u64::MAX`. Returns `None` if `digits` is not an unsigned integer.
-#[tactic(auto, unfolding(crate::specs::Records::natural_of))]
+#[tactic(auto, unfolding(crate::specs::TableB::natural_of))]
 pub(crate) fn magnitude(digits: &[u8]) -> Option<u64>
     ensures { result ≡ option_map (λ n. min n (2 ^ 64 - 1)) (natural_of digits.now) }
 {

@@ -4,7 +4,7 @@ ghost use Rattle.std.specs.Prelude.{◌≡◌, ◌≢◌, ◌<◌, [], ◌∷◌
 ghost use Rattle.std.specs.List.{list_all};
 ghost use Rattle.csv.specs.Records.{fields_of};
 ghost use Rattle.bufr_tables.specs.declared.fault.TableFault.TheVariants.{Memory};
-ghost use Rattle.bufr_tables.specs.TableB.{ExtendsBlock, IsStored, row_parsed, IsRowKept, AreRows, IsRow, Row, element_of, entry_of, is_valid_factor, factor_width, is_printed, plain_of, row_of, scale_of, table_b_of, width_of, with_record_b, begins_with, kind_of};
+ghost use Rattle.bufr_tables.specs.TableB.{ExtendsBlock, IsStored, row_parsed, IsRowKept, AreRows, IsRow, Row, element_of, entry_of, is_valid_factor, is_printed, plain_of, row_of, scale_of, table_b_of, width_of, with_record_b, begins_with, kind_of};
 ghost use Rattle.bufr_tables.specs.Records.{records_of, ReturnsUnlessMemory};
 
 use crate::fault::TableFault;
@@ -245,8 +245,9 @@ struct ParsedRow<'a> {
 
 /// Returns whether a row meets the additional conditions for replication factors. Returns `true` if
 /// the element is not a replication factor.
+#[tactic(auto, unfolding(crate::specs::TableB::is_valid_factor))]
 fn is_valid_factor(row: &ParsedRow) -> bool
-    ensures { result ≡ is_valid_factor (factor_width row.now.fxy) (row_parsed row.now) }
+    ensures { result ≡ is_valid_factor (row_parsed row.now) }
 {
     if !row.fxy.is_factor() {
         return true;

@@ -4,7 +4,7 @@ use Rattle.std.specs.List.{concat, AllByRecursion}
 use Rattle.std.proofs.lemmas.Bool.Decides.{nat_tests}
 use Rattle.std.proofs.lemmas.List.{length-map}
 use Rattle.bufr_fill.specs.Prelude.{draft, DraftEntry, Holds, Ends}
-use Rattle.bufr_text.specs.Prelude.{header_in, leasts, mosts, Document, Heading, BeforeSubsets, Filling, Continues, Completes, Parsing, between, may_be_section2, in_range, with_entry, line_step, read_line, parse_lines, lines_of, documents_of, blank, Complete, Line, Opens, Header, Local1, Section2, Descriptors, Begins, ItemLine, Closes, header_lines, local1_line, section2_line, descriptors_line, subset_line, subset_lines, item_text, dump_value_of, item_entries, subset_entries, IsOctet, IsDescriptorWord, IsItem, header_of, head_lines, dump_lines, dump_text_of, document_of, lines_before, IsDumpable, runs_of, runs_after, split_of}
+use Rattle.bufr_text.specs.Prelude.{header_in, leasts, mosts, Document, Heading, BeforeSubsets, Filling, Continues, Completes, Parsing, between, in_range, with_entry, line_step, read_line, parse_lines, lines_of, documents_of, blank, Complete, Line, Opens, Header, Local1, Section2, Descriptors, Begins, ItemLine, Closes, header_lines, local1_line, section2_line, descriptors_line, subset_line, subset_lines, item_text, dump_value_of, item_entries, subset_entries, IsOctet, IsDescriptorWord, IsItem, header_of, head_lines, dump_lines, dump_text_of, document_of, lines_before, IsDumpable, runs_of, runs_after, split_of, before_subsets}
 use Rattle.bufr_text.specs.declared.document.LineGroup.{LineGroup}
 use Rattle.bufr_text.specs.declared.document.LineGroup.TheVariants as group
 use Rattle.bufr_text.proofs.HeaderLemmas.{any-edition, with_value, with_local1, with_section2, with_descriptors}
@@ -111,10 +111,11 @@ unfolding written
 written-again [] next = refl
 written-again (run ∷ runs) next = refl
 
-may-section2 : (part : LineGroup) (d : Document) → (part ≡ group.Descriptors → ⊥) → (header_in d).optional ≡ true → may_be_section2 part d ≡ true
-may-section2 group.Local1 d early there = there
-may-section2 group.Section2 d early there = there
-may-section2 group.Descriptors d early there = absurd (early refl)
+section2-step : (part : LineGroup) (d : Document) (octets : List ℕ) → (part ≡ group.Descriptors → ⊥) → (header_in d).optional ≡ true
+    → before_subsets d (Section2 octets) part ≡ (Continues (BeforeSubsets group.Section2), with_section2 d octets)
+section2-step group.Local1 d octets early there = rw there refl
+section2-step group.Section2 d octets early there = rw there refl
+section2-step group.Descriptors d octets early there = absurd (early refl)
 
 pub section2-run : (runs : List (List ℕ)) (part : LineGroup) (d : Document) (at : ℕ) (more : List (List ℕ)) → (part ≡ group.Descriptors → ⊥) → (0 < length runs → slice_index d.header 18 ≡ 1)
     → AllByRecursion (IsRun IsOctet 32) runs
@@ -124,7 +125,7 @@ section2-run [] part d at more early optional all = grind (arith, common_steps, 
 section2-run (run ∷ runs) part d at more early optional (here, all) =
     let there : (header_in d).optional ≡ true = grind (arith, nat_tests, optional (omega arith)) in
     goes at (BeforeSubsets part, d) (BeforeSubsets group.Section2, with_section2 d run) _ (Section2 run) (map section2_line runs ++ more) (section2-line run here.all here.some here.few)
-    (rw (may-section2 part d early there) refl)
+    (section2-step part d run early there)
     ∙ section2-run runs group.Section2 (with_section2 d run) (at + 1) more (λ e. cc) (λ some. optional (omega arith)) all
     ∙ ap (λ (p : LineGroup). parse_lines (at + 1 + length runs) (BeforeSubsets p, with_section2 (with_section2 d run) (concat runs)) more) (written-again runs group.Section2)
     ∙ ap (λ (t : List ℕ). parse_lines (at + 1 + length runs) (BeforeSubsets group.Section2, record d { section2 = t }) more) (append_assoc d.section2 run (concat runs))

@@ -3,9 +3,10 @@
 use Rattle.bufr_text.proofs.LineLemmas.{both}
 use Rattle.bufr_fill.proofs.EntryLemmas.{length-prepended}
 use Rattle.std.proofs.Common.{◌≡◌, ℕ, ◌+◌, List, [], ◌∷◌, ◌++◌, length, refl, ap, ◌∙◌, subst, sym, arith, zero, suc, ◌-◌, ◌*◌, ◌<◌, ◌≤◌, ◌==◌, nat_le, nat_lt, Bool, true, false, Option, Some, None, codes, if◌then◌else◌, length-append, cond, map, take, drop, get_or, ◌&&◌, not, IfSome, slice_index, option_map, position, rules}
+use Rattle.std.specs.Char.{is_ascii_digit}
 use Rattle.std.specs.List.{AllByRecursion, position_from}
 use Rattle.bufr_fill.specs.Prelude.{Draft, DraftEntry, Holds, Ends, Subset, prepend_to_subset, subsets_of, DraftValue, number_token, text_form, missing_form, reference_token, draft, HasOctets, AllHaveOctets, AreOctets}
-use Rattle.bufr_text.specs.Prelude.{header_in, Document, read_line, Between, Heading, BeforeSubsets, Filling, Stopped, LineEffect, Parsing, LineStep, IsLineStep, in_range, heading, before_subsets, in_subset, beginning, closing, with_entry, line_step, are_in_range, IsHeaded, IsOctet, IsDescriptorWord, AreEnded, IsBare, HasLineGroups, EntryHasOctets, HasSubsets, IsParsing, without_space, either_value, pair_value, onto_read, hex_read, fxy_read, descriptors_read, number_read, QuotedToken, Octet, quoting_of, quoted_on, quoted_read, is_passed_after, Line, Passed, Opens, Header, Local1, Section2, Descriptors, Begins, ItemLine, Closes, Wrong, keys, made, with_one_to, item_if_comment, number_value, value_read, valued, item_line, worded, line_of, leasts, mosts, is_named, lead_of}
+use Rattle.bufr_text.specs.Prelude.{header_in, Document, read_line, Between, Heading, BeforeSubsets, Filling, Stopped, LineEffect, Parsing, LineStep, IsLineStep, in_range, heading, before_subsets, in_subset, beginning, closing, with_entry, line_step, are_in_range, IsHeaded, IsOctet, IsDescriptorWord, AreEnded, IsBare, HasLineGroups, EntryHasOctets, HasSubsets, IsParsing, without_space, either_value, pair_value, onto_read, hex_read, fxy_read, descriptors_read, number_read, QuotedToken, Octet, quoting_of, quoted_on, quoted_read, is_passed_after, Line, Passed, Opens, Header, Local1, Section2, Descriptors, Begins, ItemLine, Closes, Wrong, keys, with_one_to, item_if_comment, number_value, value_read, item_line, worded, line_of, leasts, mosts, is_named, lead_of}
 use Rattle.bufr_text.specs.declared.document.LineGroup.{LineGroup}
 use Rattle.bufr_text.specs.declared.document.LineGroup.TheVariants as group
 use Rattle.std.specs.Str.{bytes_eq}
@@ -16,6 +17,8 @@ use Rattle.bufr_frame.specs.Prelude.{IsFitting, is_edition, greatest_values, val
 use Rattle.bufr_frame.proofs.AgainLemmas.{at-most, by-third}
 use Rattle.std.proofs.lemmas.Iterator.Adapters.{position_from-zero}
 use Rattle.std.proofs.lemmas.Grind.{common_steps}
+use Rattle.std.specs.Option.{unwrap_or}
+use Rattle.bufr_tables.specs.Fxy.{◌>>=◌, only_if}
 
 -- a document to which a header value, octets or descriptors are appended
 abbrev pub with_value : Document → ℕ → Document
@@ -154,49 +157,61 @@ if-line : (b : Bool) (x y : Line) → IsSound x → IsSound y → IsSound (if b 
 if-line true x y p q = p
 if-line false x y p q = q
 
-made-always : {X : Type 0} (line : X → Line) (read : Option X) → ((x : X) → IsSound (line x)) → IsSound (made line read)
-made-always line (Some x) h = h x
-made-always line None h = tt
+or-wrong : (r : Option Line) → IfSome r IsSound → IsSound (unwrap_or r Wrong)
+or-wrong (Some line) h = h
+or-wrong None h = tt
 
-item-sound : (fxy : ℕ) (r : Option (DraftValue × List ℕ)) → IfSome r (λ r. HasOctets (r.0)) → IsSound (made (item_if_comment fxy) r)
-item-sound fxy (Some (form, rest)) h = if-line (is_passed_after rest) (ItemLine fxy form) Wrong h tt
+if-sound : (b : Bool) (x y : Option Line) → IfSome x IsSound → IfSome y IsSound → IfSome (if b then x else y) IsSound
+if-sound true x y p q = p
+if-sound false x y p q = q
+
+only-sound : (b : Bool) (line : Line) → IsSound line → IfSome (only_if b line) IsSound
+only-sound true line h = h
+only-sound false line h = tt
+
+then-sound : {X : Type 0} (read : Option X) (line : X → Option Line) → ((x : X) → IfSome (line x) IsSound) → IfSome (read >>= line) IsSound
+then-sound (Some x) line h = h x
+then-sound None line h = tt
+
+item-sound : (fxy : ℕ) (r : Option (DraftValue × List ℕ)) → IfSome r (λ r. HasOctets (r.0)) → IfSome (r >>= item_if_comment fxy) IsSound
+item-sound fxy (Some (form, rest)) h = only-sound (is_passed_after rest) (ItemLine fxy form) h
 item-sound fxy None h = tt
 
-valued-sound : (read : List ℕ → Option (DraftValue × List ℕ)) (r : ℕ × List ℕ) → ((text : List ℕ) → IfSome (read text) (λ r. HasOctets (r.0))) → IsSound (valued read r)
-valued-sound read (fxy, rest) h = made-always (λ text. made (item_if_comment fxy) (read text)) (without_space rest) (λ text. item-sound fxy (read text) (h text))
+item-line-sound : (read : List ℕ → Option (DraftValue × List ℕ)) (text : List ℕ) → ((text : List ℕ) → IfSome (read text) (λ r. HasOctets (r.0))) → IfSome (item_line read text) IsSound
+item-line-sound read text h =
+    then-sound (fxy_read text) _ (λ fxy. then-sound (without_space fxy.1) _ (λ rest. item-sound fxy.0 (read rest) (h rest)))
 
-item-line-sound : (read : List ℕ → Option (DraftValue × List ℕ)) (text : List ℕ) → ((text : List ℕ) → IfSome (read text) (λ r. HasOctets (r.0))) → IsSound (item_line read text)
-item-line-sound read text h = made-always (valued read) (fxy_read text) (λ r. valued-sound read r h)
+octets-after : (text : Option (List ℕ)) → IfSome (text >>= hex_read) (λ l. AllByRecursion IsOctet l)
+octets-after (Some text) = hex-octets text
+octets-after None = tt
 
-local1-sound : (octets : Option (List ℕ)) → IfSome octets (λ l. AllByRecursion IsOctet l) → IsSound (made (with_one_to 32 Local1) octets)
-local1-sound (Some octets) h = if-line (nat_lt 0 (length octets) && nat_le (length octets) 32) (Local1 octets) Wrong h tt
-local1-sound None h = tt
+listed-sound : (most : ℕ) (line : List ℕ → Line) (xs : Option (List ℕ)) → IfSome xs (λ xs. IsSound (line xs)) → IfSome (xs >>= with_one_to most line) IsSound
+listed-sound most line (Some xs) h = only-sound (nat_lt 0 (length xs) && nat_le (length xs) most) (line xs) h
+listed-sound most line None h = tt
 
-section2-sound : (octets : Option (List ℕ)) → IfSome octets (λ l. AllByRecursion IsOctet l) → IsSound (made (with_one_to 32 Section2) octets)
-section2-sound (Some octets) h = if-line (nat_lt 0 (length octets) && nat_le (length octets) 32) (Section2 octets) Wrong h tt
-section2-sound None h = tt
+subset-sound : (subset : Option ℕ) → IfSome (option_map Begins subset) IsSound
+subset-sound (Some n) = tt
+subset-sound None = tt
 
-descriptors-sound : (words : Option (List ℕ)) → IfSome words (λ l. AllByRecursion IsDescriptorWord l) → IsSound (made (with_one_to 8 Descriptors) words)
-descriptors-sound (Some words) h = if-line (nat_lt 0 (length words) && nat_le (length words) 8) (Descriptors words) Wrong h tt
-descriptors-sound None h = tt
-
-worded-sound : (word rest : List ℕ) → IsSound (worded word rest)
+worded-sound : (word rest : List ℕ) → IfSome (worded word rest) IsSound
 unfolding worded
 worded-sound word rest =
-    if-line (bytes_eq word (codes "message")) _ _ (if-line (length rest == 0) Opens Wrong tt tt)
-    (if-line (bytes_eq word (codes "local1")) _ _ (made-always (λ text. made (with_one_to 32 Local1) (hex_read text)) (without_space rest) (λ text. local1-sound (hex_read text) (hex-octets text)))
-    (if-line (bytes_eq word (codes "section2")) _ _ (made-always (λ text. made (with_one_to 32 Section2) (hex_read text)) (without_space rest)
-    (λ text. section2-sound (hex_read text) (hex-octets text)))
-    (if-line (bytes_eq word (codes "descriptors")) _ _ (descriptors-sound (descriptors_read rest) (descriptors-words rest))
-    (if-line (bytes_eq word (codes "subset")) _ _ (made-always (λ text. made Begins (number_read text)) (without_space rest) (λ text. made-always Begins (number_read text) (λ n. tt)))
-    (if-line (bytes_eq word (codes "R")) _ _ (made-always (item_line (number_value reference_token)) (without_space rest) (λ text. item-line-sound (number_value reference_token) text reference-sound))
-    (if-line (bytes_eq word (codes "end")) _ _ (if-line (length rest == 0) Closes Wrong tt tt)
-    (made-always (λ index. made (λ text. made (Header index) (number_read text)) (without_space rest)) (position_from (bytes_eq word) 0 keys) (λ index.
-    made-always (λ text. made (Header index) (number_read text)) (without_space rest) (λ text. made-always (Header index) (number_read text) (λ n. tt))))))))))
+    if-sound (bytes_eq word (codes "message")) _ _ (only-sound (length rest == 0) Opens tt)
+    (if-sound (bytes_eq word (codes "local1")) _ _ (listed-sound 32 Local1 (without_space rest >>= hex_read) (octets-after (without_space rest)))
+    (if-sound (bytes_eq word (codes "section2")) _ _ (listed-sound 32 Section2 (without_space rest >>= hex_read) (octets-after (without_space rest)))
+    (if-sound (bytes_eq word (codes "descriptors")) _ _ (listed-sound 8 Descriptors (descriptors_read rest) (descriptors-words rest))
+    (if-sound (bytes_eq word (codes "subset")) _ _ (subset-sound (without_space rest >>= number_read))
+    (if-sound (bytes_eq word (codes "R")) _ _
+    (then-sound (without_space rest) (item_line (number_value reference_token)) (λ text. item-line-sound (number_value reference_token) text reference-sound))
+    (if-sound (bytes_eq word (codes "end")) _ _ (only-sound (length rest == 0) Closes tt)
+    (then-sound (position_from (bytes_eq word) 0 keys) _ (λ key. then-sound (without_space rest >>= number_read) _ (λ value. tt)))))))))
 
 line-sound : (line : List ℕ) → IsSound (line_of line)
 unfolding line_of
-line-sound line = grind (arith, if-line, item-line-sound, value-sound, worded-sound)
+line-sound [] = tt
+line-sound (c ∷ more) =
+    if-line (c == 35) Passed _ tt
+    (or-wrong _ (if-sound (is_ascii_digit c) _ _ (item-line-sound value_read (c ∷ more) value-sound) (worded-sound _ _)))
 
 pub said-sound : (line : List ℕ) → IsSound (read_line line)
 said-sound line = if-line (nat_lt 4096 (length line)) Wrong (line_of line) tt (line-sound line)
@@ -357,7 +372,7 @@ closing-so : (at read : ℕ) (d : Document) → IsHeaded d → length d.entries 
 closing-so at read d h1 h2 h3 h4 h5 = grind (arith, drafts-octets)
 
 before_subsets-so : (at : ℕ) (part : LineGroup) (d : Document) (line : Line) → IsSound line → IsHeaded d → length d.entries < at → HasLineGroups d → d.entries ≡ []
-    → IsLineStep (at + 1) (before_subsets part d line)
+    → IsLineStep (at + 1) (before_subsets d line part)
 before_subsets-so at part d line h1 h2 h3 h4 h5 = grind (arith, common_steps)
 
 one-entry : (d : Document) (entry : DraftEntry) → length (with_entry d entry).entries ≡ length d.entries + 1

@@ -9,12 +9,14 @@ use Rattle.std.proofs.lemmas.Grind.{common_steps}
 use Rattle.std.proofs.lemmas.List.{drop_all, drop-drop}
 use Rattle.bufr_bits.proofs.DecimalLemmas.{and_first, and_second}
 use Rattle.bufr_tables.specs.Prelude.{fxy_of, is_fxy, f_in, x_in, y_in}
-use Rattle.bufr_text.specs.Prelude.{without_space, without_prefix, fxy_read, is_number_octet, is_hashed, is_passed_after, hex_read, onto_read, descriptors_read, either_value, pair_value, QuotedToken, Closed, Octet, Nothing, is_unescaped, upper_value, says_pair, escape_of, quoting_of, quoted_on, quoted_read, Describes, Unhexes, Unquotes, value_read, number_value, Passed, ItemLine, Local1, Section2, made, with_one_to, item_line, item_if_comment, worded, line_of, Descriptors, Wrong}
+use Rattle.bufr_text.specs.Prelude.{without_space, without_prefix, fxy_read, is_number_octet, is_hashed, is_passed_after, hex_read, onto_read, descriptors_read, either_value, pair_value, QuotedToken, Closed, Octet, Nothing, is_unescaped, upper_value, escape_of, quoting_of, quoted_on, quoted_read, Describes, Unhexes, Unquotes, value_read, number_value, Passed, ItemLine, Local1, Section2, with_one_to, item_line, item_if_comment, worded, line_of, Descriptors, Wrong}
 use Rattle.bufr_fill.specs.Prelude.{number_token, reference_token, DraftValue, text_form, missing_form}
 use Rattle.memchr.specs.Find.{IsFirstByte, is_byte}
 use Rattle.std.specs.Char.{is_ascii_digit}
 use Rattle.std.proofs.Math.Seq.{drop-nil}
 use Rattle.bufr_text.proofs.LineLemmas.{octet_onto}
+use Rattle.std.specs.Option.{option_map_or}
+use Rattle.bufr_tables.specs.Fxy.{◌>>=◌}
 
 -- The first `count` descriptors of the text were read into `out`.
 pub record IsDescribing (text out : List ℕ) (count : ℕ) : Type 0 where
@@ -254,13 +256,14 @@ unfolding line_of
 line-note [] e = refl
 line-note (c ∷ line) e = let q : (c == 35) ≡ true = grind arith in rw q refl
 
-pub line-item : (line : List ℕ) → (slice_index line 0 ≡ 35 → ⊥) → is_ascii_digit (slice_index line 0) ≡ true → line_of line ≡ item_line value_read line
+pub line-item : (line : List ℕ) → (slice_index line 0 ≡ 35 → ⊥) → is_ascii_digit (slice_index line 0) ≡ true
+    → line_of line ≡ unwrap_or (item_line value_read line) Wrong
 unfolding line_of
 line-item [] e d = absurd cc
 line-item (c ∷ line) e d = let q : (c == 35) ≡ false = grind arith in rw (q, d) refl
 
 pub line-word : (line : List ℕ) → 0 < length line → (slice_index line 0 ≡ 35 → ⊥) → is_ascii_digit (slice_index line 0) ≡ false
-    → line_of line ≡ worded (take (word_len line) line) (drop (word_len line) line)
+    → line_of line ≡ unwrap_or (worded (take (word_len line) line) (drop (word_len line) line)) Wrong
 unfolding line_of
 line-word [] some e d = absurd (omega arith)
 line-word (c ∷ line) some e d = let q : (c == 35) ≡ false = grind arith in rw (q, d) refl
@@ -280,7 +283,7 @@ begins-by-digit (c ∷ more) fxy h is = grind (arith, nat_tests, is-fxy (take 6 
 
 -- An item line says the value after its descriptor and one space.
 pub item-line : (line text : List ℕ) (fxy : ℕ) → 6 ≤ length line → Some text ≡ without_space (drop 6 line) → Some fxy ≡ fxy_of (take 6 line)
-    → line_of line ≡ made (item_if_comment fxy) (value_read text)
+    → line_of line ≡ unwrap_or (value_read text >>= item_if_comment fxy) Wrong
 item-line line text fxy h space is =
     let digit = begins-by-digit line fxy h is in
     line-item line (λ (e : slice_index line 0 ≡ 35). absurd (grind (arith, nat_tests, digit))) digit
@@ -292,7 +295,8 @@ fits-fxy : (text : List ℕ) (fxy : ℕ) → length text ≡ 6 → list_all is_a
 fits-fxy text fxy h1 h2 h3 h4 h5 h6 = grind arith
 
 spaced-line : (line : List ℕ) (f x y fxy : ℕ) → 7 ≤ length line → slice_index line 6 ≡ 32 → list_all is_ascii_digit (take 6 line) ≡ true → f ≤ 3 → x ≤ 63 → y ≤ 255
-    → f ≡ f_in line → x ≡ x_in line → y ≡ y_in line → fxy ≡ f * 16384 + x * 256 + y → line_of line ≡ made (item_if_comment fxy) (value_read (drop 7 line))
+    → f ≡ f_in line → x ≡ x_in line → y ≡ y_in line → fxy ≡ f * 16384 + x * 256 + y
+    → line_of line ≡ unwrap_or (value_read (drop 7 line) >>= item_if_comment fxy) Wrong
 spaced-line line f x y fxy long space digits h_f_most h_x_most h_y_most h_f_is h_x_is h_y_is is = grind (arith, common_steps, item-line, space-there, fits-fxy)
 
 -- the difference of an octet and `0`, with wrapping
@@ -336,7 +340,7 @@ all-digits line long h1 h2 h3 h4 h5 h6 = absurd (omega arith)
 -- A line that passes the tests is an item line.
 pub spaced-item : (line : List ℕ) (f b c d e g fxy : ℕ) → 8 ≤ length line → ((i : ℕ) → slice_index line i < 256) → is_spaced line ≡ true → f ≡ wrapped line 0 → b ≡ wrapped line 1 → c ≡ wrapped line 2
     → d ≡ wrapped line 3 → e ≡ wrapped line 4 → g ≡ wrapped line 5 → 10 * b + c ≤ 63 → 100 * d + 10 * e + g ≤ 255 → fxy ≡ f * 16384 + (10 * b + c) * 256 + (100 * d + 10 * e + g)
-    → line_of line ≡ made (item_if_comment fxy) (value_read (drop 7 line))
+    → line_of line ≡ unwrap_or (value_read (drop 7 line) >>= item_if_comment fxy) Wrong
 spaced-item line f b c d e g fxy long fits tests f-is b-is c-is d-is e-is g-is x-few y-few is =
     let (f-few, b-few, c-few, d-few, e-few, g-few, space) =
     seven-tests (wrapped line 0) (wrapped line 1) (wrapped line 2) (wrapped line 3) (wrapped line 4) (wrapped line 5) (slice_index line 6) tests in
@@ -353,7 +357,7 @@ spaced-item line f b c d e g fxy long fits tests f-is b-is c-is d-is e-is g-is x
     (x-is line b c _ _ b-is c-is second third) (y-is line d e g _ _ _ d-is e-is g-is fourth fifth sixth) is
 
 pub item-read : (text rest : List ℕ) (fxy : ℕ) (form : DraftValue) → value_read text ≡ Some (form, rest) → is_passed_after rest ≡ true
-    → made (item_if_comment fxy) (value_read text) ≡ ItemLine fxy form
+    → unwrap_or (value_read text >>= item_if_comment fxy) Wrong ≡ ItemLine fxy form
 item-read text rest fxy form value passed = rw (value, passed) refl
 
 pub ruleset read_steps = (line-none, line-note, line-item, line-word)
@@ -361,12 +365,12 @@ pub ruleset read_steps = (line-none, line-note, line-item, line-word)
 -- ---- Lines of octets.
 
 pub local1-worded : (word rest : List ℕ) → bytes_eq word (codes "message") ≡ false → bytes_eq word (codes "local1") ≡ true
-    → worded word rest ≡ made (λ text. made (with_one_to 32 Local1) (hex_read text)) (without_space rest)
+    → worded word rest ≡ (without_space rest >>= hex_read >>= with_one_to 32 Local1)
 unfolding worded
 local1-worded word rest a b = rw (a, b) refl
 
 pub section2-worded : (word rest : List ℕ) → bytes_eq word (codes "message") ≡ false → bytes_eq word (codes "local1") ≡ false → bytes_eq word (codes "section2") ≡ true
-    → worded word rest ≡ made (λ text. made (with_one_to 32 Section2) (hex_read text)) (without_space rest)
+    → worded word rest ≡ (without_space rest >>= hex_read >>= with_one_to 32 Section2)
 unfolding worded
 section2-worded word rest a b d = rw (a, b, d) refl
 
@@ -400,7 +404,7 @@ onto-more : (xs : List ℕ) (word : ℕ) (read : Option (List ℕ)) → option_m
 onto-more xs word None = refl
 onto-more xs word (Some read) = ap Some (sym (append_assoc xs (word ∷ []) read))
 
-wrong : (text : List ℕ) → descriptors_read text ≡ None → made (with_one_to 8 Descriptors) (descriptors_read text) ≡ Wrong
+wrong : (text : List ℕ) → descriptors_read text ≡ None → (descriptors_read text >>= with_one_to 8 Descriptors) ≡ None
 wrong text e = rw e
 
 module _ (text out : List ℕ) (count : ℕ) (is : IsDescribing text out count) where
@@ -442,7 +446,7 @@ module _ (text out : List ℕ) (count : ℕ) (is : IsDescribing text out count) 
       let long : length (take count out) ≡ count = omega (arith, length-take count out, is.room, few) in
       let read : descriptors_read text ≡ Some (take count out) = rw (is.read, drop_all, append-nil) in
       let bounds : (nat_lt 0 (length (take count out)) && nat_le (length (take count out)) 8) ≡ true = grind (arith, nat_tests, long, some, few) in
-      (omega (arith, is.room, few), ap (made (with_one_to 8 Descriptors)) read ∙ rw bounds refl)
+      (omega (arith, is.room, few), ap (λ o. o >>= with_one_to 8 Descriptors) read ∙ rw bounds refl)
 
 -- If a text has no descriptors, or more than eight, the line is invalid.
 some-same : (a b : List ℕ) → Some a ≡ Some b → a ≡ b
@@ -532,12 +536,13 @@ within (x ∷ xs) (suc i) h = omega (arith, within xs i h)
 IsIn : List ℕ → QuotedToken → Type 0
 IsIn text q = (1 ≤ written-in q) × (0 < length text → written-in q ≤ length text)
 
-pair-in : (text : List ℕ) (high : Option ℕ) (c : ℕ) → c ≡ slice_index text 3 → IsIn text (says_pair (pair_value high (upper_value c)))
+pair-in : (text : List ℕ) (high : Option ℕ) (c : ℕ) → c ≡ slice_index text 3 → IsIn text (option_map_or (λ octet. Octet octet 4) (pair_value high (upper_value c)) Nothing)
 unfolding IsIn written-in
 pair-in text high c h1 = grind (arith, common_steps)
 
 escape-by : (text : List ℕ) (a b : Bool) → ((slice_index text 1 == 34) || (slice_index text 1 == 92)) ≡ a → (slice_index text 1 == 120) ≡ b
-    → IsIn text (if a then Octet (slice_index text 1) 2 else if b then says_pair (pair_value (upper_value (slice_index text 2)) (upper_value (slice_index text 3))) else Nothing)
+    → IsIn text (if a then Octet (slice_index text 1) 2 else if b then option_map_or (λ octet. Octet octet 4) (pair_value (upper_value (slice_index text 2)) (upper_value (slice_index text 3)))
+    Nothing else Nothing)
 unfolding IsIn written-in
 escape-by text true b e f =
     let there : 0 < slice_index text 1 = grind (arith, nat_tests, e) in

@@ -380,7 +380,7 @@ end-open at subset d own is =
     }) (λ e. tt)
 
 by-part : (at : ℕ) (part : LineGroup) (d : Document) (octets : List ℕ) (own : List NumberedLine) → IsBeforeSubsets part d own
-    → IsOpenAfter (before_subsets part d (Local1 octets)) (own ++ numbered_line at (Local1 octets) ∷ [])
+    → IsOpenAfter (before_subsets d (Local1 octets) part) (own ++ numbered_line at (Local1 octets) ∷ [])
 by-part at group.Local1 d octets own is = local1-open at d octets own is
 by-part at group.Section2 d octets own is = tt
 by-part at group.Descriptors d octets own is = tt
@@ -392,7 +392,7 @@ by-flag at part d octets own early is =
     (λ e. section2-open at part d octets own early (equal (slice_index d.header 18) 1 e) is) (λ e. tt)
 
 section2-after : (at : ℕ) (part : LineGroup) (d : Document) (octets : List ℕ) (own : List NumberedLine) → IsBeforeSubsets part d own
-    → IsOpenAfter (before_subsets part d (Section2 octets)) (own ++ numbered_line at (Section2 octets) ∷ [])
+    → IsOpenAfter (before_subsets d (Section2 octets) part) (own ++ numbered_line at (Section2 octets) ∷ [])
 section2-after at group.Local1 d octets own is = by-flag at group.Local1 d octets own (λ e. cc) is
 section2-after at group.Section2 d octets own is = by-flag at group.Section2 d octets own (λ e. cc) is
 section2-after at group.Descriptors d octets own is = tt

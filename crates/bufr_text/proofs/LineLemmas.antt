@@ -7,7 +7,7 @@ use Rattle.bufr_tables.specs.Prelude.{fxy_of, fxy_text, f_of, x_of, y_of, f_in, 
 use Rattle.std.specs.Fmt.{decimal}
 use Rattle.std.proofs.lemmas.Fmt.{decimal_is_IsNumeral_wide, length-decimal-le_wide}
 use Rattle.bufr_bits.proofs.DecimalLemmas.{own, and_first, and_second, all_digits-take, all_digits-drop, zeros_digits}
-use Rattle.bufr_text.specs.Prelude.{hex_digit, upper_value, either_value, pair_value, hex_pair, hex_text, hex_read, fxy_read, descriptors_text, descriptors_read, number_read, is_unescaped, escaped, quoted, quoted_read, is_number_octet, without_prefix, is_hashed, is_passed_after, runs_after, IsOctet, IsDescriptorWord, local1_line, section2_line, descriptors_line, subset_line, comment_text, dump_value_of, form_text, item_text, IsValue, IsComment, IsItem, text_of_lines, Opens, Header, Local1, Section2, Descriptors, Begins, ItemLine, Closes, keys, made, number_value, value_read, worded, line_of, Line, lines_of, split_of, Split, onto_split}
+use Rattle.bufr_text.specs.Prelude.{hex_digit, upper_value, either_value, pair_value, hex_pair, hex_text, hex_read, fxy_read, descriptors_text, descriptors_read, number_read, is_unescaped, escaped, quoted, quoted_read, is_number_octet, without_prefix, is_hashed, is_passed_after, runs_after, IsOctet, IsDescriptorWord, local1_line, section2_line, descriptors_line, subset_line, comment_text, dump_value_of, form_text, item_text, IsValue, IsComment, IsItem, text_of_lines, Opens, Header, Local1, Section2, Descriptors, Begins, ItemLine, Closes, keys, number_value, value_read, worded, line_of, Line, lines_of, split_of, Split, onto_split, Wrong}
 use Rattle.std.proofs.lemmas.List.{length-replicate, take-append-drop}
 use Rattle.std.proofs.lemmas.List.Folds.{list_all-append}
 use Rattle.bufr_bits.specs.Prelude.{decimal_text_of, unsigned_text, pointed}
@@ -15,6 +15,8 @@ use Rattle.bufr_fill.specs.Prelude.{DraftValue, number_token, text_form, missing
 use Rattle.std.proofs.Math.Seq.{drop-nil, drop-append_seam}
 use Rattle.std.proofs.lemmas.Grind.{common_steps}
 use Rattle.bufr_walk.specs.Prelude.{View, ShownValue, shown_number, shown_text, shown_missing, shown_reference}
+use Rattle.std.specs.Option.{unwrap_or}
+use Rattle.bufr_tables.specs.Fxy.{◌>>=◌}
 
 -- ---- A descriptor is written as six digits, and read back.
 
@@ -221,7 +223,7 @@ end-says = refl
 
 -- ---- Header lines.
 
-pub key-says : (k : ℕ) (rest : List ℕ) → k < 20 → line_of (get_or keys k [] ++ 32 ∷ rest) ≡ made (Header k) (number_read rest)
+pub key-says : (k : ℕ) (rest : List ℕ) → k < 20 → line_of (get_or keys k [] ++ 32 ∷ rest) ≡ unwrap_or (number_read rest >>= λ value. Some (Header k value)) Wrong
 unfolding line_of worded without_prefix keys
 key-says k rest h1 = grind arith
 
@@ -238,7 +240,7 @@ value_there k word line rest None few is there read = tt
 value_there k word line rest (Some v) few is there read =
     let name : List ℕ = get_or keys k [] in
     let whole : line ≡ name ++ 32 ∷ rest = suffix_is word line rest (sym there) ∙ ap (λ w. w ++ rest) is ∙ append_assoc name (32 ∷ []) rest in
-    ap line_of whole ∙ key-says k rest few ∙ ap (made (Header k)) (sym read)
+    ap line_of whole ∙ key-says k rest few ∙ ap (λ o. unwrap_or (o >>= λ value. Some (Header k value)) Wrong) (sym read)
 
 -- ---- Items.
 
@@ -426,7 +428,7 @@ key-clean k h1 = grind arith
 pub header-line : (k v : ℕ) → k < 20 → v < 65536 → IsLineOf (get_or keys k [] ++ 32 ∷ decimal v) (Header k v)
 header-line k v h n =
     let name = key-clean (get_or keys k []) (key-passes-at keys k keys-pass (omega (arith, keys-length))) in
-    line-from (get_or keys k [] ++ 32 ∷ decimal v) (Header k v) 22 (key-says k (decimal v) h ∙ ap (made (Header k)) (number_back v (omega arith)))
+    line-from (get_or keys k [] ++ 32 ∷ decimal v) (Header k v) 22 (key-says k (decimal v) h ∙ ap (λ o. unwrap_or (o >>= λ value. Some (Header k value)) Wrong) (number_back v (omega arith)))
     (joined-two (get_or keys k []) (32 ∷ decimal v) 16 6 22 name (one-more 32 (decimal v) 5 6 (omega arith) (decimal-clean v 5 (omega arith) (omega arith) (omega arith)) (omega arith)) (omega arith))
     (omega arith)
 

@@ -104,38 +104,27 @@ beginning read d subset = if (subset == read + 1) && nat_le subset (header_in d)
 abbrev pub closing : (read : ℕ) → Document → LineEffect
 closing read d = if read == (header_in d).subsets then Completes else Refuses SubsetCount
 
--- whether a `local1` line is allowed at this point; it must come before all `section2` and
--- `descriptors` lines
+-- The effect of a line between the header lines and the first subset. The `local1` lines, if any,
+-- come first, then the `section2` lines, which are allowed only if the header declares a section 2,
+-- and then the `descriptors` lines. `previous` is the group that was read last, or `Local1` after
+-- the header.
 -- rule: reading-section2
-abbrev pub may_be_local1 : LineGroup → Bool
-may_be_local1 group.Local1 = true
-may_be_local1 group.Section2 = false
-may_be_local1 group.Descriptors = false
-
--- whether a `section2` line is allowed at this point; it must come before the `descriptors` lines,
--- and the header must declare a section 2
-abbrev pub may_be_section2 : LineGroup → Document → Bool
-may_be_section2 group.Local1 d = (header_in d).optional
-may_be_section2 group.Section2 d = (header_in d).optional
-may_be_section2 group.Descriptors d = false
-
--- the effect of a line between the header lines and the first subset
-abbrev pub before_subsets : LineGroup → Document → Line → LineStep
-before_subsets part d (Local1 octets) = if may_be_local1 part then (
-  Continues (BeforeSubsets group.Local1),
-  record d { local1 = d.local1 ++ octets },
-) else (Refuses NotAllowed, d)
-before_subsets part d (Section2 octets) = if may_be_section2 part d then (
+abbrev pub before_subsets : Document → Line → (previous : LineGroup) → LineStep
+before_subsets d (Local1 octets) group.Local1 =
+    (Continues (BeforeSubsets group.Local1), record d { local1 = d.local1 ++ octets })
+before_subsets d (Local1 octets) _ = (Refuses NotAllowed, d)
+before_subsets d (Section2 octets) group.Descriptors = (Refuses NotAllowed, d)
+before_subsets d (Section2 octets) _ = if (header_in d).optional then (
   Continues (BeforeSubsets group.Section2),
   record d { section2 = d.section2 ++ octets },
 ) else (Refuses NotAllowed, d)
-before_subsets part d (Descriptors words) = (
+before_subsets d (Descriptors words) _ = (
   Continues (BeforeSubsets group.Descriptors),
   record d { descriptors = d.descriptors ++ words },
 )
-before_subsets part d (Begins subset) = (beginning 0 d subset, d)
-before_subsets part d Closes = (closing 0 d, d)
-before_subsets part d line = (Refuses NotAllowed, d)
+before_subsets d (Begins subset) _ = (beginning 0 d subset, d)
+before_subsets d Closes _ = (closing 0 d, d)
+before_subsets d _ _ = (Refuses NotAllowed, d)
 
 -- the effect of a line within a subset; `at` is the line number
 -- rule: reading-subset-end
@@ -154,7 +143,7 @@ line_step at (state, d) Passed = (Continues state, d)
 line_step at (Between, d) Opens = (Continues Heading, blank at)
 line_step at (Between, d) line = (Refuses NotAllowed, d)
 line_step at (Heading, d) line = heading d line
-line_step at (BeforeSubsets part, d) line = before_subsets part d line
+line_step at (BeforeSubsets previous, d) line = before_subsets d line previous
 line_step at (Filling subset, d) line = in_subset at subset d line
 line_step at (Stopped, d) line = (Continues Stopped, d)
 

@@ -185,6 +185,7 @@ source_texts offset size h =
     ∷ decimal h.master ∷ codes "/" ∷ decimal h.master_version ∷ codes "/"
     ∷ decimal h.local_version ∷ []
 
+-- the time; in edition 3, the year is the year of the century, and the seconds are 0
 abbrev pub time_texts : Head → List (List ℕ)
 time_texts h =
     codes " time=" ∷ zero_padded 4 h.year ∷ codes "-" ∷ zero_padded 2 h.month ∷ codes "-" ∷ zero_padded 2 h.day ∷

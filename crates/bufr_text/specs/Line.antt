@@ -7,12 +7,13 @@ use Rattle.std.specs.Str.Parse.{digits_value}
 use Rattle.bufr_bits.specs.Prelude.{is_digits, short_text}
 use Rattle.bufr_bits.specs.declared.decimal.ShortDecimal.{ShortDecimal}
 use Rattle.bufr_tables.specs.Prelude.{fxy_of, fxy_text, only_if}
+use Rattle.bufr_tables.specs.Fxy.{◌>>=◌}
 pub use Rattle.bufr_text.specs.declared.line.QuotedToken.{QuotedToken}
 pub use Rattle.bufr_text.specs.declared.line.QuotedToken.TheVariants.{Closed, Octet, Nothing}
 use Rattle.std.specs.Str.{bytes_eq}
 use Rattle.bufr_frame.specs.Prelude.{greatest_values}
 use Rattle.bufr_fill.specs.Prelude.{DraftValue, number_token, text_form, missing_form, reference_token}
-use Rattle.std.specs.Option.{option_zip}
+use Rattle.std.specs.Option.{option_map_or, option_zip, unwrap_or}
 
 -- the text after the given word, if the text begins with that word
 unfoldable pub without_prefix : (word text : List ℕ) → Option (List ℕ)
@@ -113,17 +114,14 @@ unfoldable pub quoted : List ℕ → List ℕ
 quoted [] = 34 ∷ []
 quoted (octet ∷ more) = escaped octet ++ quoted more
 
--- the token for `\xHH` (four octets), or `Nothing` if HH are not upper-case hexadecimal digits
-abbrev pub says_pair : Option ℕ → QuotedToken
-says_pair (Some octet) = Octet octet 4
-says_pair None = Nothing
-
--- The token `\"`, `\\` or `\xHH` at the beginning of the text, or `Nothing`. Octets beyond the end
--- of the text are read as 0, which no token contains.
+-- The token `\"`, `\\` or `\xHH` at the beginning of the text, or `Nothing`. HH must be upper-case
+-- hexadecimal digits. Octets beyond the end of the text are read as 0, which no token contains.
 abbrev pub escape_of : List ℕ → QuotedToken
-escape_of text = if (slice_index text 1 == 34) || (slice_index text 1 == 92)
-    then Octet (slice_index text 1) 2 else if slice_index text 1 == 120 then says_pair
-    (pair_value (upper_value (slice_index text 2)) (upper_value (slice_index text 3))) else Nothing
+escape_of text =
+    let c = slice_index text 1 in
+    let pair = pair_value (upper_value (slice_index text 2)) (upper_value (slice_index text 3)) in
+    if (c == 34) || (c == 92) then Octet c 2
+    else if c == 120 then option_map_or (λ octet. Octet octet 4) pair Nothing else Nothing
 
 -- rule: reading-quoted
 abbrev pub quoting_of : List ℕ → QuotedToken
@@ -201,20 +199,10 @@ leasts = 3 ∷ replicate 19 0
 unfoldable pub mosts : (edition : ℕ) → List ℕ
 mosts edition = 4 ∷ greatest_values edition ++ 1 ∷ 1 ∷ 1 ∷ 65535 ∷ []
 
--- the line with the given content, or `Wrong` if the content could not be parsed
-abbrev pub made : {X : Type 0} → (X → Line) → Option X → Line
-made line (Some x) = line x
-made line None = Wrong
-
--- the line with the given list, or `Wrong` if the list is empty or has more than `most` elements
+-- the line with the given list, or `None` if the list is empty or has more than `most` elements
 -- rule: reading-long-lists
-abbrev pub with_one_to : (most : ℕ) → (List ℕ → Line) → List ℕ → Line
-with_one_to most line xs =
-    if nat_lt 0 (length xs) && nat_le (length xs) most then line xs else Wrong
-
--- an item line, or `Wrong` if anything other than a comment follows the value
-abbrev pub item_if_comment : (fxy : ℕ) → DraftValue × List ℕ → Line
-item_if_comment fxy (form, rest) = if is_passed_after rest then ItemLine fxy form else Wrong
+abbrev pub with_one_to : (most : ℕ) → (List ℕ → Line) → List ℕ → Option Line
+with_one_to most line xs = only_if (nat_lt 0 (length xs) && nat_le (length xs) most) (line xs)
 
 -- the number at the beginning of the text, converted to a value by `form`, and the remaining text
 abbrev pub number_value : (List ℕ → DraftValue) → List ℕ → Option (DraftValue × List ℕ)
@@ -231,46 +219,52 @@ value_read (c ∷ more) =
     else if is_number_octet c then number_value number_token (c ∷ more)
     else option_map (λ rest. (missing_form, rest)) (without_prefix (codes "MISSING") (c ∷ more))
 
--- an item line that begins with the given descriptor; a space and a value must follow, and `read`
--- parses the value
-abbrev pub valued : (List ℕ → Option (DraftValue × List ℕ)) → ℕ × List ℕ → Line
-valued read (fxy, rest) = made (λ text. made (item_if_comment fxy) (read text)) (without_space rest)
+-- an item line, or `None` if anything other than a comment follows the value
+abbrev pub item_if_comment : (fxy : ℕ) → DraftValue × List ℕ → Option Line
+item_if_comment fxy (form, rest) = only_if (is_passed_after rest) (ItemLine fxy form)
 
--- an item line, which must begin with a descriptor, a space and a value; `read` parses the value
-abbrev pub item_line : (List ℕ → Option (DraftValue × List ℕ)) → List ℕ → Line
-item_line read text = made (valued read) (fxy_read text)
+-- the item line in the text, or `None`; a descriptor, a space and a value must come first, and only
+-- a comment may follow; `read` parses the value
+abbrev pub item_line : (List ℕ → Option (DraftValue × List ℕ)) → List ℕ → Option Line
+item_line read text = do
+  first ← fxy_read text
+  rest ← without_space first.1
+  value ← read rest
+  item_if_comment first.0 value
 
--- The line with the given first word and remaining text, or `Wrong` if that text is not valid after
+-- The line with the given first word and remaining text, or `None` if that text is not valid after
 -- the word. Any word not listed below must be the key of a header line.
 -- rule: reading-reference
-unfoldable pub worded : (word rest : List ℕ) → Line
+unfoldable pub worded : (word rest : List ℕ) → Option Line
 worded word rest =
-    if bytes_eq word (codes "message") then (if length rest == 0 then Opens else Wrong)
+    if bytes_eq word (codes "message") then only_if (length rest == 0) Opens
     else if bytes_eq word (codes "local1")
-    then made (λ text. made (with_one_to 32 Local1) (hex_read text)) (without_space rest)
+    then without_space rest >>= hex_read >>= with_one_to 32 Local1
     else if bytes_eq word (codes "section2")
-    then made (λ text. made (with_one_to 32 Section2) (hex_read text)) (without_space rest)
+    then without_space rest >>= hex_read >>= with_one_to 32 Section2
     else if bytes_eq word (codes "descriptors")
-    then made (with_one_to 8 Descriptors) (descriptors_read rest)
+    then descriptors_read rest >>= with_one_to 8 Descriptors
     else if bytes_eq word (codes "subset")
-    then made (λ text. made Begins (number_read text)) (without_space rest)
+    then option_map Begins (without_space rest >>= number_read)
     else if bytes_eq word (codes "R")
-    then made (item_line (number_value reference_token)) (without_space rest)
-    else if bytes_eq word (codes "end") then (if length rest == 0 then Closes else Wrong)
-    else made (λ index. made (λ text. made (Header index) (number_read text)) (without_space rest))
-    (position_from (bytes_eq word) 0 keys)
+    then without_space rest >>= item_line (number_value reference_token)
+    else if bytes_eq word (codes "end") then only_if (length rest == 0) Closes
+    else do
+      key ← position_from (bytes_eq word) 0 keys
+      value ← without_space rest >>= number_read
+      Some (Header key value)
 
--- The line that the octets represent. A line that begins with `#` is a comment, and a line that
--- begins with a digit is an item line. Any other line begins with a word, which ends before the
--- first space.
+-- The line that the octets represent, or `Wrong` if the line is not valid. A line that begins with
+-- `#` is a comment, and a line that begins with a digit is an item line. Any other line begins with
+-- a word, which ends before the first space.
 -- rule: reading-empty-lines, reading-carriage-return, reading-blanks
 unfoldable pub line_of : List ℕ → Line
 line_of [] = Passed
 line_of (c ∷ more) =
     let n = position_or_len (λ octet. octet == 32) (c ∷ more) in
     if c == 35 then Passed
-    else if is_ascii_digit c then item_line value_read (c ∷ more)
-    else worded (take n (c ∷ more)) (drop n (c ∷ more))
+    else unwrap_or (if is_ascii_digit c then item_line value_read (c ∷ more)
+    else worded (take n (c ∷ more)) (drop n (c ∷ more))) Wrong
 
 -- ---- The keys of the header, as the code stores them.
 
@@ -293,9 +287,9 @@ short_form None = missing_form
 -- The descriptors in the text were written to the beginning of `out`, and their number was
 -- returned. If the text is not valid in a `descriptors` line, the result is `None`.
 abbrev pub Describes : (text out : List ℕ) → Option ℕ → Type 0
-Describes text out None = made (with_one_to 8 Descriptors) (descriptors_read text) ≡ Wrong
+Describes text out None = (descriptors_read text >>= with_one_to 8 Descriptors) ≡ None
 Describes text out (Some count) = (count ≤ length out)
-    × (made (with_one_to 8 Descriptors) (descriptors_read text) ≡ Descriptors (take count out))
+    × ((descriptors_read text >>= with_one_to 8 Descriptors) ≡ Some (Descriptors (take count out)))
 
 -- The octets that the text represents (one for every two digits) were written to the beginning of
 -- `out`, and their number was returned. If the text is invalid, the result is `None`.

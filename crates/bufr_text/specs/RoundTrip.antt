@@ -100,9 +100,9 @@ pub record HasReadingIn (form : Form) (table : List Row) (s : Sections) (templat
   -- The dumps of both messages show the same items.
   pub items : dump_items table sections.subsets found ≡ dump_items table s.subsets values
 
--- Encoding the dump of an accepted message in the given form can fail with the given fault.
--- Encoding never fails in the form `AsWritten`. In the other forms, the message may be too long
--- (fault 60). In the form `Compressed`, faults 58 and 59 are also possible.
+-- If an accepted message is dumped, encoding the dump in the given form can fail with the given
+-- fault. Encoding never fails in the form `AsWritten`. In the other forms, the message may be too
+-- long (fault 60). In the form `Compressed`, faults 58 and 59 are also possible.
 abbrev pub IsForForm : Form → DocumentFault → Type 0
 IsForForm form.AsWritten why = ⊥
 IsForForm form.Plain (document.TooLong line) = Unit {0}

@@ -14,7 +14,7 @@ use Rattle.bufr_text.specs.declared.encode.Form.{Form}
 use Rattle.bufr_text.specs.declared.encode.Form.TheVariants.{AsWritten, Plain, Compressed}
 use Rattle.bufr_walk.specs.declared.spec.Taken.TheVariants as taken
 
--- ---- Documents that can be written as text (our choice).
+-- ---- Which documents can be written as text (our choice).
 
 -- The last entry, if any, ends a subset, so every item belongs to a subset.
 abbrev pub AreEnded : List DraftEntry → Type 0

@@ -2,7 +2,8 @@
 //! octets).
 ghost use Rattle.std.specs.Prelude.{◌≡◌, ℕ, ◌<◌, ◌≤◌, ◌==◌, IfSome, List, length, take, drop, option_map, if◌then◌else◌, min, ◌+◌, ◌-◌, slice_index, Some, ◌*◌};
 ghost use Rattle.std.specs.List.{prefix_len};
-ghost use Rattle.bufr_text.specs.Prelude.{max_line, read_line, without_space, hex_read, number_read, without_prefix, is_number_octet, is_hashed, is_passed_after, is_unescaped, upper_value, quoting_of, either_value, Line, made, with_one_to, worded, line_of, value_read, item_line, number_value, ItemLine, item_if_comment, short_form, Unquotes, Unhexes, meaning, Wrong};
+ghost use Rattle.std.specs.Option.{option_and_then, unwrap_or};
+ghost use Rattle.bufr_text.specs.Prelude.{max_line, read_line, without_space, hex_read, number_read, without_prefix, is_number_octet, is_hashed, is_passed_after, is_unescaped, upper_value, quoting_of, either_value, Line, with_one_to, worded, line_of, value_read, item_line, number_value, ItemLine, item_if_comment, short_form, Unquotes, Unhexes, meaning, Wrong};
 ghost use Rattle.bufr_fill.specs.Prelude.{reference_token, form_in};
 
 use crate::header::{MOST_WORDS, describe, fxy_prefix, key_index, word_at};
@@ -35,8 +36,9 @@ pub(crate) enum ParsedLine<'a> {
 // rule: reading-long-lists
 fn octets_after<'a>(rest: &[u8], scratch: &'a mut [u8]) -> Option<&'a [u8]>
     requires { length rest.now ≤ length scratch.old }
-    ensures { (line : List ℕ → Line) → made line (option_map (λ s. s.now) result)
-        ≡ made (λ text. made (with_one_to 32 line) (hex_read text)) (without_space rest.now) }
+    ensures { (line : List ℕ → Line) → option_map line (option_map (λ s. s.now) result)
+        ≡ option_and_then (with_one_to 32 line) (option_and_then hex_read
+        (without_space rest.now)) }
 {
     let count = decode_hex(without_space(rest)?, scratch)?;
     if count == 0 || count > 32 {
@@ -55,7 +57,7 @@ fn worded<'a>(
     words: &'a mut [u16; MOST_WORDS],
 ) -> Option<ParsedLine<'a>>
     requires { length rest.now ≤ max_line }
-    ensures { made meaning result ≡ worded word.now rest.now }
+    ensures { option_map meaning result ≡ worded word.now rest.now }
 {
     if is(word, b"message") {
         return rest.is_empty().then_some(ParsedLine::Opens);
@@ -97,7 +99,7 @@ fn line_said<'a>(
     words: &'a mut [u16; MOST_WORDS],
 ) -> Option<ParsedLine<'a>>
     requires { length line.now ≤ max_line }
-    ensures { made meaning result ≡ line_of line.now }
+    ensures { unwrap_or (option_map meaning result) Wrong ≡ line_of line.now }
 {
     let first = octet_at(line, 0);
     if first.is_ascii_digit() {
@@ -229,8 +231,8 @@ fn is_passed_after(text: &[u8]) -> bool
 #[inline(always)]
 fn spaced_fxy(line: &[u8]) -> Option<Fxy>
     ensures within { IfSome result (λ _. 7 ≤ length line.now) }
-    ensures value { IfSome result
-        (λ fxy. line_of line.now ≡ made (item_if_comment fxy) (value_read (drop 7 line.now))) }
+    ensures value { IfSome result (λ fxy. line_of line.now
+        ≡ unwrap_or (option_and_then (item_if_comment fxy) (value_read (drop 7 line.now))) Wrong) }
 {
     let [a, b, c, d, e, f, space, _, ..] = line else {
         return None;
@@ -290,7 +292,7 @@ pub(crate) fn short_item(line: &[u8]) -> Option<(Fxy, Option<ShortDecimal>)>
 /// Parses an item line that begins with a descriptor.
 pub(crate) fn item<'a>(text: &'a [u8], scratch: &'a mut [u8]) -> Option<ParsedLine<'a>>
     requires { length text.now ≤ length scratch.old }
-    ensures { made meaning result ≡ item_line value_read text.now }
+    ensures { option_map meaning result ≡ item_line value_read text.now }
 {
     let (fxy, rest) = fxy_prefix(text)?;
     let text = without_space(rest)?;
@@ -306,7 +308,7 @@ pub(crate) fn item<'a>(text: &'a [u8], scratch: &'a mut [u8]) -> Option<ParsedLi
 #[tactic(auto, using(crate::proofs::ItemLemmas::reference_steps))]
 // rule: reading-reference
 pub(crate) fn reference<'a>(text: &'a [u8]) -> Option<ParsedLine<'a>>
-    ensures { made meaning result ≡ item_line (number_value reference_token) text.now }
+    ensures { option_map meaning result ≡ item_line (number_value reference_token) text.now }
 {
     let (fxy, rest) = fxy_prefix(text)?;
     let rest = without_space(rest)?;

@@ -1,7 +1,7 @@
 -- What is cached: specs by their keys, and descriptor lists in slots.
 use Rattle.std.proofs.lemmas.Grind.{common_steps}
 use Rattle.std.proofs.Common.{◌==◌, ℤ, Bool, true, Option, Some, None, IfSome, if◌then◌else◌, ◌≡◌, ◌≢◌, ℕ, zero, suc, inl, inr, Contains, slice_set, get_or, refl, ◌⊎◌, ◌∙◌, ◌-◌, ◌+◌, ◌*◌, ◌<◌, arith, sym, ◌^◌, false, List, Ok, ap, ◌≤◌, [], ◌∷◌, ◌++◌, length, length-append, nat_lt, rules}
-use Rattle.bufr_walk.specs.Prelude.{Lists, with_room, IsKept, MayStay, list_of, lists_of, OperatorModel, IsKey, is_defining, element_spec, factor_spec, unsigned_field, IsFieldKey, descriptor_of, key_word, spec_of, FieldSpec, is_reference, IsSpecBy, IsOther, TableField, IsSpecFor, IsSpecKey, spec_key, HasOctetOperands, Dependence, OnNothing, OnWidth, OnReference, by_reference, dependence, dependence_number, HasNumber, Redefined, redefined, current_reference, Kind, spec_by_kind, new_reference_spec, local_width_spec, listed_by}
+use Rattle.bufr_walk.specs.Prelude.{Lists, with_room, IsKept, MayStay, list_of, lists_of, OperatorModel, IsKey, is_defining, element_spec, factor_spec, unsigned_field, IsFieldKey, descriptor_of, key_word, spec_of, FieldSpec, is_reference, IsSpecBy, IsOther, TableField, IsSpecFor, IsSpecKey, spec_key, HasOctetOperands, Dependence, OnNothing, OnWidth, OnReference, by_reference, dependence, dependence_number, HasNumber, Redefined, redefined, current_reference, Kind, spec_by_kind, new_reference_spec, local_width_spec}
 use Rattle.std.proofs.lemmas.Bool.{eqb-true}
 use Rattle.bufr_tables.specs.Prelude.{Row, Sequence, entry_of}
 use Rattle.bufr_tables.specs.declared.table_b.Kind.TheVariants as kind
@@ -12,6 +12,7 @@ use Rattle.std.proofs.lemmas.List.{map-append, drop-map, length-map, length-drop
 use Rattle.std.proofs.lemmas.List.Elements.{All-append, All-drop, All-cons, All-head, All-tail, All-nil}
 use Rattle.bufr_walk.specs.declared.lists.Slot.{Slot}
 use Rattle.bufr_walk.specs.declared.operators.TableField.TheVariants as field
+use Rattle.bufr_walk.proofs.SpecLemmas.{listed_by}
 
 -- The word of a field can be added to the key of the operators.
 pub with_word : (s : OperatorModel) (key word : ℕ) → IsKey s 0 key → IsKey s word (key + 1099511627776 * word)

@@ -5,7 +5,7 @@ use Rattle.std.proofs.lemmas.Bool.{leb-true, ltb-false}
 use Rattle.std.proofs.lemmas.Bool.Decides.{nat_tests}
 use Rattle.bufr_bits.proofs.DecimalLemmas.{and_first}
 use Rattle.bufr_tables.specs.Prelude.{IsLegal, is_legal_operator, Tree, bare, element, operator, fixed, delayed, is_inserted_text, Row, entry_of, allows_width}
-use Rattle.bufr_walk.specs.Prelude.{Role, TurnRefusal, Taken, FieldSpec, IsFor, IsForRole, Content, answer_by_role, FieldFault, FieldRead, found, plain_field, packed_field, answer_first, Course, Next, take_next, astray, refused, asked, operated, ahead, counts_of, next_item, open_end, group, pass_end, operator_turn, Rest, passes, unroll, if_valid_width, numeric_spec, coded_spec, text_spec, text_width, spec_by_kind, new_reference_spec, unsigned_field, element_spec, factor_spec, inserted_spec, OperatorModel, after_operator, after_field, DataCoding, plain, packed, Kind, step_of, coding_of, contents_across}
+use Rattle.bufr_walk.specs.Prelude.{Role, TurnRefusal, Taken, FieldSpec, IsFor, IsForRole, Content, answer_by_role, FieldRead, found, plain_field, packed_field, answer_first, Course, Next, take_next, astray, refused, asked, operated, ahead, counts_of, next_item, open_end, group, pass_end, operator_turn, Rest, passes, unroll, if_valid_width, numeric_spec, coded_spec, text_spec, text_width, spec_by_kind, new_reference_spec, unsigned_field, element_spec, factor_spec, inserted_spec, OperatorModel, after_operator, after_field, DataCoding, plain, packed, Kind, step_of, coding_of, contents_across, number, text, missing, reference}
 use Rattle.bufr_walk.proofs.SpecLemmas.{inserted_width}
 use Rattle.bufr_walk.proofs.WalkLemmas.{no_count, element_cases}
 use Rattle.bufr_walk.proofs.PackedLemmas.{item_parts, some_across, neither}
@@ -14,6 +14,7 @@ use Rattle.bufr_bits.specs.Prelude.{number_of}
 use Rattle.bufr_tables.specs.declared.table_b.Kind.TheVariants as kind
 use Rattle.bufr_walk.specs.declared.spec.Role.TheVariants as role
 use Rattle.bufr_walk.specs.declared.spec.Taken.TheVariants as taken
+use Rattle.bufr_walk.specs.declared.fault.DataFault.{DataFault}
 
 -- ---- What comes next in a template: a field takes at least one bit, and the counts match the
 -- factors.
@@ -119,7 +120,7 @@ module _ (table : List Row) (rows : (fxy : ℕ) (row : Row) → entry_of table f
       (λ answers. asked r (λ u more. ahead table (rest (counts_of (t ∷ answers))) (after_field s fxy u) more) (t ∷ answers))
       (λ answers. sym (asked_next r (λ u more. ahead table (rest (counts_of (t ∷ answers))) (after_field s fxy u) more) spec t answers e
       ∙ ap (λ cs. ahead table (rest cs) (after_field s fxy t) answers)
-      (no_count spec.role t (counts_of answers) (λ q. absurd (let c : is_counting role.Factor ≡ false = rw q at (good spec e).1 in cc)) f)))
+      (no_count spec.role t answers (λ q. absurd (let c : is_counting role.Factor ≡ false = rw q at (good spec e).1 in cc)) f)))
       (h m (after_field s fxy t)))
 
   operated_goes : (r : Result OperatorModel TurnRefusal) (rest : Rest) → ((n : ℕ) (s : OperatorModel) → IsSane n (λ answers. ahead table (rest (counts_of answers)) s answers)) → (n : ℕ)
@@ -190,16 +191,22 @@ pub record Forth {C : Type 0} (form : DataCoding C) (spec : FieldSpec) (bits : L
   pub within : size ≤ length bits
   pub left_is : mid ≡ drop size bits
 
-same_found : {C : Type 0} (a b : FieldRead C) → ◌≡◌ {A = Result (FieldRead C) FieldFault} (Ok a) (Ok b) → a ≡ b
+same_found : {C : Type 0} (a b : FieldRead C) → ◌≡◌ {A = Result (FieldRead C) DataFault} (Ok a) (Ok b) → a ≡ b
 same_found a b e = cc
 
 answer_for : (r : Role) (c : Content) → IsForRole r (answer_by_role r c)
 answer_for role.Element c = tt
 answer_for role.Inserted c = tt
-answer_for role.Factor c = tt
-answer_for role.Reference c = tt
+answer_for role.Factor (number raw) = tt
+answer_for role.Factor (text octets) = tt
+answer_for role.Factor missing = tt
+answer_for role.Factor (reference value) = tt
+answer_for role.Reference (number raw) = tt
+answer_for role.Reference (text octets) = tt
+answer_for role.Reference missing = tt
+answer_for role.Reference (reference value) = tt
 
-suffix_is : {C : Type 0} (a b : C) (l m : List Bool) → ◌≡◌ {A = Result (FieldRead C) FieldFault} (Ok (found a l)) (Ok (found b m)) → m ≡ l
+suffix_is : {C : Type 0} (a b : C) (l m : List Bool) → ◌≡◌ {A = Result (FieldRead C) DataFault} (Ok (found a l)) (Ok (found b m)) → m ≡ l
 suffix_is {C} a b l m e = search (rules, same_found)
 
 pub plain_forth : (spec : FieldSpec) (bits : List Bool) (c : Content) (mid : List Bool) → 1 ≤ spec.width → plain_field spec bits ≡ Ok (found c mid) → Forth plain spec bits c mid
@@ -216,7 +223,7 @@ packed_forth n spec bits cs mid some e =
     let base = take spec.width bits in
     let suffix = drop (spec.width + 6) bits in
     let used = suc n * step_of (coding_of spec) k in
-    let t = item_parts spec.role (nat_lt (length bits) (spec.width + 6) || nat_lt (length suffix) used) (contents_across (coding_of spec) k (suc n) base suffix) (drop used suffix) cs mid e in
+    let t = item_parts spec.fxy spec.role (nat_lt (length bits) (spec.width + 6) || nat_lt (length suffix) used) (contents_across (coding_of spec) k (suc n) base suffix) (drop used suffix) cs mid e in
     let ends = neither (nat_lt (length bits) (spec.width + 6)) (nat_lt (length suffix) used) t.0 in
     record {
       gives = first_for spec cs (λ none. some_across (coding_of spec) k n base suffix (t.1 ∙ ap Some none));

@@ -1,8 +1,8 @@
 -- Worked examples of whole readings: why and where they stop, and how many turns they take.
-use Rattle.std.proofs.Common.{◌≡◌, ℕ, Bool, true, false, List, [], ◌∷◌, length, Option, Some, None, refl, zero, suc, ◌+◌, ◌-◌, Result, Ok, Err, if◌then◌else◌, option_map}
+use Rattle.std.proofs.Common.{◌≡◌, ℕ, Bool, true, false, List, [], ◌∷◌, length, Option, Some, None, refl, zero, suc, ◌+◌, ◌-◌, Result, Ok, Err, if◌then◌else◌, option_map, take, drop, arith, nat_lt}
 use Rattle.bufr_bits.specs.Prelude.{bits_of}
 use Rattle.bufr_tables.specs.Prelude.{Tree, bare, element, operator, fixed}
-use Rattle.bufr_walk.specs.Prelude.{next_item, counted_item, turns_read, Stop, data_in, Course, DataCoding, plain, packed, Content, FieldSpec, FieldRead, FieldFault, unequal_factor, data_end, increment, Next, take_next, at_end, astray, refused, would_be_many, fault_at, Data, fault_of}
+use Rattle.bufr_walk.specs.Prelude.{next_item, counted_item, turns_read, Stop, data_in, Course, DataCoding, plain, packed, Content, FieldSpec, FieldRead, Next, take_next, at_end, astray, refused, would_be_many, fault_at, Data, fault_of, found, content_in}
 use Rattle.bufr_walk.specs.Pass.{reading_of, reading_in, Pass, Place, Step, DataPass, pass, pass_next, pass_field, read_field, reading, read_pass, stop_of, passes_apart}
 use Rattle.bufr_walk.specs.Readers.{place_at}
 use Rattle.bufr_walk.specs.declared.walker.WalkStop.TheVariants as stops
@@ -11,6 +11,8 @@ use Rattle.bufr_walk.specs.declared.fault.WalkFault.TheVariants as fault
 use Rattle.bufr_walk.specs.declared.spec.TurnRefusal.TheVariants as turn
 use Rattle.bufr_walk.proofs.ExampleTables.{fxy, table}
 use Rattle.std.specs.Prelude.{is_none, is_some}
+use Rattle.bufr_walk.specs.declared.fault.DataFault.{DataFault}
+use Rattle.bufr_walk.proofs.PackedLemmas.{IsOfItem, of_item}
 
 -- how a reading of n subsets ends: why it stopped, in which subset, how many bits are left, and how
 -- many turns were made
@@ -103,24 +105,34 @@ abbrev IsNoneOrOther : Option Stop → Type 0
 IsNoneOrOther None = Unit {0}
 IsNoneOrOther (Some why) = IsOther why
 
-pass_stop : {C : Type 0} (form : DataCoding C) (many : ℕ → Bool) (most : ℕ) (course : Course) (s : Place) → IsNoneOrOther (pass (reading form many) most course s).stop
-pass_stop form many zero course s = tt
-pass_stop {C} form many (suc more) course s = by (course []) (pass_stop form many more)
+-- The data end in each item that cannot be read, or its increments or its factor are invalid.
+abbrev AreOfItems : {C : Type 0} → DataCoding C → Type 0
+AreOfItems form = (spec : FieldSpec) (bits : List Bool) (e : DataFault) → form.field spec bits ≡ Err e → IsOfItem e
+
+pass_stop : {C : Type 0} (form : DataCoding C) (own : AreOfItems form) (many : ℕ → Bool) (most : ℕ) (course : Course) (s : Place) → IsNoneOrOther (pass (reading form many) most course s).stop
+pass_stop form own many zero course s = tt
+pass_stop {C} form own many (suc more) course s = by (course []) (pass_stop form own many more)
   where
+    other : (e : DataFault) → IsOfItem e → IsOther (stops.Field e)
+    other (wrong.DataEnd fxy) h = tt
+    other (wrong.Increment fxy) h = tt
+    other (wrong.UnequalFactor fxy) h = tt
+    other (wrong.TooManyValues fxy) h = tt
+    other wrong.Memory h = h
+
     go : Step Place C → Pass Place C Stop
     go f = pass (reading form many) more (λ answers. course (f.returned ∷ answers)) f.state
 
-    field : (spec : FieldSpec) (b : Bool) (r : Result (FieldRead C) FieldFault) → ((course : Course) (s : Place) → IsNoneOrOther (pass (reading form many) more course s).stop)
+    field : (spec : FieldSpec) (b : Bool) (r : Result (FieldRead C) DataFault) → ((e : DataFault) → r ≡ Err e → IsOfItem e)
+        → ((course : Course) (s : Place) → IsNoneOrOther (pass (reading form many) more course s).stop)
         → IsNoneOrOther (pass_field (reading form many) spec s (if b then Err (stops.Field (wrong.TooManyValues spec.fxy)) else read_field form spec s.items r) go).stop
-    field spec true r rest = tt
-    field spec false (Err data_end) rest = tt
-    field spec false (Err increment) rest = tt
-    field spec false (Err unequal_factor) rest = tt
-    field spec false (Ok f) rest = rest (λ answers. course (form.gives spec f.content ∷ answers)) (place_at (s.items + 1) f.suffix)
+    field spec true r own rest = tt
+    field spec false (Err why) own rest = other why (own why refl)
+    field spec false (Ok f) own rest = rest (λ answers. course (form.gives spec f.content ∷ answers)) (place_at (s.items + 1) f.suffix)
 
     by : (next : Next) → ((course : Course) (s : Place) → IsNoneOrOther (pass (reading form many) more course s).stop)
         → IsNoneOrOther (pass_next (reading form many) next s go).stop
-    by (take_next spec) rest = field spec (many s.items) (form.field spec s.left) rest
+    by (take_next spec) rest = field spec (many s.items) (form.field spec s.left) (own spec s.left) rest
     by at_end rest = tt
     by astray rest = tt
     by (refused (turn.Width fxy)) rest = tt
@@ -130,11 +142,21 @@ first_of : (first later : Option Stop) → IsNoneOrOther first → IsNoneOrOther
 first_of None later h g = g
 first_of (Some why) later h g = h
 
+plain_own : AreOfItems plain
+plain_own spec bits e is = by (nat_lt (length bits) spec.width) is
+  where
+    by : (b : Bool) → (if b then Err (wrong.DataEnd spec.fxy) else Ok (found (content_in spec (take spec.width bits)) (drop spec.width bits))) ≡ Err e → IsOfItem e
+    by true is = grind arith
+    by false is = absurd cc
+
+packed_own : (n : ℕ) → AreOfItems (packed n)
+packed_own n spec bits e is = of_item spec.fxy spec.role _ _ _ e is
+
 apart_stop : (course : Course) (n : ℕ) (bits : List Bool) → IsNoneOrOther (stop_of (passes_apart course n bits))
 apart_stop course zero bits = tt
 apart_stop course (suc n) bits =
     let p = read_pass plain (λ items. false) course bits in
-    first_of p.stop _ (pass_stop plain (λ items. false) (suc (length bits)) course (place_at 0 bits)) (unless p.stop (passes_apart course n p.state.left) (apart_stop course n p.state.left))
+    first_of p.stop _ (pass_stop plain plain_own (λ items. false) (suc (length bits)) course (place_at 0 bits)) (unless p.stop (passes_apart course n p.state.left) (apart_stop course n p.state.left))
   where
     unless : (o : Option Stop) (passes : List (DataPass Content)) → IsNoneOrOther (stop_of passes) → IsNoneOrOther (stop_of (if is_none o then passes else []))
     unless None passes h = h
@@ -143,7 +165,7 @@ apart_stop course (suc n) bits =
 reading_stop : (course : Course) (compressed : Bool) (n : ℕ) (bits : List Bool) → IsNoneOrOther (reading_in course compressed n bits).stop
 reading_stop course false n bits = apart_stop course n bits
 reading_stop course true zero bits = tt
-reading_stop course true (suc n) bits = first_of _ None (pass_stop (packed (suc n)) (would_be_many (suc n)) (suc (length bits)) course (place_at 0 bits)) tt
+reading_stop course true (suc n) bits = first_of _ None (pass_stop (packed (suc n)) (packed_own (suc n)) (would_be_many (suc n)) (suc (length bits)) course (place_at 0 bits)) tt
 
 never_for_memory : (course : Course) (d : Data) → fault_of d (reading_of course d) ≡ Some fault.Memory → ⊥
 never_for_memory course d = by (reading_of course d).stop (reading_stop course d.compressed d.subsets d.bits)

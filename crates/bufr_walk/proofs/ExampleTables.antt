@@ -5,9 +5,10 @@ use Rattle.std.proofs.Common.{ℕ, ◌+◌, ◌*◌, List, [], ◌∷◌, length
 use Rattle.bufr_bits.specs.Prelude.{bits_of}
 use Rattle.bufr_tables.specs.declared.table_b.Kind.TheVariants as kind
 use Rattle.bufr_tables.specs.Prelude.{Row, Tree}
-use Rattle.bufr_walk.specs.Prelude.{Kind, TurnRefusal, FieldSpec, ShownValue, shown, FieldFault, next_item, counted_item, CountedCourse, DataCoding, plain, packed, answers_in, Stop, stop_by, wrong_of}
+use Rattle.bufr_walk.specs.Prelude.{Kind, TurnRefusal, FieldSpec, ShownValue, shown, next_item, counted_item, CountedCourse, DataCoding, plain, packed, answers_in, Stop, stop_by}
 use Rattle.bufr_walk.specs.declared.walker.WalkStop.TheVariants as stops
 use Rattle.bufr_walk.specs.Pass.{Pass as DataPass, Place, passes_apart, passes_together}
+use Rattle.bufr_walk.specs.declared.fault.DataFault.{DataFault}
 
 -- the descriptor with this F, X and Y
 unfoldable pub fxy : (f x y : ℕ) → ℕ
@@ -48,8 +49,8 @@ pub data Ending : Type 0 where
 abbrev pub walk_fault : TurnRefusal → (left turns : ℕ) → Ending
 walk_fault why left turns = stopped (stop_by why) left turns
 
-abbrev pub field_fault : (fxy : ℕ) → FieldFault → (left turns : ℕ) → Ending
-field_fault fxy why left turns = stopped (stops.Field (wrong_of fxy why)) left turns
+abbrev pub field_fault : (fxy : ℕ) → (ℕ → DataFault) → (left turns : ℕ) → Ending
+field_fault fxy why left turns = stopped (stops.Field (why fxy)) left turns
 
 -- a pass: the descriptor of each item and what it shows, and how the pass ended
 pub record Pass (C : Type 0) : Type 0 where

@@ -6,8 +6,9 @@ use Rattle.bufr_bits.specs.Prelude.{bits_of}
 use Rattle.bufr_tables.specs.declared.table_b.Kind.TheVariants as kind
 use Rattle.bufr_tables.specs.Prelude.{Tree, bare, element, operator, fixed, delayed}
 use Rattle.bufr_walk.specs.declared.spec.Role.TheVariants as role
-use Rattle.bufr_walk.specs.Prelude.{next_item, counted_item, Content, reference, number, text, shown_number, shown_text, shown_reference, data_end, Item, turns_in, apart, answer_of}
+use Rattle.bufr_walk.specs.Prelude.{next_item, counted_item, Content, reference, number, text, shown_number, shown_text, shown_reference, Item, turns_in, apart, answer_of}
 use Rattle.bufr_walk.proofs.ExampleTables.{fxy, table, done, field_fault, one, two, gives}
+use Rattle.bufr_walk.specs.declared.fault.DataFault.TheVariants as wrong
 
 -- An operator in a group stays in effect in the next pass. The example fails if the end of a pass
 -- cancels a change, if the group has only one pass, or if turns are counted differently.
@@ -33,10 +34,10 @@ group_in_a_group = (refl, refl, refl)
 -- The data may end at a factor, or at the first or the last item of a group. The example fails if
 -- an earlier item is dropped, or if the location is different.
 data_end_at_a_factor :
-    (one (delayed (fxy 0 31 1) (element (fxy 0 1 1) bare) bare) [] ≡ gives [] (field_fault 7937 data_end 0 2))
-    × (one (delayed (fxy 0 31 1) (element (fxy 0 1 1) bare) bare) (2 ∷ []) ≡ gives ((7937, shown_number (pos 2) (pos 0)) ∷ []) (field_fault 257 data_end 0 3))
+    (one (delayed (fxy 0 31 1) (element (fxy 0 1 1) bare) bare) [] ≡ gives [] (field_fault 7937 wrong.DataEnd 0 2))
+    × (one (delayed (fxy 0 31 1) (element (fxy 0 1 1) bare) bare) (2 ∷ []) ≡ gives ((7937, shown_number (pos 2) (pos 0)) ∷ []) (field_fault 257 wrong.DataEnd 0 3))
     × (one (delayed (fxy 0 31 1) (element (fxy 0 1 1) bare) bare) (2 ∷ 20 ∷ [])
-    ≡ gives ((7937, shown_number (pos 2) (pos 0)) ∷ (257, shown_number (pos 10) (pos 0)) ∷ []) (field_fault 257 data_end 1 5))
+    ≡ gives ((7937, shown_number (pos 2) (pos 0)) ∷ (257, shown_number (pos 10) (pos 0)) ∷ []) (field_fault 257 wrong.DataEnd 1 5))
 unfolding one gives fxy
 data_end_at_a_factor = (refl, refl, refl)
 
@@ -78,7 +79,7 @@ text_width_ends_with_the_subset = refl
 
 -- The data may end in a later subset. The example fails if the bit after the first subset is read
 -- as a second one.
-data_end_in_second_subset : two (element (fxy 0 1 1) bare) (20 ∷ []) ≡ gives ((257, shown_number (pos 10) (pos 0)) ∷ []) (done 1 2) ∷ gives [] (field_fault 257 data_end 1 1) ∷ []
+data_end_in_second_subset : two (element (fxy 0 1 1) bare) (20 ∷ []) ≡ gives ((257, shown_number (pos 10) (pos 0)) ∷ []) (done 1 2) ∷ gives [] (field_fault 257 wrong.DataEnd 1 1) ∷ []
 unfolding two gives fxy
 data_end_in_second_subset = refl
 

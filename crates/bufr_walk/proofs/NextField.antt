@@ -1,12 +1,12 @@
 -- Each field that comes next in a legal template has a valid spec and a 16-bit descriptor.
 use Rattle.std.proofs.lemmas.Grind.{common_steps}
-use Rattle.bufr_walk.proofs.SpecLemmas.{text_good, product_small, inserted_width}
+use Rattle.bufr_walk.proofs.SpecLemmas.{listed_by, factor_by, text_good, product_small, inserted_width}
 use Rattle.bufr_tables.proofs.TableBLemmas.{row-limits}
-use Rattle.std.proofs.lemmas.Bool.{eqb-true, leb-true, ltb-true}
-use Rattle.bufr_tables.specs.Prelude.{f_of, fxy_of, is_factor, IsRow, Row, allows_width, entry_of, kind_of, AreRows, element_of, plain_of, row_of, scale_of, width_of, is_legal_operator, has_legal_operand, Tree, bare, element, operator, fixed, delayed, is_inserted_text, x_of, y_of, IsLegal, i64_of, fits_i64, integer_of, Record, field_of, only_if}
+use Rattle.std.proofs.lemmas.Bool.{eqb-true, leb-true}
+use Rattle.bufr_tables.specs.Prelude.{f_of, fxy_of, is_factor, IsRow, Row, allows_width, entry_of, kind_of, AreRows, element_of, plain_of, row_of, scale_of, width_of, is_legal_operator, has_legal_operand, Tree, bare, element, operator, fixed, delayed, is_inserted_text, x_of, y_of, IsLegal, i64_of, Record, field_of, only_if, natural_of}
 use Rattle.bufr_walk.specs.declared.spec.Taken.{Taken}
-use Rattle.bufr_walk.specs.Prelude.{OperatorModel, Redefined, current_reference, is_defining, if_valid_width, scale_change_of, numeric_spec, coded_spec, spec_by_kind, new_reference_spec, unsigned_field, begin, local_width_spec, listed_by, element_spec, factor_field, factor_by, factor_spec, with_references, with_operator, after_operator, after_field, with_reference, inserted_spec, Turns, finish, open_end, group, pass_end, factor_turn, element_turn, operator_turn, Rest, passes, unroll, turns_of, take_next, asked, operated, ahead, next_item, counts_of, FieldSpec, IsSpec, HasWidth, Course, IsField, IsWithin, AreWithin, Next}
-use Rattle.std.proofs.Common.{ℕ, suc, ◌+◌, ◌*◌, ◌%◌, ◌&&◌, Bool, false, Option, Some, None, Result, Ok, Err, refl, subst, arith, ℤ, pos, negsuc, ◌+ℤ◌, zero, not, map, ◌≡◌, ◌≤◌, ◌<◌, ◌/◌, ◌^◌, true, List, [], ◌∷◌, unsigned_abs, ◌==◌, nat_le, nat_lt, if◌then◌else◌, rules}
+use Rattle.bufr_walk.specs.Prelude.{OperatorModel, Redefined, current_reference, is_defining, if_valid_width, scale_change_of, numeric_spec, coded_spec, spec_by_kind, new_reference_spec, unsigned_field, begin, local_width_spec, element_spec, factor_field, factor_spec, with_references, with_operator, after_operator, after_field, with_reference, inserted_spec, Turns, finish, open_end, group, pass_end, factor_turn, element_turn, operator_turn, Rest, passes, unroll, turns_of, take_next, asked, operated, ahead, next_item, counts_of, FieldSpec, IsSpec, HasWidth, Course, IsField, IsWithin, AreWithin, Next}
+use Rattle.std.proofs.Common.{ℕ, suc, ◌+◌, ◌*◌, ◌%◌, ◌&&◌, Bool, false, Option, Some, None, Result, Ok, Err, refl, subst, arith, ℤ, pos, ◌+ℤ◌, zero, not, map, ◌≡◌, ◌≤◌, ◌<◌, ◌/◌, ◌^◌, true, List, [], ◌∷◌, unsigned_abs, ◌==◌, nat_le, nat_lt, if◌then◌else◌, rules, neg_ℤ, option_and_then, drop, slice_index}
 use Rattle.std.specs.List.{find, AllByRecursion}
 use Rattle.bufr_bits.proofs.DecimalLemmas.{and_first, and_second}
 use Rattle.bufr_tables.specs.declared.table_b.Kind.{Kind}
@@ -340,16 +340,22 @@ passed : {A P : Type 0} (test : Bool) (x y : A) → only_if test x ≡ Some y �
 passed true x y is go = go refl (cc is)
 passed false x y is go = absurd (cc is)
 
-within : (z : ℤ) → fits_i64 z ≡ true → unsigned_abs z ≤ 2 ^ 63
-within (pos n) h = omega (arith, ltb-true)
-within (negsuc n) h = omega (arith, ltb-true)
+negative_within : (n : ℕ) (r : ℤ) → only_if (nat_le n (2 ^ 63)) (neg_ℤ (pos n)) ≡ Some r → unsigned_abs r ≤ 2 ^ 63
+negative_within zero r is = grind arith
+negative_within (suc n) r is = grind arith
 
-fits_64_bits : (z r : ℤ) → only_if (fits_i64 z) z ≡ Some r → unsigned_abs r ≤ 2 ^ 63
-fits_64_bits z r is = search (rules, within)
+positive_within : (n : ℕ) (r : ℤ) → only_if (nat_lt n (2 ^ 63)) (pos n) ≡ Some r → unsigned_abs r ≤ 2 ^ 63
+positive_within n r is = grind arith
 
 reference_within : (text : List ℕ) (r : ℤ) → i64_of text ≡ Some r → unsigned_abs r ≤ 2 ^ 63
 unfolding i64_of
-reference_within text r is = option_and_then_some _ (integer_of text) r is (λ z read is. fits_64_bits z r is)
+reference_within text r is = by (slice_index text 0 == 45) is
+  where
+    by : (b : Bool) → (if b then option_and_then (λ n. only_if (nat_le n (2 ^ 63)) (neg_ℤ (pos n))) (natural_of (drop 1 text)) else option_and_then (λ n. only_if (nat_lt n (2 ^ 63)) (pos n))
+        (natural_of text)) ≡ Some r
+        → unsigned_abs r ≤ 2 ^ 63
+    by true is = option_and_then_some _ (natural_of (drop 1 text)) r is (λ n read is. negative_within n r is)
+    by false is = option_and_then_some _ (natural_of text) r is (λ n read is. positive_within n r is)
 
 scale_within : (text : List ℕ) (scale : ℤ) → scale_of text ≡ Some scale → unsigned_abs scale ≤ 127
 unfolding scale_of

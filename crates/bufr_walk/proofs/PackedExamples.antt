@@ -3,7 +3,7 @@ use Rattle.std.proofs.Common.{◌≡◌, ◌*◌, ◌+◌, ◌++◌, ap, arith, 
 use Rattle.bufr_tables.specs.Prelude.{bare, element, operator, delayed}
 use Rattle.bufr_walk.specs.declared.spec.TurnRefusal.TheVariants as refusal
 use Rattle.bufr_walk.specs.declared.spec.Taken.TheVariants as taken
-use Rattle.bufr_walk.specs.Prelude.{Content, next_item, shown_number, shown_text, shown_missing, shown_reference, data_end, increment, packed, max_values, Passing, EndsPass, Place, Stop, reading, place_at, would_be_many, PackedValues, items_between, IsSameInAll, range_calls, packed_calls, packed_values, IsPackedOf, read_by, data_in, unsigned_field, number, timed, item_call, subset_call, view, count_in, Item}
+use Rattle.bufr_walk.specs.Prelude.{Content, next_item, shown_number, shown_text, shown_missing, shown_reference, packed, max_values, Passing, EndsPass, Place, Stop, reading, place_at, would_be_many, PackedValues, items_between, IsSameInAll, range_calls, packed_calls, packed_values, IsPackedOf, read_by, data_in, unsigned_field, number, timed, item_call, subset_call, view, Item}
 use Rattle.bufr_walk.specs.declared.walker.WalkStop.TheVariants as stops
 use Rattle.bufr_walk.specs.declared.fault.DataFault.TheVariants as wrong
 use Rattle.bufr_walk.proofs.ExampleTables.{fxy, table, done, walk_fault, field_fault, together, gives}
@@ -22,7 +22,7 @@ base_of_all_ones = (refl, refl)
 
 -- rule: compressed-increments-there
 base_of_all_ones_data_end : together 2 (element (fxy 0 12 101) bare) (255 ∷ 255 ∷ 128 ∷ [])
-    ≡ gives [] (field_fault 3173 data_end 24 1)
+    ≡ gives [] (field_fault 3173 wrong.DataEnd 24 1)
 unfolding together gives fxy
 base_of_all_ones_data_end = refl
 
@@ -40,7 +40,7 @@ increment_of_all_ones = (refl, refl)
 -- If an increment is absent, the data end. The example fails if an invalid increment before it is
 -- reported instead.
 increment_data_end : together 3 (element (fxy 0 1 1) bare) (252 ∷ 20 ∷ [])
-    ≡ gives [] (field_fault 257 data_end 16 1)
+    ≡ gives [] (field_fault 257 wrong.DataEnd 16 1)
 unfolding together gives fxy
 increment_data_end = refl
 
@@ -52,7 +52,7 @@ class_31_together :
     ≡ gives ((7937, shown_number (pos 255) (pos 0) ∷ shown_number (pos 255) (pos 0) ∷ []) ∷ (7937, shown_number (pos 253) (pos 0) ∷ shown_number (pos 251) (pos 0) ∷ [])
     ∷ (7937, shown_number (pos 254) (pos 0) ∷ shown_number (pos 255) (pos 0) ∷ []) ∷ (7957, shown_number (pos 63) (pos 0) ∷ shown_number (pos 63) (pos 0) ∷ []) ∷ []) (done 2 5))
     × (together 2 (element (fxy 0 31 1) bare) (255 ∷ 5 ∷ [])
-    ≡ gives [] (field_fault 7937 increment 16 1))
+    ≡ gives [] (field_fault 7937 wrong.Increment 16 1))
 unfolding together gives fxy
 class_31_together = (refl, refl)
 
@@ -105,13 +105,13 @@ text_of_255_shorter = refl
 -- The example fails if the octets are accepted, or if the faults are in the other order.
 -- rule: compressed-text-past-width
 text_octets_over_the_width : together 2 (operator (fxy 2 5 2) bare) (0 ∷ 0 ∷ 12 ∷ 0 ∷ 0 ∷ 0 ∷ 0 ∷ 0 ∷ 0 ∷ [])
-    ≡ gives [] (field_fault 34050 increment 72 1)
+    ≡ gives [] (field_fault 34050 wrong.Increment 72 1)
 unfolding together gives fxy
 text_octets_over_the_width = refl
 
 -- rule: fault-30-before-34
 text_octets_past_the_data : together 2 (operator (fxy 2 5 2) bare) (0 ∷ 0 ∷ 12 ∷ [])
-    ≡ gives [] (field_fault 34050 data_end 24 1)
+    ≡ gives [] (field_fault 34050 wrong.DataEnd 24 1)
 unfolding together gives fxy
 text_octets_past_the_data = refl
 
@@ -133,13 +133,13 @@ factor_with_increments = (refl, refl, refl)
 -- For a factor, too, the end of the data is reported first, and then a sum past the width. The
 -- example fails if the counts are compared before that.
 factor_data_end : together 2 (delayed (fxy 0 31 1) (element (fxy 0 1 1) bare) bare) (1 ∷ 241 ∷ [])
-    ≡ gives [] (field_fault 7937 data_end 16 2)
+    ≡ gives [] (field_fault 7937 wrong.DataEnd 16 2)
 unfolding together gives fxy
 factor_data_end = refl
 
 -- rule: fault-34-before-33
 factor_past_the_width : together 2 (delayed (fxy 0 31 1) (element (fxy 0 1 1) bare) bare) (255 ∷ 5 ∷ [])
-    ≡ gives [] (field_fault 7937 increment 16 2)
+    ≡ gives [] (field_fault 7937 wrong.Increment 16 2)
 unfolding together gives fxy
 factor_past_the_width = refl
 
@@ -149,9 +149,9 @@ reference_together :
     (together 2 (operator (fxy 2 3 10) (element (fxy 0 12 101) (operator (fxy 2 3 255) (element (fxy 0 12 101) bare)))) (228 ∷ 0 ∷ 112 ∷ 143 ∷ 5 ∷ [])
     ≡ gives ((3173, shown_reference (negsuc 399) ∷ shown_reference (negsuc 399) ∷ []) ∷ (3173, shown_number (pos 28415) (pos 2) ∷ shown_missing ∷ []) ∷ []) (done 0 5))
     × (together 2 (operator (fxy 2 3 10) (element (fxy 0 12 101) bare)) (228 ∷ 1 ∷ [])
-    ≡ gives [] (field_fault 3173 increment 16 2))
+    ≡ gives [] (field_fault 3173 wrong.Increment 16 2))
     × (together 2 (operator (fxy 2 3 11) (element (fxy 0 12 101) bare)) (255 ∷ 255 ∷ [])
-    ≡ gives [] (field_fault 3173 data_end 16 2))
+    ≡ gives [] (field_fault 3173 wrong.DataEnd 16 2))
     × (together 2 (operator (fxy 2 3 10) (element (fxy 0 12 101) bare)) (255 ∷ 192 ∷ [])
     ≡ gives ((3173, shown_reference (negsuc 510) ∷ shown_reference (negsuc 510) ∷ []) ∷ []) (done 0 3))
 unfolding together gives fxy
@@ -205,9 +205,13 @@ alike_or_not = (alike, λ h. other (h 1 (omega arith)))
     alike (suc zero) below = refl
     alike (suc (suc j)) below = absurd (omega (arith, below))
 
+    raw_in : Content → ℕ
+    raw_in (number raw) = raw
+    raw_in _ = 0
+
     counts : List (Item Content) → ℕ
     counts [] = 0
-    counts (i ∷ items) = count_in i.content
+    counts (i ∷ items) = raw_in i.content
 
     other : items_between two_items 1 1 2 ≡ items_between two_items 0 1 2 → ⊥
     other e = let same : 3 ≡ 2 = ap counts e in omega (arith, same)

@@ -11,12 +11,14 @@ use Rattle.std.proofs.lemmas.Bool.Decides.{Decides-int_eq}
 use Rattle.std.proofs.lemmas.Slice.Eq.{bytes_eq-Decides}
 use Rattle.bufr_bits.specs.Prelude.{number_of, are_all_ones, bits_of, bits_at, ◌>>=◌}
 use Rattle.bufr_bits.proofs.BitLemmas.{number_of-below, are_all_ones-number}
-use Rattle.bufr_walk.specs.Prelude.{start_of, numbers, texts, Coding, coding_of, coding_by, content_by, step_of, sum_within, increased, all_there, contents_across, same, if_equal, are_valid, increments, ones, octets_in, packed_field, FieldSpec, IsSpec, HasRole, Content, number, text, missing, reference, content_in, answer_by_role, answer_first, FieldFault, increment, unequal_factor, FieldRead, found, data_end, is_reference, content_kept, contents_found, was_found, fits_at, Role, IndexedItem, content_at}
+use Rattle.bufr_walk.specs.Prelude.{start_of, numbers, texts, Coding, coding_of, coding_by, content_by, step_of, increased, all_there, contents_across, same, if_equal, are_valid, increments, ones, octets_in, packed_field, FieldSpec, IsSpec, HasRole, Content, number, text, missing, reference, content_in, answer_by_role, answer_first, FieldRead, found, is_reference, content_kept, contents_found, was_found, fits_at, Role, IndexedItem, content_at}
 use Rattle.bufr_bits.proofs.DecimalLemmas.{and_first, and_second}
-use Rattle.bufr_tables.specs.Prelude.{is_character}
+use Rattle.bufr_tables.specs.Prelude.{is_character, only_if}
 use Rattle.bufr_walk.proofs.PlainLemmas.{bits_length, ones_by_number, number_coding, text_coding}
 use Rattle.bufr_walk.specs.declared.spec.Role.TheVariants as role
 use Rattle.bufr_walk.specs.declared.spec.Taken.TheVariants as taken
+use Rattle.bufr_walk.specs.declared.fault.DataFault.{DataFault}
+use Rattle.bufr_walk.specs.declared.fault.DataFault.TheVariants as wrong
 
 -- The code computes the greatest w-bit number.
 pub all_ones : (w v : ℕ) → w ≡ v → v ≤ 63 → 1 * 2 ^ w % 18446744073709551616 - 1 ≡ 2 ^ v - 1
@@ -50,8 +52,9 @@ ones_same k i h = sym (ap (λ n. number_of i == ones n) (sym h) ∙ are_all_ones
 
 -- An increment is valid if the number may be missing and the base or the increment is all ones, or
 -- if the sum does not exceed the width.
-valid_by : (m full last past : Bool) (c : Content) → is_some (if m && (full || last) then Some missing else if past then None else Some c) ≡ (full && m || (m && last || not past))
-valid_by m full last past c = grind arith
+valid_by : (m full last whole past : Bool) (c : Content) → (whole ≡ true → past ≡ false)
+    → is_some (if m && (full || last || whole) then Some missing else if past then None else Some c) ≡ (full && m || (m && last || not past))
+valid_by m full last whole past c h = grind arith
 
 pub stays_here : (w k : ℕ) (m : Bool) (base i : List Bool) (low more : ℕ) (stays b : Bool) → length i ≡ k → low ≡ number_of base → more ≡ number_of i → (are_all_ones base && m) ≡ false
     → stays ≡ (m && (more == ones k) || not (nat_lt (ones w) (low + more))) → stays ≡ b → is_some (increased (numbers w m) k base i) ≡ b
@@ -61,13 +64,14 @@ stays_here w k m base i low more stays b long l r none is e = search (rules, one
 pub missing_valid : (w k n : ℕ) (m : Bool) (base suffix : List Bool) → (are_all_ones base && m) ≡ true → are_valid (numbers w m) k n base suffix ≡ true
 missing_valid w k zero m base suffix h = refl
 missing_valid w k (suc n) m base suffix h =
-    ap (λ b. b && are_valid (numbers w m) k n base (drop k suffix)) (one m (are_all_ones base) (are_all_ones (take k suffix)) (sum_within w m (number_of base + number_of (take k suffix))) h)
+    ap (λ b. b && are_valid (numbers w m) k n base (drop k suffix)) (one m (are_all_ones base) (are_all_ones (take k suffix)) (number_of base + number_of (take k suffix) == ones w)
+    (if nat_lt (ones w) (number_of base + number_of (take k suffix)) then None else Some (number (number_of base + number_of (take k suffix)))) h)
     ∙ missing_valid w k n m base (drop k suffix) h
   where
-    one : (m full last : Bool) (o : Option Content) → (full && m) ≡ true → is_some (if m && (full || last) then Some missing else o) ≡ true
-    one true true last o h = refl
-    one false true last o h = absurd cc
-    one m false last o h = absurd cc
+    one : (m full last whole : Bool) (o : Option Content) → (full && m) ≡ true → is_some (if m && (full || last || whole) then Some missing else o) ≡ true
+    one true true last whole o h = refl
+    one false true last whole o h = absurd cc
+    one m false last whole o h = absurd cc
 
 -- If the greatest increment fits, all increments are valid.
 pub all_fit : (w k n : ℕ) (m : Bool) (base suffix : List Bool) → number_of base + ones k ≤ ones w → are_valid (numbers w m) k n base suffix ≡ true
@@ -75,8 +79,7 @@ all_fit w k zero m base suffix h = refl
 all_fit w k (suc n) m base suffix h =
     let sum = number_of base + number_of (take k suffix) in
     let low : number_of (take k suffix) < 2 ^ k = below_pow k suffix in
-    ap (λ b. b && are_valid (numbers w m) k n base (drop k suffix)) (fits (m && (are_all_ones base || are_all_ones (take k suffix))) (nat_lt (ones w) sum)
-    (if m && (sum == ones w) then missing else number sum)
+    ap (λ b. b && are_valid (numbers w m) k n base (drop k suffix)) (fits (m && (are_all_ones base || are_all_ones (take k suffix) || sum == ones w)) (nat_lt (ones w) sum) (number sum)
     (le-ltb (ones w) sum (omega (arith, h, low))))
     ∙ all_fit w k n m base (drop k suffix) h
   where
@@ -185,10 +188,7 @@ copies_same : (c : Content) (n : ℕ) → list_all (same c) (replicate n c) ≡ 
 copies_same c zero = refl
 copies_same c (suc n) = cc (content_self c, copies_same c n)
 
-abbrev pub equal_or : Bool → List Content → Result (List Content) FieldFault
-equal_or b cs = if b then Ok cs else Err unequal_factor
-
-pub copies_equal : (r : Role) (c : Content) (n : ℕ) → if_equal r (replicate n c) ≡ Ok (replicate n c)
+pub copies_equal : (r : Role) (c : Content) (n : ℕ) → if_equal r (replicate n c) ≡ Some (replicate n c)
 copies_equal role.Factor c zero = refl
 copies_equal role.Factor c (suc n) = cc (copies_same c n)
 copies_equal role.Element c n = refl
@@ -196,14 +196,18 @@ copies_equal role.Inserted c n = refl
 copies_equal role.Reference c n = refl
 
 -- Contents that pass the test of a factor are unchanged.
-pub equal_is : (r : Role) (cs ds : List Content) → if_equal r cs ≡ Ok ds → cs ≡ ds
+pub equal_is : (r : Role) (cs ds : List Content) → if_equal r cs ≡ Some ds → cs ≡ ds
 equal_is r cs ds e = grind arith
 
+-- the content of a number that cannot be missing, given its sum
+abbrev sum_of : (width sum : ℕ) → Option Content
+sum_of width sum = if nat_lt (ones width) sum then None else Some (number sum)
+
 -- If a number cannot be missing, each content is the sum of the base and an increment.
-counts_are : (w base : ℕ) (is : List (List Bool)) (cs : List Content) → all_there (map (λ i. sum_within w false (base + number_of i)) is) ≡ Some cs → cs ≡ map (λ i. number (base + number_of i)) is
+counts_are : (w base : ℕ) (is : List (List Bool)) (cs : List Content) → all_there (map (λ i. sum_of w (base + number_of i)) is) ≡ Some cs → cs ≡ map (λ i. number (base + number_of i)) is
 counts_are w base [] cs e = cc
 counts_are w base (i ∷ is) cs e =
-    let t = next_there (sum_within w false (base + number_of i)) (map (λ i. sum_within w false (base + number_of i)) is) cs e in
+    let t = next_there (sum_of w (base + number_of i)) (map (λ i. sum_of w (base + number_of i)) is) cs e in
     sym t.4 ∙ ap (λ c. c ∷ t.1) (sym (sum_is (nat_lt (ones w) (base + number_of i)) t.0 t.2)) ∙ ap (λ ds. number (base + number_of i) ∷ ds) (counts_are w base is t.1 t.3)
   where
     sum_is : (past : Bool) (c : Content) → (if past then None else Some (number (base + number_of i))) ≡ Some c → number (base + number_of i) ≡ c
@@ -220,13 +224,13 @@ same_counts base first (i ∷ is) =
     ∙ ap (λ b. (number_of i == first) && b) (same_counts base first is)
 
 counts_equal : (base : ℕ) (i : List Bool) (is : List (List Bool))
-    → if_equal role.Factor (map (λ i. number (base + number_of i)) (i ∷ is)) ≡ equal_or (list_all (λ x. number_of x == number_of i) (i ∷ is)) (map (λ i. number (base + number_of i)) (i ∷ is))
+    → if_equal role.Factor (map (λ i. number (base + number_of i)) (i ∷ is)) ≡ only_if (list_all (λ x. number_of x == number_of i) (i ∷ is)) (map (λ i. number (base + number_of i)) (i ∷ is))
 counts_equal base i is = search (rules, same_counts, is_self)
 
 -- The counts of a factor are equal if its increments are, and its answer is the first count.
 pub factor_across : (a : FieldSpec) (k n : ℕ) (base suffix : List Bool) (cs : List Content) (low first : ℕ) → IsSpec a → a.role ≡ role.Factor → (k == 0) ≡ false → 1 ≤ n
     → contents_across (coding_of a) k n base suffix ≡ Some cs → low ≡ number_of base → first ≡ number_of (take k suffix)
-    → (if_equal a.role cs ≡ equal_or (list_all (λ i. number_of i == first) (increments n k suffix)) cs) × (taken.Count (low + first) ≡ answer_first a cs)
+    → (if_equal a.role cs ≡ only_if (list_all (λ i. number_of i == first) (increments n k suffix)) cs) × (taken.Count (low + first) ≡ answer_first a cs)
 factor_across a k zero base suffix cs low first good e nonzero some is l f = absurd (omega arith)
 factor_across a k (suc n) base suffix cs low first good e nonzero some is l f =
     let has : HasRole role.Factor a.kind a.may_be_missing = rw e at good.role in
@@ -235,28 +239,44 @@ factor_across a k (suc n) base suffix cs low first good e nonzero some is l f =
     let are : cs ≡ counts = counts_are a.width (number_of base) (increments (suc n) k suffix) cs
     (sym (ap (λ c. contents_across c k (suc n) base suffix) coding ∙ varied (numbers a.width false) k (suc n) base suffix nonzero) ∙ is) in (
       ap (λ r. if_equal r cs) e ∙ ap (if_equal role.Factor) are ∙ counts_equal (number_of base) (take k suffix) (increments n k (drop k suffix))
-          ∙ ap (λ x. equal_or (list_all (λ i. number_of i == x) (increments (suc n) k suffix)) counts) (sym f)
-          ∙ ap (equal_or (list_all (λ i. number_of i == first) (increments (suc n) k suffix))) (sym are),
+          ∙ ap (λ x. only_if (list_all (λ i. number_of i == x) (increments (suc n) k suffix)) counts) (sym f)
+          ∙ ap (only_if (list_all (λ i. number_of i == first) (increments (suc n) k suffix))) (sym are),
       ap (λ x. taken.Count (x + first)) l ∙ ap (λ x. taken.Count (number_of base + x)) f ∙ ap (λ r. answer_by_role r (number (number_of base + (number_of (take k suffix))))) (sym e)
           ∙ ap (answer_first a) (sym are),
     )
 
 -- ---- An item of compressed data, given its parts.
 
-abbrev pub item_by : Role → (ends : Bool) → Option (List Content) → List Bool → Result (FieldRead (List Content)) FieldFault
-item_by r ends contents suffix = if ends then Err data_end else (ok_or contents increment >>= λ x. (if_equal r x >>= λ y. Ok (found y suffix)))
+abbrev pub item_by : (fxy : ℕ) → Role → (ends : Bool) → Option (List Content) → List Bool → Result (FieldRead (List Content)) DataFault
+item_by fxy r ends contents suffix =
+    if ends then Err (wrong.DataEnd fxy) else (ok_or contents (wrong.Increment fxy) >>= λ x. ok_or (if_equal r x) (wrong.UnequalFactor fxy) >>= λ y. Ok (found y suffix))
+
+-- The fault is `DataEnd`, `Increment` or `UnequalFactor`.
+abbrev pub IsOfItem : DataFault → Type 0
+IsOfItem (wrong.TooManyValues fxy) = ⊥
+IsOfItem wrong.Memory = ⊥
+IsOfItem e = Unit {0}
+
+pub of_item : (fxy : ℕ) (r : Role) (ends : Bool) (contents : Option (List Content)) (suffix : List Bool) (e : DataFault) → item_by fxy r ends contents suffix ≡ Err e → IsOfItem e
+of_item fxy r true contents suffix e is = grind arith
+of_item fxy r false None suffix e is = grind arith
+of_item fxy r false (Some x) suffix e is = by (if_equal r x) is
+  where
+    by : (o : Option (List Content)) → (ok_or o (wrong.UnequalFactor fxy) >>= λ y. Ok (found y suffix)) ≡ Err e → IsOfItem e
+    by None is = grind arith
+    by (Some y) is = cc is
 
 -- If an item is read, its bits are present, and its contents are valid.
-pub item_parts : (r : Role) (ends : Bool) (c : Option (List Content)) (suffix : List Bool) (ds : List Content) (mid : List Bool) → item_by r ends c suffix ≡ Ok (found ds mid)
-    → (ends ≡ false) × (c ≡ Some ds) × (if_equal r ds ≡ Ok ds) × (suffix ≡ mid)
-item_parts r ends c suffix ds mid e = search rules
+pub item_parts : (fxy : ℕ) (r : Role) (ends : Bool) (c : Option (List Content)) (suffix : List Bool) (ds : List Content) (mid : List Bool) → item_by fxy r ends c suffix ≡ Ok (found ds mid)
+    → (ends ≡ false) × (c ≡ Some ds) × (if_equal r ds ≡ Some ds) × (suffix ≡ mid)
+item_parts fxy r ends c suffix ds mid e = search rules
 
 -- The item at this bit is inside the data and has these contents.
 pub record IsAt (bits : List Bool) (at n : ℕ) (a : FieldSpec) (k : ℕ) (cs : List Content) : Type 0 where
   pub within : at + (a.width + 6 + n * step_of (coding_of a) k) ≤ length bits
   pub are : contents_across (coding_of a) k n (take a.width (drop at bits)) (drop (at + (a.width + 6)) bits) ≡ Some cs
 
-found_by : (r : Result (FieldRead (List Content)) FieldFault) → was_found r ≡ true → (mid : List Bool) × (r ≡ Ok (found (contents_found r) mid))
+found_by : (r : Result (FieldRead (List Content)) DataFault) → was_found r ≡ true → (mid : List Bool) × (r ≡ Ok (found (contents_found r) mid))
 found_by (Ok f) h = (f.suffix, refl)
 found_by (Err why) h = absurd cc
 
@@ -272,7 +292,7 @@ parts bits at n a k h is =
     let read = number_of (take 6 (drop a.width here)) in
     let suffix = drop (a.width + 6) here in
     let there = found_by (packed_field n a here) h in
-    let t = item_parts a.role (nat_lt (length here) (a.width + 6) || nat_lt (length suffix) (n * step_of c read)) (contents_across c read n (take a.width here) suffix)
+    let t = item_parts a.fxy a.role (nat_lt (length here) (a.width + 6) || nat_lt (length suffix) (n * step_of c read)) (contents_across c read n (take a.width here) suffix)
     (drop (n * step_of c read) suffix)
     (contents_found (packed_field n a here)) there.0 there.1 in
     grind (arith, common_steps)

@@ -3,7 +3,7 @@ use Rattle.std.proofs.lemmas.Grind.{common_steps}
 use Rattle.std.proofs.Common.{◌≡◌, ℕ, ◌+◌, ◌-◌, ◌*◌, ◌^◌, ◌<◌, ◌≤◌, false, Bool, List, length, drop, refl, sym, ◌∙◌, ap, arith, ◌&&◌, true, take, ◌==◌, ◌||◌, nat_lt, if◌then◌else◌, Option, Some, None, rules}
 use Rattle.std.proofs.lemmas.Bool.{eqb-true, ne_eqb}
 use Rattle.bufr_bits.specs.Prelude.{bits_of, number_of, are_all_ones, bits_at}
-use Rattle.bufr_walk.specs.Prelude.{start_of, numbers, increased, sum_within, Content, number, missing, is_reference, ones, content_kept, fits_at, IndexedItem}
+use Rattle.bufr_walk.specs.Prelude.{start_of, numbers, increased, Content, number, missing, is_reference, ones, content_kept, fits_at, IndexedItem}
 use Rattle.bufr_tables.specs.Prelude.{is_character}
 use Rattle.std.proofs.lemmas.Bool.Decides.{nat_tests}
 use Rattle.bufr_walk.proofs.PackedLemmas.{base_content, kept_base, kept_ones, kept_parts, number_content, number_within, ones_same, some_same}
@@ -42,7 +42,7 @@ base_number octets n e j h none below k r not = by e.spec.may_be_missing refl (e
 -- whether the base and the increment are all ones, whether the sum exceeds the width, and whether
 -- it is all ones.
 abbrev sum_by : (m full last past whole : Bool) → Content → Option Content
-sum_by m full last past whole x = if m && (full || last) then Some missing else if past then None else Some (if m && whole then missing else x)
+sum_by m full last past whole x = if m && (full || last || whole) then Some missing else if past then None else Some x
 
 last_is : (full past whole : Bool) (x c : Content) → sum_by true full true past whole x ≡ Some c → missing ≡ c
 last_is true past whole x c e = some_same missing c e
@@ -67,8 +67,11 @@ module _ (w k b i : ℕ) (m : Bool) (base incr : List Bool) (c : Content) (low :
   by_tests =
       ap (λ x. sum_by m (x == ones w) (i == ones k) (nat_lt (ones w) (x + i)) (x + i == ones w) (number (x + i))) low
       ∙ ap (λ x. sum_by m (number_of base == ones w) (x == ones k) (nat_lt (ones w) (number_of base + x)) (number_of base + x == ones w) (number (number_of base + x))) more
-      ∙ ap (λ x. if m && (x || (number_of incr == ones k)) then Some missing else sum_within w m (number_of base + number_of incr)) (sym (ones_same w base wide))
-      ∙ ap (λ x. if m && (are_all_ones base || x) then Some missing else sum_within w m (number_of base + number_of incr)) (sym (ones_same k incr long)) ∙ is
+      ∙ ap (λ x. sum_by m x (number_of incr == ones k) (nat_lt (ones w) (number_of base + number_of incr)) (number_of base + number_of incr == ones w) (number (number_of base + number_of incr)))
+      (sym (ones_same w base wide))
+      ∙ ap (λ x. sum_by m (are_all_ones base) x (nat_lt (ones w) (number_of base + number_of incr)) (number_of base + number_of incr == ones w) (number (number_of base + number_of incr)))
+      (sym (ones_same k incr long))
+      ∙ is
 
   sum_last : m ≡ true → i ≡ ones k → missing ≡ c
   sum_last e last = grind (arith, common_steps, nat_tests, last_is, by_tests)

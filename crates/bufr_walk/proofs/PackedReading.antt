@@ -2,18 +2,18 @@
 use Rattle.bufr_walk.proofs.PassLemmas.{Stops, runs_short}
 use Rattle.bufr_walk.proofs.WalkPass.{Comes, IsStep, stopped_passes, whole_passes, item}
 use Rattle.std.proofs.lemmas.Grind.{common_steps}
-use Rattle.std.proofs.Common.{option_map, ◌≡◌, ℕ, ◌+◌, ◌*◌, ◌<◌, ◌≤◌, Bool, true, false, List, length, take, drop, Ok, Err, sym, ◌∙◌, ap, arith, suc, ◌++◌, ◌∷◌, [], refl, zero, Result, subst, inl, inr, ◌-◌, Option, Some, None, ◌%◌, nat_lt, ◌||◌, ◌==◌, if◌then◌else◌, length-append, rules}
+use Rattle.std.proofs.Common.{option_map, ◌≡◌, ℕ, ◌+◌, ◌*◌, ◌<◌, ◌≤◌, Bool, true, false, List, length, take, drop, Ok, Err, sym, ◌∙◌, ap, arith, suc, ◌++◌, ◌∷◌, [], refl, zero, Result, subst, inl, inr, ◌-◌, Option, Some, None, ◌%◌, nat_lt, ◌||◌, ◌==◌, if◌then◌else◌, length-append, rules, ok_or}
 use Rattle.std.proofs.lemmas.Bool.{le-ltb, lt-ltb}
 use Rattle.std.proofs.lemmas.List.{length-drop, drop-drop}
 use Rattle.bufr_bits.specs.Prelude.{number_of, ◌>>=◌}
 use Rattle.bufr_tables.specs.Prelude.{is_character, Row, Tree}
 use Rattle.bufr_walk.specs.declared.compressed.ItemBits.{ItemBits}
 use Rattle.bufr_walk.specs.declared.fault.DataFault.{DataFault}
-use Rattle.bufr_walk.specs.Prelude.{start_of, FieldSpec, data_end, FieldFault, increment, unequal_factor, Content, FieldRead, found, step_of, coding_of, contents_across, if_equal, answer_first, packed_field, IsSeen, IsUnseen, IsStoredReading, PackedCursor, item_at, items_at, contents_found, fits_at, packed_view, IsPackedTaken, wrong_of, PackedTakes, remaining_bits, new_packed_in, fault_at, IndexedItem, max_values, items_at_once, Item, packed, Data, fault_at, bits_before, KeepsValues, Stop, would_be_many, data_in, data_of, read_by, WalkStop, Next, take_next, ticked, Walked, CountedCourse, uncounted, counted_item, answers_in, Course, Taken, items_in, items_of_subset, subsets_from, view, turns_in}
+use Rattle.bufr_walk.specs.Prelude.{start_of, FieldSpec, Content, FieldRead, found, step_of, coding_of, contents_across, if_equal, answer_first, packed_field, IsSeen, IsUnseen, IsStoredReading, PackedCursor, item_at, items_at, contents_found, fits_at, packed_view, IsPackedTaken, PackedTakes, remaining_bits, new_packed_in, fault_at, IndexedItem, max_values, items_at_once, Item, packed, Data, fault_at, bits_before, KeepsValues, Stop, would_be_many, data_in, data_of, read_by, WalkStop, Next, take_next, ticked, Walked, CountedCourse, uncounted, counted_item, answers_in, Course, Taken, items_in, items_of_subset, subsets_from, view, turns_in}
 use Rattle.std.specs.List.{list_all}
 use Rattle.std.proofs.Math.Nat.{mul-le-mul_left}
 use Rattle.bufr_frame.specs.Prelude.{Sections}
-use Rattle.bufr_walk.proofs.PackedLemmas.{item_by}
+use Rattle.bufr_walk.proofs.PackedLemmas.{item_by, IsOfItem, of_item}
 use Rattle.bufr_walk.specs.declared.fault.DataFault.TheVariants as wrong
 use Rattle.bufr_walk.specs.declared.walker.WalkStop.TheVariants as stops
 use Rattle.bufr_walk.specs.declared.reading.StoredItems.TheVariants as kept
@@ -39,9 +39,10 @@ module _ (bits : List Bool) (at n : ℕ) (a : FieldSpec) where
   across k = contents_across (coding_of a) k n (take a.width (drop at bits)) (drop (at + (a.width + 6)) bits)
 
   -- the item from its parts, given k
-  abbrev by_parts : (k : ℕ) (suffix : List Bool) → Result (FieldRead (List Content)) FieldFault
+  abbrev by_parts : (k : ℕ) (suffix : List Bool) → Result (FieldRead (List Content)) DataFault
   by_parts k suffix =
-      item_by a.role (nat_lt (length (drop at bits)) (a.width + 6) || nat_lt (length suffix) (n * step_of (coding_of a) k)) (contents_across (coding_of a) k n (take a.width (drop at bits)) suffix)
+      item_by a.fxy a.role (nat_lt (length (drop at bits)) (a.width + 6) || nat_lt (length suffix) (n * step_of (coding_of a) k))
+      (contents_across (coding_of a) k n (take a.width (drop at bits)) suffix)
       (drop (n * step_of (coding_of a) k) suffix)
 
   field_is : (k : ℕ) → k ≡ number_of (take 6 (drop (at + a.width) bits)) → packed_field n a (drop at bits) ≡ by_parts k (drop (at + (a.width + 6)) bits)
@@ -49,11 +50,7 @@ module _ (bits : List Bool) (at n : ℕ) (a : FieldSpec) where
 
   -- The data end before the increments of the item.
   pub ends_first : (f : ℕ) → f ≡ a.fxy → at ≤ length bits → length bits < at + (a.width + 6) → IsUnseen bits at n a (wrong.DataEnd f)
-  ends_first f g within short = record {
-    why = data_end;
-    field = rw (lt-ltb (length (drop at bits)) (a.width + 6) (omega (arith, length-drop at bits))) refl;
-    fault = ap wrong.DataEnd g;
-  }
+  ends_first f g within short = rw (lt-ltb (length (drop at bits)) (a.width + 6) (omega (arith, length-drop at bits)), g) refl
 
   pub ends_after : (k size f : ℕ) → f ≡ a.fxy → at + (a.width + 6) ≤ length bits → length bits < at + size → k ≡ number_of (take 6 (drop (at + a.width) bits))
       → size ≡ a.width + 6 + n * step_of (coding_of a) k → IsUnseen bits at n a (wrong.DataEnd f)
@@ -61,7 +58,7 @@ module _ (bits : List Bool) (at n : ℕ) (a : FieldSpec) where
 
   -- If all bits of the item are present, only its contents can be invalid.
   whole : (k size : ℕ) → at + size ≤ length bits → k ≡ number_of (take 6 (drop (at + a.width) bits)) → size ≡ a.width + 6 + n * step_of (coding_of a) k
-      → packed_field n a (drop at bits) ≡ item_by a.role false (across k) (drop (at + size) bits)
+      → packed_field n a (drop at bits) ≡ item_by a.fxy a.role false (across k) (drop (at + size) bits)
   whole k size within is size_is =
       let suffix = drop (at + (a.width + 6)) bits in
       let s = step_of (coding_of a) k in
@@ -72,22 +69,20 @@ module _ (bits : List Bool) (at n : ℕ) (a : FieldSpec) where
 
   pub seen_here : (seen : ItemBits) (size : ℕ) (cs : List Content) → 1 ≤ a.width → seen.end ≡ at + size → at + size ≤ length bits
       → seen.step ≡ number_of (take 6 (drop (at + a.width) bits)) → size ≡ a.width + 6 + n * step_of (coding_of a) seen.step
-      → across seen.step ≡ Some cs → if_equal a.role cs ≡ Ok cs → seen.answer ≡ answer_first a cs
+      → across seen.step ≡ Some cs → if_equal a.role cs ≡ Some cs → seen.answer ≡ answer_first a cs
       → (is_character a.kind ≡ false → seen.base ≡ number_of (take a.width (drop at bits))) → IsSeen bits at n a seen
   seen_here seen size cs some end_is within is size_is are equal gives based = grind (arith, common_steps, whole, item_by)
 
   pub invalid_here : (k size f : ℕ) → f ≡ a.fxy → at + size ≤ length bits → k ≡ number_of (take 6 (drop (at + a.width) bits)) → size ≡ a.width + 6 + n * step_of (coding_of a) k
       → across k ≡ None → IsUnseen bits at n a (wrong.Increment f)
   invalid_here k size f g within is size_is none =
-      record { why = increment; field = whole k size within is size_is ∙ ap (λ o. item_by a.role false o (drop (at + size) bits)) none; fault = ap wrong.Increment g }
+      whole k size within is size_is ∙ ap (λ o. item_by a.fxy a.role false o (drop (at + size) bits)) none ∙ ap (λ x. Err (wrong.Increment x)) (sym g)
 
   pub unequal_here : (k size f : ℕ) (cs : List Content) → f ≡ a.fxy → at + size ≤ length bits → k ≡ number_of (take 6 (drop (at + a.width) bits)) → size ≡ a.width + 6 + n * step_of (coding_of a) k
-      → across k ≡ Some cs → if_equal a.role cs ≡ Err unequal_factor → IsUnseen bits at n a (wrong.UnequalFactor f)
-  unequal_here k size f cs g within is size_is are differ = record {
-    why = unequal_factor;
-    field = whole k size within is size_is ∙ ap (λ o. item_by a.role false o (drop (at + size) bits)) are ∙ ap (λ r. r >>= λ y. Ok (found y (drop (at + size) bits))) differ;
-    fault = ap wrong.UnequalFactor g;
-  }
+      → across k ≡ Some cs → if_equal a.role cs ≡ None → IsUnseen bits at n a (wrong.UnequalFactor f)
+  unequal_here k size f cs g within is size_is are differ =
+      whole k size within is size_is ∙ ap (λ o. item_by a.fxy a.role false o (drop (at + size) bits)) are
+      ∙ ap (λ o. ok_or o (wrong.UnequalFactor a.fxy) >>= λ y. Ok (found y (drop (at + size) bits))) differ ∙ ap (λ x. Err (wrong.UnequalFactor x)) (sym g)
 
 -- The size of an item depends only on its parts.
 pub size_same : (x w y n z s : ℕ) → x ≡ w → y ≡ n → z ≡ s → x + 6 + y * z ≡ w + 6 + n * s
@@ -133,13 +128,14 @@ few_here bits n kept len from f g few = search (rules, length-items_at)
 -- The call fails because the item is invalid.
 pub fault_here : (s : PackedCursor) (a : FieldSpec) (bits : List Bool) (at n : ℕ) (kept : List IndexedItem) (e : DataFault) → s ≡ packed_view bits at n kept
     → (length (items_at bits n kept) + 1) * n ≤ max_values → IsUnseen bits at n a e → PackedTakes s a (Err e) s
-fault_here s a bits at n kept e view few h = subst (λ x. PackedTakes x a (Err e) x) (sym view)
-    (subst (λ w. PackedTakes (packed_view bits at n kept) a (Err w) (packed_view bits at n kept)) (sym h.fault) (by h.why h.field))
+fault_here s a bits at n kept e view few h = subst (λ x. PackedTakes x a (Err e) x) (sym view) (by e (of_item a.fxy a.role _ _ _ e h) h)
   where
-    by : (why : FieldFault) → packed_field n a (drop at bits) ≡ Err why → PackedTakes (packed_view bits at n kept) a (Err (wrong_of a.fxy why)) (packed_view bits at n kept)
-    by data_end f = (record { why = data_end; field = f; fault = refl }, refl, few)
-    by increment f = (record { why = increment; field = f; fault = refl }, refl, few)
-    by unequal_factor f = (record { why = unequal_factor; field = f; fault = refl }, refl, few)
+    by : (e : DataFault) → IsOfItem e → packed_field n a (drop at bits) ≡ Err e → PackedTakes (packed_view bits at n kept) a (Err e) (packed_view bits at n kept)
+    by (wrong.DataEnd f) own h = (h, refl, few)
+    by (wrong.Increment f) own h = (h, refl, few)
+    by (wrong.UnequalFactor f) own h = (h, refl, few)
+    by (wrong.TooManyValues f) own h = absurd own
+    by wrong.Memory own h = absurd own
 
 -- The call fails because memory for more items ran out.
 pub no_room : (s : PackedCursor) (a : FieldSpec) (bits : List Bool) (at n : ℕ) (kept kept' : List IndexedItem) (e : DataFault) → packed_view bits at n kept ≡ s → kept' ≡ kept → e ≡ wrong.Memory
@@ -167,7 +163,7 @@ module _ (n : ℕ) (bits : List Bool) (xs : List (Item (List Content))) (s : Pac
   stepped : (b : Bool) → would_be_many n (length xs) ≡ b → (reading (packed n) (would_be_many n)).step spec p ≡ step_if n spec (place_at (length xs) (remaining_bits s)) b
   stepped b e = cc (m.place)
 
-  read_here : (r : Result (FieldRead (List Content)) FieldFault) → (length s.items + 1) * s.subsets ≤ max_values → packed_field s.subsets spec (remaining_bits s) ≡ r
+  read_here : (r : Result (FieldRead (List Content)) DataFault) → (length s.items + 1) * s.subsets ≤ max_values → packed_field s.subsets spec (remaining_bits s) ≡ r
       → (reading (packed n) (would_be_many n)).step spec p ≡ read_field (packed n) spec (length xs) r
   read_here r few e = search (rules, stepped, le-ltb, values)
 
@@ -203,7 +199,7 @@ packed_fails n bits xs s p spec e s' m h = by e h
     moved e = rw e m
 
     unseen : (e : DataFault) → IsUnseen s.bits s.at s.subsets spec e → s' ≡ s → (length s.items + 1) * s.subsets ≤ max_values → PackedFails n bits xs p (take_next spec) (stops.Field e) s'
-    unseen e u same few = (moved same, inl (read_here n bits xs s spec p m (Err u.why) few u.field ∙ ap (λ x. Err (stops.Field x)) (sym u.fault)))
+    unseen e u same few = (moved same, inl (read_here n bits xs s spec p m (Err e) few u))
 
     by : (e : DataFault) → PackedTakes s spec (Err e) s' → PackedFails n bits xs p (take_next spec) (stops.Field e) s'
     by (wrong.TooManyValues fxy) h = (

@@ -3,7 +3,7 @@ use Rattle.bufr_walk.proofs.WalkPass.{Passes, passes_none, passes_one, pass_ends
 use Rattle.std.proofs.lemmas.Bool.{ltb-false, le-ltb}
 use Rattle.std.proofs.Common.{◌≡◌, ℕ, zero, suc, ◌+◌, ◌<◌, ◌≤◌, Bool, true, false, List, ◌∷◌, length, Option, Some, None, Result, Ok, Err, ◌*◌, refl, sym, ◌∙◌, ap, subst, arith, drop, length-drop, if◌then◌else◌, [], ◌⊎◌, ◌++◌}
 use Rattle.bufr_tables.specs.Prelude.{Row, Tree, IsLegal}
-use Rattle.bufr_walk.specs.Prelude.{FieldSpec, FieldFault, FieldRead, found, Course, Next, take_next, at_end, astray, refused, next_item, Item, DataCoding, plain, packed, answers_in, after, ReadsItems, Data, Stop, would_be_many, max_values, wrong_of, stop_by, Taken, CountedCourse, uncounted, turns_in, fault_at}
+use Rattle.bufr_walk.specs.Prelude.{FieldSpec, FieldRead, found, Course, Next, take_next, at_end, astray, refused, next_item, Item, DataCoding, plain, packed, answers_in, after, ReadsItems, Data, Stop, would_be_many, max_values, stop_by, Taken, CountedCourse, uncounted, turns_in, fault_at}
 use Rattle.bufr_walk.specs.declared.walker.WalkStop.TheVariants as stops
 use Rattle.bufr_walk.specs.declared.spec.Role.TheVariants as role
 use Rattle.bufr_walk.specs.declared.fault.WalkFault.TheVariants as fault
@@ -15,6 +15,7 @@ use Rattle.std.proofs.lemmas.List.{drop-drop}
 use Rattle.bufr_walk.proofs.CourseLemmas.{IsSane, Forth, plain_forth, packed_forth, template_sane}
 use Rattle.bufr_walk.proofs.NextField.{AreRead, row_found}
 use Rattle.std.specs.Prelude.{is_none}
+use Rattle.bufr_walk.specs.declared.fault.DataFault.{DataFault}
 
 none_more : (a : ℕ) → a + 0 ≡ a
 none_more a = omega arith
@@ -99,13 +100,13 @@ module _ {C : Type 0} (form : DataCoding C) (many : ℕ → Bool) where
           ≡ (if b then Err (stops.Field (wrong.TooManyValues spec.fxy)) else read_field form spec from (form.field spec bits))
       stepped spec b m = ap (λ b. if b then Err (stops.Field (wrong.TooManyValues spec.fxy)) else read_field form spec from (form.field spec bits)) m
 
-      at_field : (spec : FieldSpec) → course [] ≡ take_next spec → (b : Bool) → many from ≡ b → (r : Result (FieldRead C) FieldFault) → form.field spec bits ≡ r
+      at_field : (spec : FieldSpec) → course [] ≡ take_next spec → (b : Bool) → many from ≡ b → (r : Result (FieldRead C) DataFault) → form.field spec bits ≡ r
           → ((c : Course) (bs : List Bool) → IsSane n c → length bs < n → ReadsSo c (from + 1) bs (pass (reading form many) n c (place_at (from + 1) bs)))
           → ReadsSo course from bits (pass_field (reading form many) spec (place_at from bits)
           (if b then Err (stops.Field (wrong.TooManyValues spec.fxy)) else read_field form spec from r)
           (λ f. pass (reading form many) n (λ answers. course (f.returned ∷ answers)) f.state))
       at_field spec e true m r q go = at_once (take_next spec) e (Some (stops.Field (wrong.TooManyValues spec.fxy))) (stepped spec true m)
-      at_field spec e false m (Err why) q go = at_once (take_next spec) e (Some (stops.Field (wrong_of spec.fxy why))) (stepped spec false m ∙ ap (read_field form spec from) q)
+      at_field spec e false m (Err why) q go = at_once (take_next spec) e (Some (stops.Field why)) (stepped spec false m ∙ ap (read_field form spec from) q)
       at_field spec e false m (Ok f) q go =
           let k = sane.1 spec e in
           let w = forth spec bits f.content f.suffix k.0 q in
@@ -128,7 +129,7 @@ pub pass_at_end : {C : Type 0} (form : DataCoding C) (many : ℕ → Bool) (most
 pass_at_end form many zero course p h = absurd cc
 pass_at_end {C} form many (suc most) course p h = by (course []) refl (λ t q. pass_at_end form many most (λ answers. course (t ∷ answers)) q) h
   where
-    at_field : (spec : FieldSpec) (b : Bool) (r : Result (FieldRead C) FieldFault)
+    at_field : (spec : FieldSpec) (b : Bool) (r : Result (FieldRead C) DataFault)
         → ((t : Taken) (q : Place) → (let r = pass (reading form many) most (λ answers. course (t ∷ answers)) q in r.stop ≡ None → course (t ∷ answers_in form.gives r.items) ≡ at_end))
         → (let q = pass_field (reading form many) spec p (if b then Err (stops.Field (wrong.TooManyValues spec.fxy)) else read_field form spec p.items r)
         (λ f. pass (reading form many) most (λ answers. course (f.returned ∷ answers)) f.state) in

@@ -9,7 +9,7 @@ use Rattle.bufr_bits.proofs.BitLemmas.{length-bits_of, length-bits_at, are_all_o
 use Rattle.bufr_tables.specs.Prelude.{is_character}
 use Rattle.std.proofs.Common.{◌&&◌}
 use Rattle.bufr_walk.specs.Prelude.{number, uncounted, counted_item, PaysBits}
-use Rattle.bufr_walk.specs.Prelude.{plain, Kind, Taken, Role, is_reference, FieldSpec, IsSpec, HasRole, HasWidth, answer_of, content_in, signed_by, plain_field, data_end, octets_in, Cursor, rest_of, past, IsTaken, data_in, data_of, read_by, Read, course_of, max_values, IsStoredReading, coding_of, numbers, texts, missing, text, reference}
+use Rattle.bufr_walk.specs.Prelude.{plain, Kind, Taken, Role, is_reference, FieldSpec, IsSpec, HasRole, HasWidth, answer_of, content_in, signed_by, plain_field, octets_in, Cursor, rest_of, past, IsTaken, data_in, data_of, read_by, Read, course_of, max_values, IsStoredReading, coding_of, numbers, texts, missing, text, reference}
 use Rattle.bufr_walk.specs.Pass.{passes_apart, stop_of, ReadsData, AnswersReading, reading_of}
 use Rattle.bufr_frame.specs.Prelude.{Sections}
 use Rattle.bufr_tables.specs.Prelude.{Row, Tree}
@@ -17,6 +17,7 @@ use Rattle.bufr_tables.specs.declared.table_b.Kind.TheVariants as kind
 use Rattle.bufr_walk.specs.declared.spec.Role.TheVariants as role
 use Rattle.bufr_walk.specs.declared.spec.Taken.TheVariants as taken
 use Rattle.bufr_walk.specs.declared.reading.StoredItems.TheVariants as kept
+use Rattle.bufr_walk.specs.declared.fault.DataFault.TheVariants as wrong
 
 pub numeric_width : (k : Kind) (w : ℕ) → k ≡ kind.Numeric → HasWidth k w → w ≤ 63
 numeric_width kind.Character w e h = absurd cc
@@ -102,7 +103,7 @@ pub taken_here : (s : Cursor) (octets : List ℕ) (spec : FieldSpec) (t : Taken)
 taken_here s octets spec t e h within is = search (rules, some_width, le-ltb, length-drop, length-bits_of, drop-drop)
 
 pub ends_here : (s : Cursor) (octets : List ℕ) (spec : FieldSpec) → s.bits ≡ bits_of octets → 8 * length octets < s.at + spec.width → s.at ≤ 8 * length octets
-    → plain_field spec (rest_of s) ≡ Err data_end
+    → plain_field spec (rest_of s) ≡ Err (wrong.DataEnd spec.fxy)
 ends_here s octets spec e short within = search (rules, length-drop, length-bits_of)
 
 pub bits_length : (octets : List ℕ) → length (bits_of octets) ≡ 8 * length octets

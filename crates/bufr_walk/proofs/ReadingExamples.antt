@@ -3,11 +3,12 @@ use Rattle.bufr_walk.specs.Pass.{reading_in}
 use Rattle.std.proofs.Common.{◌≡◌, ℕ, zero, suc, true, false, map, List, [], ◌∷◌, pos, negsuc, refl, None}
 use Rattle.bufr_bits.specs.Prelude.{bits_of}
 use Rattle.bufr_tables.specs.Prelude.{Tree, bare, element, operator, delayed}
-use Rattle.bufr_walk.specs.Prelude.{FieldSpec, Content, number, text, missing, reference, same, shown_number, shown_text, shown_missing, shown_reference, data_end, increment, unequal_factor, next_item, Item, apart}
+use Rattle.bufr_walk.specs.Prelude.{FieldSpec, Content, number, text, missing, reference, same, shown_number, shown_text, shown_missing, shown_reference, next_item, Item, apart}
 use Rattle.bufr_walk.proofs.ExampleTables.{fxy, table, done, walk_fault, field_fault, one, together, gives}
 use Rattle.bufr_tables.specs.declared.table_b.Kind.TheVariants as kind
 use Rattle.bufr_walk.specs.declared.spec.TurnRefusal.TheVariants as refusal
 use Rattle.bufr_walk.specs.declared.spec.Role.TheVariants as role
+use Rattle.bufr_walk.specs.declared.fault.DataFault.TheVariants as wrong
 
 -- Two contents are the same if they have the same kind and the same value.
 contents_compared : map (λ c. same c (number 2)) (number 2 ∷ number 3 ∷ missing ∷ []) ≡ true ∷ false ∷ false ∷ []
@@ -42,7 +43,7 @@ delayed_twice = (refl, refl)
 -- The data end at bit 22 of 24.
 -- rule: field-past-end
 delayed_past_the_end : one delayed_blocks (255 ∷ 20 ∷ 44 ∷ []) ≡ gives ((7937, shown_number (pos 255) (pos 0)) ∷ (257, shown_number (pos 10) (pos 0)) ∷ (257, shown_number (pos 11) (pos 0)) ∷ [])
-    (field_fault 257 data_end 2 7)
+    (field_fault 257 wrong.DataEnd 2 7)
 unfolding one gives delayed_blocks
 delayed_past_the_end = refl
 
@@ -126,12 +127,12 @@ unfolding together gives fxy zeros spaces
 compressed_name = (refl, refl)
 
 -- rule: compressed-factors
-factors_differ : together 2 delayed_blocks (1 ∷ 5 ∷ []) ≡ gives [] (field_fault 7937 unequal_factor 16 2)
+factors_differ : together 2 delayed_blocks (1 ∷ 5 ∷ []) ≡ gives [] (field_fault 7937 wrong.UnequalFactor 16 2)
 unfolding together gives delayed_blocks
 factors_differ = refl
 
 -- rule: compressed-past-width
-increment_past_the_width : together 2 (element (fxy 0 1 1) bare) (252 ∷ 17 ∷ 0 ∷ []) ≡ gives [] (field_fault 257 increment 24 1)
+increment_past_the_width : together 2 (element (fxy 0 1 1) bare) (252 ∷ 17 ∷ 0 ∷ []) ≡ gives [] (field_fault 257 wrong.Increment 24 1)
 unfolding together gives fxy
 increment_past_the_width = refl
 
@@ -212,17 +213,17 @@ unfolding together gives fxy
 sum_never_missing = refl
 
 -- In class 31, a sum past the width is still a fault.
-sum_past_the_width : together 2 (element (fxy 0 31 21) bare) (248 ∷ 40 ∷ []) ≡ gives [] (field_fault 7957 increment 16 1)
+sum_past_the_width : together 2 (element (fxy 0 31 21) bare) (248 ∷ 40 ∷ []) ≡ gives [] (field_fault 7957 wrong.Increment 16 1)
 unfolding together gives fxy
 sum_past_the_width = refl
 
 -- The value of k exceeds the length of the text.
-octets_past_the_text : together 2 (operator (fxy 2 5 1) bare) (0 ∷ 8 ∷ 0 ∷ 0 ∷ 0 ∷ 0 ∷ []) ≡ gives [] (field_fault 34049 increment 48 1)
+octets_past_the_text : together 2 (operator (fxy 2 5 1) bare) (0 ∷ 8 ∷ 0 ∷ 0 ∷ 0 ∷ 0 ∷ []) ≡ gives [] (field_fault 34049 wrong.Increment 48 1)
 unfolding together gives fxy
 octets_past_the_text = refl
 
 -- The end of the data is reported first.
-octets_past_the_end : together 2 (operator (fxy 2 5 1) bare) (0 ∷ 8 ∷ []) ≡ gives [] (field_fault 34049 data_end 16 1)
+octets_past_the_end : together 2 (operator (fxy 2 5 1) bare) (0 ∷ 8 ∷ []) ≡ gives [] (field_fault 34049 wrong.DataEnd 16 1)
 unfolding together gives fxy
 octets_past_the_end = refl
 
@@ -239,7 +240,7 @@ unfolding together gives fxy
 reference_together = refl
 
 -- rule: compressed-references
-reference_with_increments : together 2 (operator (fxy 2 3 10) (element (fxy 0 12 101) bare)) (228 ∷ 1 ∷ []) ≡ gives [] (field_fault 3173 increment 16 2)
+reference_with_increments : together 2 (operator (fxy 2 3 10) (element (fxy 0 12 101) bare)) (228 ∷ 1 ∷ []) ≡ gives [] (field_fault 3173 wrong.Increment 16 2)
 unfolding together gives fxy
 reference_with_increments = refl
 

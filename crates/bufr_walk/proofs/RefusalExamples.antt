@@ -3,7 +3,7 @@
 use Rattle.std.proofs.Common.{◌≡◌, ◌==◌, ℕ, List, [], ◌∷◌, if◌then◌else◌, map, replicate, pos, Result, Ok, Err, Some, refl}
 use Rattle.bufr_bits.specs.Prelude.{bits_of}
 use Rattle.bufr_tables.specs.Prelude.{Tree, bare, element, operator, fixed, delayed, f_of}
-use Rattle.bufr_walk.specs.Prelude.{Taken, TurnRefusal, Stop, Next, take_next, at_end, astray, refused, next_item, shown_number, shown_text, shown_missing, data_end, increment, unequal_factor, packed, reading, would_be_many, place_at, EndsPass}
+use Rattle.bufr_walk.specs.Prelude.{Taken, TurnRefusal, Stop, Next, take_next, at_end, astray, refused, next_item, shown_number, shown_text, shown_missing, packed, reading, would_be_many, place_at, EndsPass}
 use Rattle.bufr_walk.specs.declared.spec.TurnRefusal.TheVariants as refusal
 use Rattle.bufr_walk.specs.declared.spec.Taken.TheVariants as taken
 use Rattle.bufr_walk.specs.declared.walker.WalkStop.TheVariants as stops
@@ -131,7 +131,7 @@ one_bit_short :
     (one (chain (fxy 0 31 0 ∷ fxy 0 1 1 ∷ [])) (10 ∷ [])
     ≡ gives ((7936, shown_number (pos 0) (pos 0)) ∷ (257, shown_number (pos 10) (pos 0)) ∷ []) (done 0 3))
     × (one (chain (fxy 0 31 0 ∷ fxy 0 31 0 ∷ fxy 0 1 1 ∷ [])) (128 ∷ [])
-    ≡ gives ((7936, shown_number (pos 1) (pos 0)) ∷ (7936, shown_number (pos 0) (pos 0)) ∷ []) (field_fault 257 data_end 6 3))
+    ≡ gives ((7936, shown_number (pos 1) (pos 0)) ∷ (7936, shown_number (pos 0) (pos 0)) ∷ []) (field_fault 257 wrong.DataEnd 6 3))
 unfolding one gives chain fxy
 one_bit_short = (refl, refl)
 
@@ -140,9 +140,9 @@ one_bit_short = (refl, refl)
 -- rule: field-past-end, 2-08-y, 2-05-y
 one_octet_short :
     (one (chain (fxy 2 8 255 ∷ fxy 0 1 15 ∷ [])) (replicate 255 65) ≡ gives ((271, shown_text (replicate 255 65)) ∷ []) (done 0 3))
-    × (one (chain (fxy 2 8 255 ∷ fxy 0 1 15 ∷ [])) (replicate 254 65) ≡ gives [] (field_fault 271 data_end 2032 2))
+    × (one (chain (fxy 2 8 255 ∷ fxy 0 1 15 ∷ [])) (replicate 254 65) ≡ gives [] (field_fault 271 wrong.DataEnd 2032 2))
     × (one (chain (fxy 2 5 255 ∷ [])) (replicate 255 65) ≡ gives ((34303, shown_text (replicate 255 65)) ∷ []) (done 0 2))
-    × (one (chain (fxy 2 5 255 ∷ [])) (replicate 254 65) ≡ gives [] (field_fault 34303 data_end 2032 1))
+    × (one (chain (fxy 2 5 255 ∷ [])) (replicate 254 65) ≡ gives [] (field_fault 34303 wrong.DataEnd 2032 1))
 unfolding one gives chain fxy
 one_octet_short = (refl, refl, refl, refl)
 
@@ -151,7 +151,7 @@ one_octet_short = (refl, refl, refl, refl)
 one_bit_of_an_increment_short :
     (together 3 (chain (fxy 0 1 1 ∷ [])) (20 ∷ 8 ∷ [])
     ≡ gives ((257, shown_number (pos 10) (pos 0) ∷ shown_number (pos 10) (pos 0) ∷ shown_number (pos 10) (pos 0) ∷ []) ∷ []) (done 0 2))
-    × (together 2 (chain (fxy 0 1 1 ∷ [])) (20 ∷ 16 ∷ []) ≡ gives [] (field_fault 257 data_end 16 1))
+    × (together 2 (chain (fxy 0 1 1 ∷ [])) (20 ∷ 16 ∷ []) ≡ gives [] (field_fault 257 wrong.DataEnd 16 1))
 unfolding together gives chain fxy
 one_bit_of_an_increment_short = (refl, refl)
 
@@ -162,8 +162,8 @@ one_bit_of_an_increment_short = (refl, refl)
 -- rule: compressed-text-past-width, compressed-factors
 increments_refused :
     (together 1 (chain (fxy 2 5 2 ∷ [])) (0 ∷ 0 ∷ 9 ∷ 5 ∷ 8 ∷ []) ≡ gives ((34050, shown_text (65 ∷ 66 ∷ []) ∷ []) ∷ []) (done 2 2))
-    × (together 1 (chain (fxy 2 5 2 ∷ [])) (0 ∷ 0 ∷ 13 ∷ 5 ∷ 8 ∷ 0 ∷ []) ≡ gives [] (field_fault 34050 increment 48 1))
-    × (together 3 (delayed (fxy 0 31 1) (element (fxy 0 1 1) bare) bare) (1 ∷ 4 ∷ 128 ∷ []) ≡ gives [] (field_fault 7937 unequal_factor 24 2))
+    × (together 1 (chain (fxy 2 5 2 ∷ [])) (0 ∷ 0 ∷ 13 ∷ 5 ∷ 8 ∷ 0 ∷ []) ≡ gives [] (field_fault 34050 wrong.Increment 48 1))
+    × (together 3 (delayed (fxy 0 31 1) (element (fxy 0 1 1) bare) bare) (1 ∷ 4 ∷ 128 ∷ []) ≡ gives [] (field_fault 7937 wrong.UnequalFactor 24 2))
 unfolding together gives chain fxy
 increments_refused = (refl, refl, refl)
 
@@ -218,6 +218,6 @@ too_many_is_before_the_fields = (refl, refl, refl, refl, refl, refl)
 -- the width.
 -- rule: fault-30-before-34, fault-34-before-33
 faults_of_a_factor : map (λ octets. together 2 (delayed (fxy 0 31 1) (element (fxy 0 1 1) bare) bare) octets) ((1 ∷ 5 ∷ []) ∷ (255 ∷ 5 ∷ []) ∷ (255 ∷ 9 ∷ []) ∷ [])
-    ≡ map (λ why. gives [] (field_fault 7937 why 16 2)) (unequal_factor ∷ increment ∷ data_end ∷ [])
+    ≡ map (λ why. gives [] (field_fault 7937 why 16 2)) (wrong.UnequalFactor ∷ wrong.Increment ∷ wrong.DataEnd ∷ [])
 unfolding together gives fxy
 faults_of_a_factor = refl

@@ -6,7 +6,7 @@ use Rattle.bufr_walk.proofs.WalkPass.{Comes, IsStep, item, stopped_passes, whole
 use Rattle.std.proofs.lemmas.Grind.{common_steps}
 use Rattle.std.proofs.Common.{suc, None, Option, append_assoc, ◌≡◌, ℕ, ◌+◌, ◌<◌, ◌≤◌, false, Bool, List, ◌∷◌, ◌++◌, length, Some, refl, sym, ◌∙◌, ap, subst, arith, ◌/◌, ◌&&◌, true, ◌⊎◌, inl, inr, take, Result, Ok, Err, ℤ, pos, ◌+ℤ◌, ◌-◌, [], rules}
 use Rattle.bufr_bits.specs.Prelude.{number_of, are_all_ones}
-use Rattle.bufr_walk.specs.Prelude.{Kind, Content, answer_of, content_in, octets_in, signed_by, shown_number, shown_text, shown_missing, shown_reference, shown, FieldFault, FieldRead, found, plain_field, FieldSpec, IsSpec, HasRole, is_reference, IsFor, is_plain, IsPlainNumber, Next, take_next, ticked, Walked, Stop, Item, plain, answers_in, turns_in, Read, course_of, IsStoredReading, Cursor, rest_of, past, IsTaken, Stage, stage, IsShown, IsUnshown, ShowingTakes, Sofar, ItemsGo, ShowFault, Role, Taken, WalkStop, Call, item_call, view_of, Timed, timed, item_calls, Shows, EndsAt, IsReferenceValue, subset_call, subset_calls, stop_by, CountedCourse, uncounted, after, counted_course_of, IsAllShown, same}
+use Rattle.bufr_walk.specs.Prelude.{Kind, Content, answer_of, content_in, octets_in, signed_by, shown_number, shown_text, shown_missing, shown_reference, shown, FieldRead, found, plain_field, FieldSpec, IsSpec, HasRole, is_reference, IsFor, is_plain, IsPlainNumber, Next, take_next, ticked, Walked, Stop, Item, plain, answers_in, turns_in, Read, course_of, IsStoredReading, Cursor, rest_of, past, IsTaken, Stage, stage, IsShown, IsUnshown, ShowingTakes, Sofar, ItemsGo, ShowFault, Role, Taken, WalkStop, Call, item_call, view_of, Timed, timed, item_calls, Shows, EndsAt, IsReferenceValue, subset_call, subset_calls, stop_by, CountedCourse, uncounted, after, counted_course_of, IsAllShown, same}
 use Rattle.bufr_tables.specs.Prelude.{Row, is_character}
 use Rattle.bufr_walk.specs.declared.plain.ShowStop.{ShowStop}
 use Rattle.std.proofs.lemmas.Bool.Decides.{nat_tests}
@@ -22,8 +22,9 @@ use Rattle.std.proofs.lemmas.List.{map-append, append-nil}
 use Rattle.bufr_walk.specs.Pass.{DataPass, read_pass, passes_apart, stop_of, calls_of, turns_shown, EndsPass, Place, Step, read_field}
 use Rattle.bufr_walk.specs.Readers.{items_by_pass, place_at}
 use Rattle.bufr_walk.specs.declared.reading.StoredItems.TheVariants as kept
+use Rattle.bufr_walk.specs.declared.fault.DataFault.{DataFault}
 
-same_found : (a b : FieldRead Content) → ◌≡◌ {A = Result (FieldRead Content) FieldFault} (Ok a) (Ok b) → a ≡ b
+same_found : (a b : FieldRead Content) → ◌≡◌ {A = Result (FieldRead Content) DataFault} (Ok a) (Ok b) → a ≡ b
 same_found a b e = cc
 
 -- The content of a field that was read is that of its bits.

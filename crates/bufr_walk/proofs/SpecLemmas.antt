@@ -6,19 +6,31 @@ use Rattle.std.proofs.lemmas.List.{drop_more}
 use Rattle.std.proofs.lemmas.Int.{unsigned_abs-mul}
 use Rattle.std.proofs.Math.Nat.{mul-le-mul_left, mul-le-mul_right, pow-le-pow_right}
 use Rattle.std.proofs.lemmas.Bool.Decides.{nat_tests}
-use Rattle.bufr_tables.specs.Prelude.{x_of, y_of, is_legal_operator, has_legal_operand, is_inserted_text, is_character}
+use Rattle.bufr_tables.specs.Prelude.{x_of, y_of, is_legal_operator, has_legal_operand, is_inserted_text, is_character, Row}
 use Rattle.std.specs.Ordering.{nat_cmp, is_eq, match_ordering}
 use Rattle.std.specs.declared.cmp.Ordering.TheVariants.{Less, Equal, Greater}
 use Rattle.std.specs.BTreeMap.{insert_entry, is_at}
 use Rattle.std.specs.Map.{lookup}
 use Rattle.std.specs.Option.{unwrap_or}
 use Rattle.std.specs.Cmp.{unsigned_tied}
-use Rattle.bufr_walk.specs.Prelude.{Kind, Redefined, current_reference, redefined, with_reference, with_all, last_of, known_by, text_spec, Role, FieldSpec, IsSpec, HasWidth, HasRole, HasMissing, is_reference, number_field}
+use Rattle.bufr_walk.specs.Prelude.{Kind, Redefined, current_reference, redefined, with_reference, with_all, last_of, known_by, text_spec, Role, FieldSpec, IsSpec, HasWidth, HasRole, HasMissing, is_reference, number_field, OperatorModel, is_defining, new_reference_spec, spec_by_kind, if_valid_width, factor_field}
 use Rattle.bufr_tables.specs.declared.table_b.Kind.TheVariants as kind
 use Rattle.bufr_walk.specs.declared.references.NewReference.{NewReference}
 use Rattle.bufr_walk.specs.declared.spec.NumberParts.{NumberParts}
 use Rattle.bufr_walk.specs.declared.spec.Role.TheVariants as role
+use Rattle.bufr_walk.specs.declared.spec.TurnRefusal.TheVariants as refusal
+use Rattle.bufr_walk.specs.declared.spec.TurnRefusal.{TurnRefusal}
+use Rattle.bufr_bits.specs.Prelude.{◌>>=◌}
+use Rattle.std.specs.Prelude.{Option, Result, ok_or}
 use Rattle.bufr_walk.proofs.PlainLemmas.{is_reference_role, numeric_width}
+
+-- the spec of an element that does not follow 2 06 Y, given its row
+abbrev pub listed_by : Option Row → OperatorModel → ℕ → Result FieldSpec TurnRefusal
+listed_by o s fxy = ok_or o (refusal.Width fxy) >>= λ row. if is_defining s then new_reference_spec row.kind s fxy else spec_by_kind row.kind s row
+
+-- the spec of a factor, given its row
+abbrev pub factor_by : Option Row → ℕ → Result FieldSpec TurnRefusal
+factor_by o fxy = ok_or o (refusal.Width fxy) >>= λ row. if_valid_width (factor_field row fxy)
 
 number_width : (k : Kind) (w : ℕ) → is_character k ≡ false → 1 ≤ w → w ≤ 63 → HasWidth k w
 number_width kind.Character w e some most = absurd cc

@@ -2,7 +2,7 @@
 use Rattle.std.proofs.lemmas.Grind.{common_steps}
 use Rattle.std.proofs.Common.{◌≡◌, ℕ, ◌+◌, List, [], ◌∷◌, ◌++◌, Result, refl, sym, ◌∙◌, ap, subst, zero-add, add_assoc, arith, ◌*◌, append-nil, true, false, Option, Some, None, Ok, Err, zero, suc, ◌-◌, ◌^◌, ◌<◌, length, drop, get_or, add-zero, ◌≤◌, length-append, rules}
 use Rattle.bufr_tables.specs.Prelude.{Row, entry_of, x_of, Tree, delayed, is_inserted_text, bare, element, operator, fixed, size, depth, is_legal_operator, cells_of, AreCellsOf, IsLegal}
-use Rattle.bufr_walk.specs.Prelude.{Kind, Taken, Course, next_item, FieldSpec, IsFor, IsForRole, is_reference, OperatorModel, after_field, after_operator, is_defining, element_spec, factor_spec, inserted_spec, if_valid_width, spec_by_kind, new_reference_spec, numeric_spec, coded_spec, unsigned_field, begin, Rest, counts_of, finish, open_end, operator_turn, unroll, passes, turns_of, counts_in, at_end, refused, TakenField, Takes, oks, answers_of, StopsWalk, ticked, Walked, TakesField, stop_by, WalkStop, Role, TurnRefusal, Next, take_next, NextTurn, CountedCourse, uncounted, counted_item}
+use Rattle.bufr_walk.specs.Prelude.{Kind, Taken, Course, next_item, FieldSpec, IsFor, IsForRole, is_reference, OperatorModel, after_field, after_operator, is_defining, element_spec, factor_spec, inserted_spec, if_valid_width, spec_by_kind, new_reference_spec, numeric_spec, coded_spec, unsigned_field, begin, Rest, counts_of, finish, open_end, operator_turn, unroll, passes, turns_of, at_end, refused, TakenField, Takes, oks, answers_of, StopsWalk, ticked, Walked, TakesField, stop_by, WalkStop, Role, TurnRefusal, Next, take_next, NextTurn, CountedCourse, uncounted, counted_item}
 use Rattle.bufr_walk.proofs.WalkProgress.{later, in_one_turn, counted_ahead, counted_asked, counted_operated, WalkGoes, Stops, HasWalked, StopsIn, course, tail_of, costs, owed, OpenGroup, frames_of, turns_after_pass, AllGroupsFit, IsAtNodes, IsAtCell, weight, Turned}
 use Rattle.std.proofs.lemmas.List.{drop-drop}
 use Rattle.bufr_tables.specs.declared.template.Cell.{Cell}
@@ -105,8 +105,8 @@ pub stop_cases : {S E : Type 0} (takes : S → FieldSpec → Result Taken E → 
 stop_cases takes P s s' field short refusal next why h = grind arith
 
 -- A field that is not a factor returns no count.
-pub no_count : (r : Role) (t : Taken) (counts : List ℕ) → (r ≡ role.Factor → ⊥) → IsForRole r t → counts_in t counts ≡ counts
-no_count r t counts n h = grind arith
+pub no_count : (r : Role) (t : Taken) (more : List Taken) → (r ≡ role.Factor → ⊥) → IsForRole r t → counts_of (t ∷ more) ≡ counts_of more
+no_count r t more n h = grind arith
 
 -- The field is not a factor.
 NoFactor : FieldSpec → Type 0
@@ -156,7 +156,7 @@ module _ {S E : Type 0} (takes : S → FieldSpec → Result Taken E → S → Ty
   came_field over left fxy s f c r t f' c' asks none took tick =
       let k = took_ok r f t f' took in
       let spec : FieldSpec = k.0 in
-      let plain : (counts : List ℕ) → counts_in t counts ≡ counts = search (rules, no_count) in
+      let plain : (more : List Taken) → counts_of (t ∷ more) ≡ counts_of more = search (rules, no_count) in
       record {
         turns = 1;
         ticks = tick;
@@ -164,9 +164,9 @@ module _ {S E : Type 0} (takes : S → FieldSpec → Result Taken E → S → Ty
           items = record { spec = spec; taken = t } ∷ [];
           taken = (f', ap (λ a. a.next) (asks rest [] [] ∙ ap (λ q. counted_asked q (λ u more. counted_ahead table (left rest []) (after_field s fxy u) more) []) k.1), k.2, refl);
           leads = λ more.
-              asks rest (counts_in t (counts_of more)) (t ∷ more)
-              ∙ ap (λ q. counted_asked q (λ u later_answer. counted_ahead table (left rest (counts_in t (counts_of more))) (after_field s fxy u) later_answer) (t ∷ more)) k.1
-              ∙ ap (λ counts. later 1 (counted_ahead table (left rest counts) (after_field s fxy t) more)) (plain (counts_of more));
+              asks rest (counts_of (t ∷ more)) (t ∷ more)
+              ∙ ap (λ q. counted_asked q (λ u later_answer. counted_ahead table (left rest (counts_of (t ∷ more))) (after_field s fxy u) later_answer) (t ∷ more)) k.1
+              ∙ ap (λ counts. later 1 (counted_ahead table (left rest counts) (after_field s fxy t) more)) (plain more);
         };
       }
 

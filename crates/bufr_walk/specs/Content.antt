@@ -9,7 +9,9 @@ use Rattle.bufr_walk.specs.declared.spec.Taken.{Taken}
 pub use Rattle.bufr_tables.specs.declared.table_b.Kind.{Kind}
 pub use Rattle.bufr_walk.specs.declared.spec.Role.{Role}
 pub use Rattle.bufr_walk.specs.declared.spec.Taken.{Taken}
-use Rattle.bufr_tables.specs.Prelude.{is_character}
+use Rattle.bufr_tables.specs.Prelude.{is_character, only_if}
+use Rattle.bufr_walk.specs.declared.fault.DataFault.{DataFault}
+use Rattle.bufr_walk.specs.declared.fault.DataFault.TheVariants as data_fault
 use Rattle.bufr_walk.specs.declared.spec.NumberParts.{NumberParts}
 use Rattle.bufr_tables.specs.declared.table_b.Kind.TheVariants as kind
 use Rattle.bufr_walk.specs.declared.spec.Role.TheVariants as role
@@ -28,10 +30,10 @@ pub record FieldSpec : Type 0 where
   pub width : ℕ
   pub scale : ℤ
   pub reference : ℤ
-  -- whether a number is missing if all its bits are ones (a string always is)
+  -- whether a number is missing if all its bits are ones (a string with such bits always is)
   pub may_be_missing : Bool
-  -- whether the field is read according to its row in Table B, in which case a dump shows the row's
-  -- name and unit
+  -- whether the field contains the value of an element in Table B, so that a dump shows its name and
+  -- unit (false if 2 06 Y specifies a width other than that of the element)
   pub listed : Bool
 
 -- The data width is valid for a field of the given kind. A text field is a whole number of octets
@@ -197,20 +199,15 @@ bits_for width (text octets) = bits_of octets
 bits_for width missing = replicate width true
 bits_for width (reference value) = sign_bit value ∷ bits_in (nat_abs value) (width - 1)
 
--- the count in a replication factor, whose content is always a number
-abbrev pub count_in : Content → ℕ
-count_in (number raw) = raw
-count_in _ = 0
-
-abbrev pub reference_in : Content → ℤ
-reference_in (reference value) = value
-reference_in _ = pos 0
-
--- the answer of a field with the given role and content
+-- the answer of a field with the given role and content; a replication factor always contains a
+-- number, and a field that redefines a reference value always contains a reference value, so the
+-- equations that return 0 never apply
 abbrev pub answer_by_role : Role → Content → Taken
-answer_by_role role.Factor c = taken.Count (count_in c)
-answer_by_role role.Reference c = taken.Reference (reference_in c)
-answer_by_role _ c = taken.Plain
+answer_by_role role.Factor (number raw) = taken.Count raw
+answer_by_role role.Factor _ = taken.Count 0
+answer_by_role role.Reference (reference value) = taken.Reference value
+answer_by_role role.Reference _ = taken.Reference (pos 0)
+answer_by_role _ _ = taken.Plain
 
 abbrev pub answer_of : FieldSpec → Content → Taken
 answer_of spec c = answer_by_role spec.role c
@@ -233,13 +230,6 @@ shown spec (reference value) = shown_reference value
 
 -- ---- One field of plain data.
 
--- The reason why a field cannot be read. The data end inside the field (fault 30), an increment is
--- invalid (fault 34), or a replication factor differs between subsets (fault 33).
-pub data FieldFault : Type 0 where
-  data_end : FieldFault
-  increment : FieldFault
-  unequal_factor : FieldFault
-
 -- the content of a field that was read, and the bits after the field
 pub record FieldRead (C : Type 0) : Type 0 where
   pub content : C
@@ -248,11 +238,11 @@ pub record FieldRead (C : Type 0) : Type 0 where
 abbrev pub found : {C : Type 0} → C → List Bool → FieldRead C
 found content suffix = record { content = content; suffix = suffix }
 
--- the field at the beginning of the given plain data, or a fault if the data end inside the field
+-- the field at the beginning of the given plain data, or fault 30 if the data end inside the field
 -- rule: field-past-end
-abbrev pub plain_field : FieldSpec → List Bool → Result (FieldRead Content) FieldFault
+abbrev pub plain_field : FieldSpec → List Bool → Result (FieldRead Content) DataFault
 plain_field spec bits =
-    if nat_lt (length bits) spec.width then Err data_end
+    if nat_lt (length bits) spec.width then Err (data_fault.DataEnd spec.fxy)
     else Ok (found (content_in spec (take spec.width bits)) (drop spec.width bits))
 
 -- ---- One item of compressed data. An item consists of a base (the minimum value), a six-bit
@@ -274,29 +264,22 @@ step_of (numbers width m) k = k
 step_of (texts octets) k = 8 * k
 step_of references k = 0
 
--- The content whose raw value is the sum of a base and an increment, or `None` if the sum does not
--- fit in the data width. If `may_be_missing` is true and all bits of the sum are ones, the number
--- is missing (our choice).
+-- The content of an item with increments (k > 0) in one subset, or `None` if the increment is
+-- invalid (fault 34). A number that may be missing is missing if all bits of its base (our choice),
+-- of its increment, or of the sum of both (our choice) are ones. Otherwise, it is the sum, which
+-- must fit in the data width. A string consists of the k octets of its increment, followed by
+-- spaces (our choice). It is missing if all k octets are 255, and invalid if k exceeds the field's
+-- length in octets (both our choice). The base of a string is ignored (our choice). A redefined
+-- reference value must not have increments (our choice).
 -- rule: compressed-past-width, compressed-class-31, compressed-sum-of-ones
-abbrev pub sum_within : (width : ℕ) → (may_be_missing : Bool) → (sum : ℕ) → Option Content
-sum_within width m sum =
-    if nat_lt (ones width) sum then None
-    else Some (if m && (sum == ones width) then missing else number sum)
-
--- The content of an item with increments (k > 0) in one subset. The result is `None` if the
--- increment is invalid (fault 34). If a number may be missing and all bits of its base or increment
--- are ones, it is missing. Any other number is the sum of its base and its increment. A string
--- consists of the k octets of its increment, followed by spaces (our choice). The string is missing
--- if all k octets are 255, and invalid if k exceeds the string's length (both our choice). A
--- string's base is ignored (our choice). A redefined reference value must not have increments (our
--- choice).
 -- rule: compressed-all-missing, compressed-missing-increment, compressed-text
 -- rule: compressed-text-missing, compressed-text-past-width, compressed-text-base
 -- rule: compressed-references
 abbrev pub increased : Coding → (k : ℕ) → (base increment : List Bool) → Option Content
 increased (numbers width m) k base i =
-    if m && (are_all_ones base || are_all_ones i) then Some missing
-    else sum_within width m (number_of base + number_of i)
+    let sum = number_of base + number_of i in
+    if m && (are_all_ones base || are_all_ones i || sum == ones width) then Some missing
+    else if nat_lt (ones width) sum then None else Some (number sum)
 increased (texts octets) k base i =
     if nat_lt octets k then None
     else Some (if are_all_ones i then missing
@@ -325,29 +308,29 @@ same missing missing = true
 same (reference a) (reference b) = int_eq a b
 same _ _ = false
 
--- the content of an item in each subset, or a fault if the item is a replication factor that
--- differs between subsets (our choice)
+-- the content of an item in each subset, or `None` if the item is a replication factor that differs
+-- between subsets (fault 33; our choice)
 -- rule: compressed-factors
-abbrev pub if_equal : Role → List Content → Result (List Content) FieldFault
-if_equal role.Factor (c ∷ cs) =
-    if list_all (same c) cs then Ok (c ∷ cs) else Err unequal_factor
-if_equal _ cs = Ok cs
+abbrev pub if_equal : Role → List Content → Option (List Content)
+if_equal role.Factor (c ∷ cs) = only_if (list_all (same c) cs) (c ∷ cs)
+if_equal _ cs = Some cs
 
 -- The first item in compressed data with n subsets, or its fault (30, 34 or 33, checked in this
 -- order). An item consists of a base, six bits for k and, if k is not 0, n increments.
 -- rule: compressed-item, compressed-increments-there, fault-30-before-34, fault-34-before-33
 abbrev pub packed_field : (subsets : ℕ) → FieldSpec → List Bool
-    → Result (FieldRead (List Content)) FieldFault
+    → Result (FieldRead (List Content)) DataFault
 packed_field n spec bits =
     let c = coding_of spec in
     let base = take spec.width bits in
     let k = number_of (take 6 (drop spec.width bits)) in
     let suffix = drop (spec.width + 6) bits in
     let used = n * step_of c k in
-    if nat_lt (length bits) (spec.width + 6) || nat_lt (length suffix) used then Err data_end
+    if nat_lt (length bits) (spec.width + 6) || nat_lt (length suffix) used
+    then Err (data_fault.DataEnd spec.fxy)
     else do
-      contents ← ok_or (contents_across c k n base suffix) increment
-      equal ← if_equal spec.role contents
+      contents ← ok_or (contents_across c k n base suffix) (data_fault.Increment spec.fxy)
+      equal ← ok_or (if_equal spec.role contents) (data_fault.UnequalFactor spec.fxy)
       Ok (found equal (drop used suffix))
 
 -- the answer of an item, taken from the first subset because replication factors and redefined

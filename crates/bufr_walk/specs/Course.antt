@@ -33,8 +33,9 @@ abbrev pub Rest : Type 0
 Rest = List ℕ → Turns
 
 -- The steps of n passes over the body of a group, followed by the steps of `rest`. Each pass
--- consists of the steps of the body, followed by `pass_end`. `counts` contains the known counts for
--- the passes, followed by those for `rest`.
+-- consists of the steps of the body, followed by `pass_end`; `body after` gives the steps of the
+-- body, followed by those of `after`. `counts` contains the known counts for the passes, followed
+-- by those for `rest`.
 -- rule: passes-by-count
 abbrev pub passes : ℕ → (Rest → Rest) → Rest → Rest
 passes zero body rest counts = rest counts
@@ -56,16 +57,11 @@ unroll (delayed fxy body more) rest (n ∷ counts) =
 abbrev pub turns_of : Tree → Rest
 turns_of template = unroll template (λ _. finish)
 
--- the given counts, preceded by the field's count if the field is a replication factor
-abbrev pub counts_in : Taken → List ℕ → List ℕ
-counts_in taken.Plain counts = counts
-counts_in (taken.Count n) counts = n ∷ counts
-counts_in (taken.Reference r) counts = counts
-
 -- the counts of the preceding replication factors, given the answers of all preceding fields
 abbrev pub counts_of : List Taken → List ℕ
 counts_of [] = []
-counts_of (t ∷ answers) = counts_in t (counts_of answers)
+counts_of (taken.Count n ∷ answers) = n ∷ counts_of answers
+counts_of (_ ∷ answers) = counts_of answers
 
 -- what comes next in a walk (a field to read or write, the end of the template, or a refused step)
 pub data Next : Type 0 where

@@ -3,16 +3,17 @@
 -- faults is our choice).
 -- Cited by public contracts.
 use Rattle.std.specs.Prelude.{ℕ, zero, suc, ◌+◌, ◌-◌, Bool, true, false, List, [], ◌∷◌, length, Result, Ok, Err, Option, Some, None, option_map, map, get_or, if◌then◌else◌, ◌≡◌, ◌<◌, ◌++◌, ◌%◌, ◌⊎◌, ◌==◌, is_none, is_some}
-use Rattle.bufr_walk.specs.Content.{Taken, FieldSpec, Content, FieldFault, FieldRead, answer_of, answer_first}
+use Rattle.bufr_walk.specs.Content.{Taken, FieldSpec, Content, FieldRead, answer_of, answer_first}
 use Rattle.bufr_walk.specs.Rules.{TurnRefusal}
 use Rattle.bufr_walk.specs.Course.{stop_by, Course, Next, take_next, at_end, astray, refused}
 use Rattle.bufr_walk.specs.Steps.{CountedCourse, uncounted, counted_item, ticked}
 use Rattle.bufr_walk.specs.declared.fault.WalkFault.TheVariants as walk_fault
 use Rattle.bufr_walk.specs.declared.fault.DataFault.TheVariants as data_fault
 use Rattle.bufr_walk.specs.declared.walker.WalkStop.TheVariants as stops
-use Rattle.bufr_walk.specs.Reading.{DataCoding, plain, packed, would_be_many, Data, Stop, wrong_of, WalkFault, fault_at, Item, Values, apart, together, Read, course_of, Timed, calls_for, turns_for, PackedValues, answers_in, turns_in, items_at_once, ReadsItems}
+use Rattle.bufr_walk.specs.Reading.{DataCoding, plain, packed, would_be_many, Data, Stop, WalkFault, fault_at, Item, Values, apart, together, Read, course_of, Timed, calls_for, turns_for, PackedValues, answers_in, turns_in, items_at_once, ReadsItems}
 use Rattle.bufr_walk.specs.declared.spec.Role.TheVariants as role
 use Rattle.bufr_tables.specs.Prelude.{Row, Tree}
+use Rattle.bufr_walk.specs.declared.fault.DataFault.{DataFault}
 
 -- ---- A pass that reads or writes fields.
 
@@ -92,8 +93,8 @@ pub record Place : Type 0 where
 
 -- the item that was read from a field, or the reason for stopping if the field cannot be read
 abbrev pub read_field : {C : Type 0} → DataCoding C → FieldSpec → (items : ℕ)
-    → Result (FieldRead C) FieldFault → Result (Step Place C) Stop
-read_field coding spec items (Err why) = Err (stops.Field (wrong_of spec.fxy why))
+    → Result (FieldRead C) DataFault → Result (Step Place C) Stop
+read_field coding spec items (Err why) = Err (stops.Field why)
 read_field coding spec items (Ok f) = Ok (record {
   content = f.content;
   returned = coding.gives spec f.content;

@@ -1,8 +1,8 @@
 -- Only contracts need this file. How the code reads and shows plain and compressed data, and what
 -- it stores when it reads a message.
 use Rattle.std.specs.Prelude.{ℕ, ◌≡◌, ◌≤◌, ◌+◌, Bool, List, drop, Result, Ok, Err, ◌++◌, ◌<◌, ◌*◌, ◌^◌, ◌%◌, ◌==◌, ◌&&◌, ◌||◌, true, false, [], ◌∷◌, length, take, ◌/◌, ◌-◌, map, get_or, is_some, Option, None}
-use Rattle.bufr_walk.specs.Content.{Taken, missing, ShownValue, Coding, step_of, increments, increased, FieldSpec, Content, answer_of, plain_field, found, data_end, FieldFault, FieldRead, packed_field, answer_first}
-use Rattle.bufr_walk.specs.Reading.{wrong_of, Item, plain, answers_in, Read, course_of, max_values, items_at_once, Data, Values, apart, together, each_subset, ShowFault, Call, item_call, view_of, Timed, item_calls, Shows, View, PackedValues}
+use Rattle.bufr_walk.specs.Content.{Taken, missing, ShownValue, Coding, step_of, increments, increased, FieldSpec, Content, answer_of, plain_field, found, FieldRead, packed_field, answer_first}
+use Rattle.bufr_walk.specs.Reading.{Item, plain, answers_in, Read, course_of, max_values, items_at_once, Data, Values, apart, together, each_subset, ShowFault, Call, item_call, view_of, Timed, item_calls, Shows, View, PackedValues}
 use Rattle.bufr_walk.specs.Pass.{DataPass, Place, read_pass, reading_of, values_read}
 use Rattle.bufr_walk.specs.Steps.{CountedCourse, uncounted, ticked}
 use Rattle.std.proofs.Common.{ap}
@@ -72,8 +72,7 @@ pub record IsTaken (s : Cursor) (spec : FieldSpec) (t : Taken) (s' : Cursor) : T
 -- A call read a field or failed because the data end too early. A call that fails changes nothing.
 abbrev pub PlainTakes : Cursor → FieldSpec → Result Taken DataFault → Cursor → Type 0
 PlainTakes s spec (Ok t) s' = IsTaken s spec t s'
-PlainTakes s spec (Err e) s' =
-    (plain_field spec (rest_of s) ≡ Err data_end) × (e ≡ data_fault.DataEnd spec.fxy) × (s' ≡ s)
+PlainTakes s spec (Err e) s' = (plain_field spec (rest_of s) ≡ Err e) × (s' ≡ s)
 
 -- the state while items are being shown (the reader, the visitor, Table B, and the ghost names of
 -- the reader and the visitor)
@@ -111,7 +110,7 @@ abbrev pub ShowingTakes : {V E : Type 0} → (V → Call → Result (Unit {0}) E
     → FieldSpec → Result Taken (ShowStop E) → Stage V → Type 0
 ShowingTakes sees s spec (Ok t) s' = IsShown sees s spec t s'
 ShowingTakes sees s spec (Err show_stop.DataEnd) s' =
-    (plain_field spec (rest_of s.cursor) ≡ Err data_end) × (s' ≡ s)
+    (plain_field spec (rest_of s.cursor) ≡ Err (data_fault.DataEnd spec.fxy)) × (s' ≡ s)
 ShowingTakes sees s spec (Err (show_stop.Visitor e)) s' = IsUnshown sees s spec e s'
 
 -- A call that fails does not advance the reader.
@@ -165,12 +164,12 @@ abbrev pub remaining_bits : PackedCursor → List Bool
 remaining_bits s = drop s.at s.bits
 
 -- the content of an item in each subset, or an empty list if the item is invalid
-abbrev pub contents_found : Result (FieldRead (List Content)) FieldFault → List Content
+abbrev pub contents_found : Result (FieldRead (List Content)) DataFault → List Content
 contents_found (Ok f) = f.content
 contents_found (Err why) = []
 
 -- whether an item was read without a fault
-abbrev pub was_found : Result (FieldRead (List Content)) FieldFault → Bool
+abbrev pub was_found : Result (FieldRead (List Content)) DataFault → Bool
 was_found (Ok f) = true
 was_found (Err why) = false
 
@@ -243,11 +242,8 @@ pub record IsPackedTaken (s : PackedCursor) (spec : FieldSpec) (t : Taken)
   pub forth : s.at + 7 ≤ s'.at
 
 -- The item that begins at the given bit is invalid, and e is its fault.
-pub record IsUnseen (bits : List Bool) (at n : ℕ) (spec : FieldSpec)
-    (e : DataFault) : Type 0 where
-  pub why : FieldFault
-  pub field : packed_field n spec (drop at bits) ≡ Err why
-  pub fault : e ≡ wrong_of spec.fxy why
+abbrev pub IsUnseen : List Bool → (at n : ℕ) → FieldSpec → DataFault → Type 0
+IsUnseen bits at n spec e = packed_field n spec (drop at bits) ≡ Err e
 
 -- A call either read and stored an item or failed. It fails if the data would contain too many
 -- values, if the item is invalid, or if memory runs out. A call that fails changes nothing.

@@ -2,7 +2,7 @@
 -- BUFR, sections 3 and 4)
 -- Cited by public contracts.
 use Rattle.std.specs.Prelude.{ℕ, zero, suc, ◌≡◌, ◌+◌, ◌*◌, Bool, List, [], ◌∷◌, length, drop, take, ◌<◌, Result, Ok, ◌⊎◌, nat_lt, Option, None, Err, codes, decimal, if◌then◌else◌, ◌++◌, option_map, map, get_or}
-use Rattle.bufr_walk.specs.Content.{Taken, FieldSpec, Content, answer_of, FieldFault, FieldRead, found, plain_field, data_end, increment, unequal_factor, packed_field, answer_first, ShownValue, shown, missing, shown_number, shown_text, shown_missing, shown_reference}
+use Rattle.bufr_walk.specs.Content.{Taken, FieldSpec, Content, answer_of, FieldRead, found, plain_field, packed_field, answer_first, ShownValue, shown, missing, shown_number, shown_text, shown_missing, shown_reference}
 use Rattle.bufr_walk.specs.Course.{Course, take_next, at_end, next_item}
 use Rattle.bufr_walk.specs.Steps.{CountedCourse, counted_item, ticked}
 use Rattle.bufr_walk.specs.declared.fault.DataFault.{DataFault}
@@ -30,7 +30,7 @@ pub record Item (C : Type 0) : Type 0 where
 -- (`Coding` describes how a single field is coded.)
 pub record DataCoding (C : Type 0) : Type 0 where
   -- the item at the beginning of the given bits, or its fault
-  pub field : FieldSpec → List Bool → Result (FieldRead C) FieldFault
+  pub field : FieldSpec → List Bool → Result (FieldRead C) DataFault
   -- the answer of an item (the part of its content that affects the walk)
   pub gives : FieldSpec → C → Taken
 
@@ -102,17 +102,11 @@ abbrev pub items_kept : Values → ℕ
 items_kept (apart subsets) = 0
 items_kept (together items) = length items
 
--- The reason why reading stops. Either the walk refuses a step, or a field cannot be read. Adding
--- the descriptor to a `FieldFault` gives a `DataFault`. A `DataFault` or a `TurnRefusal` becomes a
--- `WalkStop`, and adding the location to a `WalkStop` gives a `WalkFault`.
+-- The reason why reading stops. The walk refuses a step, a field cannot be read, or, in the code,
+-- memory runs out. A `TurnRefusal` or a `DataFault` becomes a `WalkStop`, and adding the location
+-- to a `WalkStop` gives a `WalkFault`.
 abbrev pub Stop : Type 0
 Stop = WalkStop DataFault
-
--- the `DataFault` for a fault in the field with the given descriptor
-abbrev pub wrong_of : (fxy : ℕ) → FieldFault → DataFault
-wrong_of fxy data_end = data_fault.DataEnd fxy
-wrong_of fxy increment = data_fault.Increment fxy
-wrong_of fxy unequal_factor = data_fault.UnequalFactor fxy
 
 -- whether one more item would raise the number of values above the maximum
 -- rule: too-many-values
@@ -171,7 +165,7 @@ data_report (walk_fault.Width s) = (31, spot_text (codes "width") s)
 data_report (walk_fault.Defining s) = (32, spot_text (codes "defining") s)
 -- A replication factor differs between subsets.
 data_report (walk_fault.UnequalFactor s) = (33, spot_text (codes "unequal factor") s)
--- An increment is invalid (see `increased`), or a redefined reference value has increments.
+-- An increment is invalid (see `increased`).
 data_report (walk_fault.Increment s) = (34, spot_text (codes "increment") s)
 -- The compressed data contain more than 134,217,728 values.
 data_report (walk_fault.TooManyValues s) = (35, spot_text (codes "too many values") s)

@@ -1,7 +1,7 @@
 -- The operators in effect, and how they determine the specification of a field (FM 94 BUFR, Tables
 -- B and C; details that the tables leave open are our choice).
 -- Cited by public contracts.
-use Rattle.std.specs.Prelude.{ℕ, ◌==◌, ◌&&◌, not, nat_lt, Bool, if◌then◌else◌, List, [], ◌∷◌, ℤ, Result, Ok, Err, ◌+◌, ◌-◌, ◌*◌, ◌/◌, ◌^◌, nat_le, true, false, pos, ◌+ℤ◌, ◌-ℤ◌, ◌*ℤ◌, Option, Some, None, ◌≤◌, ◌≡◌, ◌<◌}
+use Rattle.std.specs.Prelude.{ℕ, ◌==◌, ◌&&◌, not, nat_lt, Bool, if◌then◌else◌, List, [], ◌∷◌, ℤ, Result, Ok, Err, ◌+◌, ◌-◌, ◌*◌, ◌/◌, ◌^◌, nat_le, true, false, pos, ◌+ℤ◌, ◌-ℤ◌, ◌*ℤ◌, Option, Some, None, ◌≤◌, ◌≡◌, ◌<◌, ok_or}
 use Rattle.bufr_tables.specs.Prelude.{x_of, y_of, Row, entry_of}
 pub use Rattle.bufr_walk.specs.declared.spec.TurnRefusal.{TurnRefusal}
 use Rattle.bufr_walk.specs.Content.{Taken, Role, Kind, FieldSpec}
@@ -15,6 +15,7 @@ use Rattle.bufr_walk.specs.declared.spec.Taken.TheVariants as taken
 use Rattle.bufr_tables.specs.declared.table_b.Kind.TheVariants as kind
 use Rattle.bufr_walk.specs.declared.spec.Role.TheVariants as role
 use Rattle.bufr_walk.specs.declared.operators.TableField.TheVariants as field
+use Rattle.bufr_bits.specs.Prelude.{◌>>=◌}
 
 -- ---- The operators in effect in one subset (FM 94 BUFR, Table C).
 
@@ -24,10 +25,10 @@ pub record Redefined : Type 0 where
   pub reference : ℤ
 
 -- The operators in effect, and the redefined reference values. Each operator is represented by its
--- operand Y, or by 0 if it is not in effect. No operator in effect has the operand 0, which cancels
--- 2 01, 2 02, 2 07 and 2 08. 2 03 000 cancels all redefined reference values, and 2 06 000 is
--- rejected. Each operator except 2 06 Y stays in effect until it is canceled, until another
--- operator with the same X replaces it (our choice), or until the subset ends.
+-- operand Y, or by 0 if it is not in effect. An operand of 0 cancels 2 01, 2 02, 2 07 and 2 08.
+-- 2 03 000 cancels all redefined reference values, and 2 06 000 is rejected. Each operator except
+-- 2 06 Y stays in effect until it is canceled, until another operator with the same X replaces it
+-- (our choice), or until the subset ends.
 pub record OperatorModel : Type 0 where
   -- 2 01 Y, which adds Y - 128 to the data width of quantities
   pub width_change : ℕ
@@ -152,8 +153,8 @@ unsigned_field fxy width =
       listed = false;
     }
 
--- The specification of a code table or flag table element. 2 01 Y, 2 02 Y and 2 07 Y do not apply
--- to code and flag tables, but redefined reference values do (both our choice).
+-- The specification of a code table or flag table element. By Table C, 2 01 Y, 2 02 Y and 2 07 Y do
+-- not apply to code and flag tables. Redefined reference values do (our choice).
 -- rule: new-reference-of-figures, figures-unchanged
 abbrev pub coded_spec : OperatorModel → Row → FieldSpec
 coded_spec s row = record (unsigned_field row.fxy row.width) {
@@ -218,38 +219,34 @@ local_width_spec (Some row) s fxy =
     if row.width == s.local_width then spec_by_kind row.kind begin row
     else if_valid_width (unsigned_field fxy s.local_width)
 
--- The specification of an element that does not follow 2 06 Y. While reference values are being
--- redefined, the field contains a new reference value. The law `elements_have_their_rows` states
--- that the element's row always exists, so `None` never occurs.
+-- The specification of an element. Directly after 2 06 Y, `local_width_spec` applies. Every other
+-- element has a row (see the law `elements_have_their_rows`), so the fault for a missing row never
+-- occurs. While reference values are being redefined, the field contains a new reference value.
 -- rule: fault-32-before-31
-abbrev pub listed_by : Option Row → OperatorModel → ℕ → Result FieldSpec TurnRefusal
-listed_by None s fxy = Err (refusal.Width fxy)
-listed_by (Some row) s fxy =
-    if is_defining s then new_reference_spec row.kind s fxy else spec_by_kind row.kind s row
-
 abbrev pub element_spec : List Row → OperatorModel → ℕ → Result FieldSpec TurnRefusal
 element_spec table s fxy =
     if nat_lt 0 s.local_width then local_width_spec (entry_of table fxy) s fxy
-    else listed_by (entry_of table fxy) s fxy
+    else do
+      row ← ok_or (entry_of table fxy) (refusal.Width fxy)
+      if is_defining s then new_reference_spec row.kind s fxy else spec_by_kind row.kind s row
 
 -- The specification of a replication factor, as defined by its row. No operator applies to a
--- replication factor (our choice). A replication factor is never missing (our choice) and is
--- treated as a quantity, whatever its unit.
+-- replication factor (our choice). A replication factor is read as a number even if all its bits
+-- are ones (our choice). It is treated as a quantity, whatever its unit.
 abbrev pub factor_field : Row → ℕ → FieldSpec
 factor_field row fxy = record (coded_spec begin row)
     { fxy = fxy; role = role.Factor; kind = kind.Numeric; may_be_missing = false }
 
--- the specification of a replication factor, given its row, which always exists (see `listed_by`)
-abbrev pub factor_by : Option Row → ℕ → Result FieldSpec TurnRefusal
-factor_by None fxy = Err (refusal.Width fxy)
-factor_by (Some row) fxy = if_valid_width (factor_field row fxy)
-
 -- the specification of a replication factor, which is rejected while reference values are being
--- redefined (our choice)
+-- redefined (our choice); a replication factor always has a row (see `elements_have_their_rows`),
+-- so the fault for a missing row never occurs
 -- rule: factor-by-entry, defining-no-delayed-group
 abbrev pub factor_spec : List Row → OperatorModel → ℕ → Result FieldSpec TurnRefusal
 factor_spec table s fxy =
-    if is_defining s then Err (refusal.Defining fxy) else factor_by (entry_of table fxy) fxy
+    if is_defining s then Err (refusal.Defining fxy)
+    else do
+      row ← ok_or (entry_of table fxy) (refusal.Width fxy)
+      if_valid_width (factor_field row fxy)
 
 -- the specification of the Y characters that 2 05 Y inserts; the operator is rejected while
 -- reference values are being redefined (our choice)

@@ -232,7 +232,7 @@ impl<'a> Fields for PlainIn<'a> {
 
     ghost advances = { λ s spec t next h. Prim.omega (arith, h.some, ap (λ c. c.at) h.next) };
 
-    ghost refuses = { λ s spec e next h. ap (λ c. c.at) h.2 };
+    ghost refuses = { λ s spec e next h. ap (λ c. c.at) h.1 };
 
     #[inline(always)]
     fn take(&mut self, spec: &Spec) -> Result<Taken, DataFault> {

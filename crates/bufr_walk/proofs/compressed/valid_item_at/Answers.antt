@@ -1,13 +1,13 @@
-use Rattle.std.proofs.Common.{arith, ℕ, zero, suc, [], ◌∷◌, ◌⊎◌, inl, inr, ◌≢◌, ◌==◌, ◌/◌, nat_le, nat_lt, not, Ok, replicate, Bool, List, ◌≤◌, ◌≡◌, ◌+◌, ◌*◌, take, drop, refl, ap, ◌∙◌, sym, true, false}
+use Rattle.std.proofs.Common.{arith, ℕ, zero, suc, [], ◌∷◌, ◌⊎◌, inl, inr, ◌≢◌, ◌==◌, ◌/◌, nat_le, nat_lt, not, replicate, Bool, List, ◌≤◌, ◌≡◌, ◌+◌, ◌*◌, take, drop, refl, ap, ◌∙◌, sym, true, false, Some}
 use Rattle.bufr_bits.specs.Prelude.{bits_of, number_of, octets_of}
 use Rattle.std.specs.Prelude.{is_some}
 use Rattle.std.specs.List.{list_all}
 use Rattle.std.proofs.lemmas.Bool.{ne_eqb, le-ltb, lt-ltb, leb-true, leb-false}
 use Rattle.bufr_walk.specs.Prelude.{FieldSpec, Content, Role, answer_by_role, answer_of, answer_first, content_in, coding_of, contents_across, if_equal, increments, is_reference, Kind}
 use Rattle.bufr_walk.proofs.PlainLemmas.{bits_length, is_reference_role}
-use Rattle.bufr_walk.proofs.PackedLemmas.{copied, copies_equal, reference_none, text_valid, number_valid, is_there, is_none, equal_or, factor_across}
+use Rattle.bufr_walk.proofs.PackedLemmas.{copied, copies_equal, reference_none, text_valid, number_valid, is_there, is_none, factor_across}
 use Rattle.bufr_walk.proofs.PackedReading.{ends_first, ends_after, seen_here, invalid_here, unequal_here, size_same}
-use Rattle.bufr_tables.specs.Prelude.{is_character}
+use Rattle.bufr_tables.specs.Prelude.{is_character, only_if}
 use Rattle.bufr_tables.specs.declared.table_b.Kind.TheVariants as kind
 use Rattle.bufr_walk.specs.declared.spec.Role.TheVariants as role
 use Rattle.bufr_walk.specs.declared.spec.Taken.TheVariants as taken
@@ -33,7 +33,7 @@ at_most a b = by (nat_le a b) refl
     by true e = sym (ap not (le-ltb b a (leb-true a b e)))
     by false e = sym (ap not (lt-ltb b a (leb-false a b e)))
 
-plain_equal : (r a : Role) (cs : List Content) → r ≡ a → (r ≡ role.Element) ⊎ (r ≡ role.Inserted) → if_equal a cs ≡ Ok cs
+plain_equal : (r a : Role) (cs : List Content) → r ≡ a → (r ≡ role.Element) ⊎ (r ≡ role.Inserted) → if_equal a cs ≡ Some cs
 plain_equal r a cs is (inl e) = ap (λ x. if_equal x cs) (sym is ∙ e)
 plain_equal r a cs is (inr e) = ap (λ x. if_equal x cs) (sym is ∙ e)
 
@@ -98,7 +98,7 @@ returns-clause-seen c =
           (w.number_at-first.ensures.value ∙ ap (λ x. number_of (take c.number_at-k.result (drop (c.args.at + (x + 6)) bits))) wide) in
           let equal = sym (w.are_equal-equal.ensures
           ∙ ap (λ x. list_all (λ i. number_of i == w.number_at-first.result) (increments c.args.subsets c.number_at-k.result (drop (c.args.at + (x + 6)) bits))) wide) in
-          seen there.0 there.1 (factor.0 ∙ ap (λ b. equal_or b there.0) (equal ∙ w.if-not-equal.false)) (w.answer-is ∙ factor.1) based
+          seen there.0 there.1 (factor.0 ∙ ap (λ b. only_if b there.0) (equal ∙ w.if-not-equal.false)) (w.answer-is ∙ factor.1) based
       | else-k-eq0+else-reference+else-not-valid+in-Element w ↦
           let some = nonzero c.number_at-k.result w.if-k-eq0.false in
           let element : is_reference c.args.spec.now.role ≡ false = sym w.is_reference-reference.ensures ∙ w.if-reference.false in
@@ -174,4 +174,4 @@ returns-then-not-equal-clause-seen c =
     (omega (arith, all, c.len_bits.ensures, c.if-left-size.false, c.requires.within))
     (c.number_at-k.ensures.value ∙ ap (λ w. number_of (take 6 (drop (c.args.at + w) bits))) wide)
     (size_same _ _ _ _ _ _ wide c.from.ensures (c.from-2.ensures ∙ c.increment_bits_of.ensures.value)) there.1
-    (factor.0 ∙ ap (λ b. equal_or b there.0) (equal ∙ c.if-not-equal.true))
+    (factor.0 ∙ ap (λ b. only_if b there.0) (equal ∙ c.if-not-equal.true))

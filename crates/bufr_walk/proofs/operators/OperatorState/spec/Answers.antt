@@ -3,11 +3,12 @@ use Rattle.std.specs.Int.{w128}
 use Rattle.std.proofs.Math.Facts.{to_z-of_z}
 use Rattle.std.proofs.lemmas.Bool.Decides.{nat_tests}
 use Rattle.bufr_tables.specs.Prelude.{row_of_entry, Row, entry_of}
-use Rattle.bufr_walk.specs.Prelude.{TurnRefusal, FieldSpec, OperatorModel, begin, element_spec, factor_spec, factor_by, listed_by, local_width_spec, new_reference_spec, spec_by_kind, known_of, operator_model, if_valid_width, unsigned_field, number_field}
+use Rattle.bufr_walk.specs.Prelude.{TurnRefusal, FieldSpec, OperatorModel, begin, element_spec, factor_spec, local_width_spec, new_reference_spec, spec_by_kind, known_of, operator_model, if_valid_width, unsigned_field, number_field}
 use Rattle.bufr_walk.specs.declared.spec.TurnRefusal.TheVariants as refusal
 use Rattle.bufr_tables.specs.declared.table_b.Kind.TheVariants as kind
 use Rattle.bufr_walk.specs.declared.spec.Role.TheVariants as role
 use Rattle.bufr_walk.proofs.operators.OperatorState.spec.Goals as goal
+use Rattle.bufr_walk.proofs.SpecLemmas.{listed_by, factor_by}
 
 none : (n : ℕ) → n ≤ 0 → nat_lt 0 n ≡ false
 none n few = let e : n ≡ 0 = omega (arith, few) in rw e refl
