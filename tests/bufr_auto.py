@@ -744,14 +744,9 @@ class Trial:
             self.holds(f"tables are read for {list_of}", read == is_read, done.stderr)
         synop, python = TOP / "examples/synop.bufr", [sys.executable, "-S"]
         alone = ([*python, "-c", "pass"], [self.program, "ls", synop], [self.program, "dump", *self.tables_of(39), synop])
-        runs = [[*python, AUTO[1], synop], *alone]
-        least = [1e9] * len(runs)
-        for number in range(41):
-            for at, words in enumerate(runs):
-                seconds = lib.seconds_of(words, env=environment, stdout=subprocess.DEVNULL)
-                least[at] = min(least[at], seconds) if number else 1e9  # the first run fills the cache
-        times = least[0] / sum(least[1:])
-        print(f"bufr_auto: one message in {1000 * least[0]:.0f} ms, {times:.2f} times its bare parts")
+        seconds, *parts = lib.least_seconds([[*python, AUTO[1], synop], *alone], 1.8, env=environment)
+        times = seconds / sum(parts)
+        print(f"bufr_auto: one message in {1000 * seconds:.0f} ms, {times:.2f} times its bare parts")
         self.holds("times the bare parts at the start", times <= 1.8, times)
 
     def wait(self, is_so) -> bool:
@@ -769,20 +764,12 @@ class Trial:
             versions.append(bytes(message))
         archive = self.place / "archive"
         archive.write_bytes(b"".join(versions) * 12_500)
-        # Other programs may disturb one of the two: of three tries the best counts.
-        times = []
-        while len(times) < 3 and min(times, default=4) > 3:
-            seconds = []
-            for words in ([self.program, "dump", *self.tables_of(39), archive], [*AUTO, archive]):
-                begin = resource.getrusage(resource.RUSAGE_CHILDREN)
-                with subprocess.Popen(words, stdout=subprocess.PIPE, env=self.environment) as dump:
-                    texts = subprocess.run(["grep", "-cx", "end"], stdin=dump.stdout, stdout=subprocess.PIPE).stdout
-                end = resource.getrusage(resource.RUSAGE_CHILDREN)
-                seconds.append(end.ru_utime + end.ru_stime - begin.ru_utime - begin.ru_stime)
-                self.holds(f"{words[0]} of the archive", (dump.returncode, texts) == (0, b"50000\n"), (dump.returncode, texts))
-            times.append(seconds[1] / seconds[0])
-            print("bufr_auto: the processors take {1:.1f} s for 50,000 messages of four versions, {0:.1f} s for one dump".format(*seconds))
-        self.holds("times the seconds of one dump", min(times) <= 3, times)
+        counted = 'set -eo pipefail; count=$("$@" | grep -cx end); [ "$count" = 50000 ]'
+        commands = [[*AUTO, archive], [self.program, "dump", *self.tables_of(39), archive]]
+        commands = [["bash", "-c", counted, "bash", *words] for words in commands]
+        seconds, dump = lib.least_seconds(commands, 3, env=self.environment)
+        print(f"bufr_auto: 50,000 messages of four versions in {seconds:.1f} s of processor time, one dump in {dump:.1f} s")
+        self.holds("times the seconds of one dump", seconds <= 3 * dump, (seconds, dump))
 
 
 def main() -> None:

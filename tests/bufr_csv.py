@@ -620,13 +620,7 @@ def seconds(folder: pathlib.Path) -> None:
     script = TOP / "scripts/table.awk"
     by_hand = f"scripts/bufr-auto '{large}' 2> /dev/null | awk -v columns={words[1]} -f '{script}' > /dev/null"
     at_once = f"scripts/bufr-csv {' '.join(words)} '{large}' > /dev/null 2>&1; true"
-    # Other programs may disturb one of the two: they take turns, and the least of each counts.
-    one = other = 1e9
-    for turn in range(12):
-        one = min(one, lib.seconds_of(["bash", "-c", by_hand], cwd=TOP))
-        other = min(other, lib.seconds_of(["bash", "-c", at_once], cwd=TOP))
-        if turn > 1 and other <= 1.5 * one:
-            break
+    other, one = lib.least_seconds([["bash", "-c", command] for command in (at_once, by_hand)], 1.5, cwd=TOP)
     print(f"tests/bufr_csv.py: bufr-csv {other:.2f} s of processor time, bufr-auto and awk {one:.2f} s")
     holds("processor time", other <= 1.5 * one, (other, one))
 

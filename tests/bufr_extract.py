@@ -386,15 +386,8 @@ def takes_at_most_three_times_as_long(program: str, folder: pathlib.Path) -> Non
         output.stat().st_size == 1000 * sum(len(made(n, 10_000)) for n in range(100) if n % 5 == 3 and n % 3),
         "other octets of the long stream",
     )
-    commands, rounds = [extract, [program, "ls", path], [sys.executable, "-c", "pass"], ["cat", output]], []
-    for _ in range(10):
-        rounds.append([])
-        for words in commands:
-            with (folder / "copy").open("wb") as copy:
-                rounds[-1].append(lib.seconds_of(words, stdout=copy))
-        seconds, *parts = map(min, zip(*rounds))
-        if seconds <= 3 * sum(parts):
-            break
+    commands = [extract, [program, "ls", path], [sys.executable, "-c", "pass"], ["cat", output]]
+    seconds, *parts = lib.least_seconds(commands, 3, output=folder / "copy")
     told = f"{seconds:.2f} s for 100,000 messages in 1 GB, `bufr ls` {parts[0]:.2f} s, all that it needs {sum(parts):.2f} s"
     print(f"bufr_extract: {told}")
     want(seconds <= 3 * sum(parts), f"over three times the time: {told}")

@@ -10,7 +10,6 @@ import itertools
 import os
 import pathlib
 import re
-import resource
 import shutil
 import subprocess
 import tempfile
@@ -170,18 +169,6 @@ def tries_offsets(awk: list, stream: Stream) -> None:
             want(is_so, f"{awk}: {columns} with {given} ends with {status}: {errors}")
 
 
-def seconds(words: list, path: pathlib.Path) -> float:
-    """The processor's time of a run in a locale of many octets a character; the least of three."""
-    spent = []
-    for _ in range(3):
-        before = resource.getrusage(resource.RUSAGE_CHILDREN)
-        with open(path, "rb") as text, open(os.devnull, "wb") as aside:
-            subprocess.run(words, stdin=text, stdout=aside, stderr=aside, env={**os.environ, "LC_ALL": "C.UTF-8"})
-        after = resource.getrusage(resource.RUSAGE_CHILDREN)
-        spent.append(after.ru_utime + after.ru_stime - before.ru_utime - before.ru_stime)
-    return min(spent)
-
-
 def tries_speed(awk: list, text: bytes, folder: pathlib.Path) -> None:
     """Items that were not asked for cost little more than their lines. To look at all takes 12 times as long."""
     path = folder / "text"
@@ -191,9 +178,10 @@ def tries_speed(awk: list, text: bytes, folder: pathlib.Path) -> None:
         (["levels=1", "keep=001001", "columns=007004,012101,012103"], 4),
     ]:
         words = [word for column in columns for word in ("-v", column)]
-        least = seconds([*awk, '$1 == "012101" { count++ } END { print count }'], path)
-        spent = seconds([*awk, *words, "-f", SCRIPT], path)
-        want(spent < most * least, f"{awk}: {columns} takes {spent / least:.1f} times as long as a count, over {most}")
+        commands = [*awk, *words, "-f", SCRIPT, path], [*awk, '$1 == "012101" { count++ } END { print count }', path]
+        # In this locale, a character may have several octets.
+        spent, least = lib.least_seconds(commands, most, env={**os.environ, "LC_ALL": "C.UTF-8"})
+        want(spent <= most * least, f"{awk}: {columns} takes {spent / least:.1f} times as long as a count, over {most}")
 
 
 def tries_memory(awk: list, folder: pathlib.Path) -> None:
