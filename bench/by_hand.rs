@@ -183,7 +183,7 @@ impl Out {
         Out { room, at: 0, file }
     }
 
-    pub fn hand_on(&mut self) {
+    pub fn flush_buf(&mut self) {
         self.file.write_all(&self.room[..self.at]).expect("written");
         self.at = 0;
     }
@@ -195,7 +195,7 @@ impl Out {
         put(&mut pen);
         self.at = pen.at;
         if self.at >= HELD {
-            self.hand_on();
+            self.flush_buf();
         }
     }
 
@@ -212,14 +212,14 @@ impl Out {
         if octets.len() <= LINE {
             return self.line(|pen| pen.put_all(octets));
         }
-        self.hand_on();
+        self.flush_buf();
         self.file.write_all(octets).expect("written");
     }
 }
 
 impl Drop for Out {
     fn drop(&mut self) {
-        self.hand_on();
+        self.flush_buf();
     }
 }
 

@@ -36,7 +36,7 @@ NAMED = {
     "Template::build": ["abbrev pub ◌>>=◌ : {E A B : Type 0} → Result A E", "pub enum TemplateFault"],
     "DumpReader::read_more": ["pub record Document "],
     "Buffered::write": ["impl<S: Sink> Sink for Buffered<S>", "ghost taken = "],
-    "hand_on": ["fn hand_on<W: Sink, E: Sink>(w: &mut W, e: &mut E) -> Result<(), RunFault>"],
+    "flush_both": ["fn flush_both<W: Sink, E: Sink>(w: &mut W, e: &mut E) -> Result<(), RunFault>"],
     "run_words": ["pub data RunsArguments"],
     "bufr_frame::write_message": ["pub fn write_message("],
     "steps_compose": ["pub fn steps_compose()", "ReadsAndPasses"],

@@ -15,7 +15,7 @@ ENDS = set("( ) [ ] { } , ; && || = if then else in let → λ ∷ ++ ↦ | ← 
 NUMBER = re.compile(r"\d[\d_]*$|0x[\dA-Fa-f_]+$")
 BOUNDS = {"leasts", "mosts", "greatest", "greatest_values"}  # lists of bounds, each of which a comparison looks up by its index
 ARITHMETIC = set("∷ [ ] ( ) = ^ * + -".split())
-REFUSALS = set("Err None Wrong Refuses Stray unless only_if".split())
+REFUSALS = set("Err None Invalid Refuses Stray unless only_if".split())
 ACCEPTED = set("Ok Some Continues true".split())
 PROVED = "a proposition states what is proved, and refuses no input"
 

@@ -3,7 +3,7 @@
 use Rattle.std.specs.Prelude.{◌≡◌, ◌⊎◌, ℕ, List, [], Option, codes}
 use Rattle.std.specs.Borrow.{Bor}
 use Rattle.bufr_frame.specs.declared.fault.RunFault.TheVariants.{Memory}
-use Rattle.bufr_cli.specs.Prelude.{InputName, Known, Opens, Writers, WritesLine, last_line, status_of, RunsProgram}
+use Rattle.bufr_cli.specs.Prelude.{InputName, KnownInputs, Opens, Writers, WritesLine, last_line, status_of, RunsProgram}
 use Rattle.bufr_cli.specs.declared.outcome.Outcome.{Outcome}
 use Rattle.bufr_cli.specs.declared.outcome.Outcome.TheVariants.{Usage, Run}
 
@@ -17,7 +17,7 @@ IsWordless outcome =
 -- program with them. Otherwise, it only writes the reason to standard error and exits with the
 -- corresponding status.
 -- rule: argument-not-utf-8
-pub data RunsArguments {Standard File : Type 0} (inputs : Known Standard File)
+pub data RunsArguments {Standard File : Type 0} (inputs : KnownInputs Standard File)
     (opened opened' : Option (List InputName)) (before after : Writers) (status : ℕ) : Type 0 where
   Calls : (words : List (List ℕ)) → RunsProgram words inputs opened opened' before after status
       → RunsArguments inputs opened opened' before after status

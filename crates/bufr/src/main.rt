@@ -14,7 +14,7 @@
 #![tactic(auto)]
 
 ghost use Rattle.bufr.specs.Calling.{IsWordless, RunsArguments};
-ghost use Rattle.bufr_cli.specs.Prelude.{input_of, known, writers_of};
+ghost use Rattle.bufr_cli.specs.Prelude.{input_of, known_inputs, writers_of};
 
 mod process;
 
@@ -66,7 +66,7 @@ fn run_words<I: Inputs, W: Sink, E: Sink>(
     w: &mut W,
     e: &mut E,
 ) -> u8
-    ensures { RunsArguments (known (I.standard_octets inputs.old) (I.file_octets inputs.old)
+    ensures { RunsArguments (known_inputs (I.standard_octets inputs.old) (I.file_octets inputs.old)
         (input_of I.Standard.Source) (input_of I.File.Source))
         (I.opened inputs.old) (I.opened inputs.new)
         (writers_of W.Sink w.old E.Sink e.old) (writers_of W.Sink w.new E.Sink e.new) result }

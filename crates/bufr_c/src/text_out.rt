@@ -79,7 +79,7 @@ pub(crate) fn write_moved<W: Sink>(line: &[u8], offset: u64, out: &mut W) -> Res
     let mut writer = LineWriter::new(&mut block, out);
     writer.push_named(&line[..7], offset);
     writer.push(&line[8..]);
-    writer.hand_on();
+    writer.flush_buf();
     let outcome = writer.status();
     let _ = writer.into_sink();
     outcome

@@ -3,7 +3,7 @@ use Rattle.std.proofs.Common.{if◌then◌else◌, ◌==◌, ◌≡◌, ◌∙�
 use Rattle.std.specs.Borrow.{Bor}
 use Rattle.std.specs.Fmt.{digits}
 use Rattle.bufr_frame.specs.declared.fault.RunFault.TheVariants.{Read, Write, InputTooLong, Memory}
-use Rattle.bufr_cli.specs.Prelude.{last_line, status_of, Answers, AreUnread, ByTables, CommandOutcome, Does, InPart, InWhole, NoTables, RunsProgram, EndsRun, Input, InputName, IsNotOpened, Known, NoTableB, NoTableD, Opens, RunOutcome, ReadsAtMost, Runs, Tally, BlamesWriter, RunPieces, WantsMemory, Writer, Writers, event_pieces, holding, known, ls_piece}
+use Rattle.bufr_cli.specs.Prelude.{last_line, status_of, Answers, AreUnread, ByTables, CommandOutcome, Does, InPart, InWhole, NoTables, RunsProgram, EndsRun, Input, InputName, IsNotOpened, KnownInputs, NoTableB, NoTableD, Opens, RunOutcome, ReadsAtMost, Runs, Tally, BlamesWriter, RunPieces, WantsMemory, Writer, Writers, event_pieces, holding, known_inputs, ls_piece}
 use Rattle.bufr_cli.specs.declared.outcome.Outcome.TheVariants.{Ran, Usage, CannotOpen, TableB, TableD, Run}
 use Rattle.bufr_bits.specs.Prelude.{counted}
 use Rattle.bufr_cli.specs.declared.job.TableNames.{TableNames}
@@ -96,8 +96,8 @@ no-write-fault pieces from to ends = idle-writers-do-not-fail ends.between ends.
 abbrev quiet : Input
 quiet = record { left = Some (codes "BUFR"); reads = 0; failures = 0 }
 
-abbrev quiet_inputs : Known (Unit {0}) (Unit {0})
-quiet_inputs = known (Some (codes "BUFR")) (λ name. Some (codes "BUFR")) (λ input. quiet) (λ file. quiet)
+abbrev quiet_inputs : KnownInputs (Unit {0}) (Unit {0})
+quiet_inputs = known_inputs (Some (codes "BUFR")) (λ name. Some (codes "BUFR")) (λ input. quiet) (λ file. quiet)
 
 -- the faults that change the counts of a reader
 abbrev IsOfReads : RunFault → Type 0
@@ -133,18 +133,18 @@ module _ (pieces : RunPieces) (before after : Writers) where
   run-is-not-70 fault of (Some name) (Runs (Err f) is (from, to, left, ends)) = no-read-fault pieces before after fault f of is ends
 
   -- A run that completed has flushed its output.
-  run-is-handed-on : {Standard File : Type 0} (inputs : Known Standard File) (file : Option (Bor (List ℕ))) (tally : Tally) → RunOutcome pieces inputs file before after (Ran tally)
+  run-is-flushed : {Standard File : Type 0} (inputs : KnownInputs Standard File) (file : Option (Bor (List ℕ))) (tally : Tally) → RunOutcome pieces inputs file before after (Ran tally)
       → after.output.all_flushed ≡ true
-  run-is-handed-on inputs file tally (IsNotOpened name some (inl closed) same) = let is = closed.0 in absurd cc
-  run-is-handed-on inputs file tally (IsNotOpened name some (inr is) same) = absurd cc
-  run-is-handed-on inputs file tally (WantsMemory none is same) = absurd cc
-  run-is-handed-on inputs file tally (Runs (Err fault) is over) = absurd cc
-  run-is-handed-on inputs None tally (Runs (Ok tally') is (from, to, left, ends)) = ap (λ w. w.all_flushed) ends.rest ∙ ends.leaves.flushed.0
-  run-is-handed-on inputs (Some name) tally (Runs (Ok tally') is (from, to, left, ends)) = ap (λ w. w.all_flushed) ends.rest ∙ ends.leaves.flushed.0
+  run-is-flushed inputs file tally (IsNotOpened name some (inl closed) same) = let is = closed.0 in absurd cc
+  run-is-flushed inputs file tally (IsNotOpened name some (inr is) same) = absurd cc
+  run-is-flushed inputs file tally (WantsMemory none is same) = absurd cc
+  run-is-flushed inputs file tally (Runs (Err fault) is over) = absurd cc
+  run-is-flushed inputs None tally (Runs (Ok tally') is (from, to, left, ends)) = ap (λ w. w.all_flushed) ends.rest ∙ ends.leaves.flushed.0
+  run-is-flushed inputs (Some name) tally (Runs (Ok tally') is (from, to, left, ends)) = ap (λ w. w.all_flushed) ends.rest ∙ ends.leaves.flushed.0
 
 -- A run cannot complete if an octet of its output is not flushed.
 held-back : (pieces : RunPieces) (before after : Writers) (tally : Tally) → after.output.all_flushed ≡ false → RunOutcome pieces quiet_inputs None before after (Ran tally) → ⊥
-held-back pieces before after tally held comes = false≢true (sym held ∙ run-is-handed-on pieces before after quiet_inputs None tally comes)
+held-back pieces before after tally held comes = false≢true (sym held ∙ run-is-flushed pieces before after quiet_inputs None tally comes)
 
 -- Likewise, a call of the program with status 0 has flushed its output.
 tables-are-read : {File : Type 0} (state_of : File → Input) (named : List ℕ → Option (List ℕ)) (tables : TableNames) (opens : List InputName → Type 0) (tally : Tally)
@@ -158,31 +158,31 @@ tables-are-read state_of named tables opens tally (NoTableD opened b read (inl (
 tables-are-read state_of named tables opens tally (NoTableD opened b read (inl (inr (fault, is, over)))) = absurd cc
 tables-are-read state_of named tables opens tally (NoTableD opened b read (inr (fault, is, reads))) = absurd cc
 
-module _ {Standard File : Type 0} (inputs : Known Standard File) (before after : Writers) where
-  command-is-handed-on : (opens : List InputName → Type 0) (command : Subcommand) (file : Option (Bor (List ℕ))) (tally : Tally) → CommandOutcome inputs opens command file before after (Ran tally)
+module _ {Standard File : Type 0} (inputs : KnownInputs Standard File) (before after : Writers) where
+  command-is-flushed : (opens : List InputName → Type 0) (command : Subcommand) (file : Option (Bor (List ℕ))) (tally : Tally) → CommandOutcome inputs opens command file before after (Ran tally)
       → after.output.all_flushed ≡ true
-  command-is-handed-on opens Ls file tally (opened, ends) = run-is-handed-on _ before after inputs file tally ends
-  command-is-handed-on opens (Dump tables) file tally (NoTables same unread) = absurd (tables-are-read inputs.of_file inputs.named tables opens tally unread)
-  command-is-handed-on opens (Dump tables) file tally (ByTables b d are opened ends) = run-is-handed-on _ before after inputs file tally ends
-  command-is-handed-on opens (Encode tables form) file tally (NoTables same unread) = absurd (tables-are-read inputs.of_file inputs.named tables opens tally unread)
-  command-is-handed-on opens (Encode tables form) file tally (ByTables b d are opened ends) = run-is-handed-on _ before after inputs file tally ends
+  command-is-flushed opens Ls file tally (opened, ends) = run-is-flushed _ before after inputs file tally ends
+  command-is-flushed opens (Dump tables) file tally (NoTables same unread) = absurd (tables-are-read inputs.of_file inputs.named tables opens tally unread)
+  command-is-flushed opens (Dump tables) file tally (ByTables b d are opened ends) = run-is-flushed _ before after inputs file tally ends
+  command-is-flushed opens (Encode tables form) file tally (NoTables same unread) = absurd (tables-are-read inputs.of_file inputs.named tables opens tally unread)
+  command-is-flushed opens (Encode tables form) file tally (ByTables b d are opened ends) = run-is-flushed _ before after inputs file tally ends
 
   zero-is-not-two : ◌≡◌ {A = ℕ} 0 2 → ⊥
   zero-is-not-two is = omega arith
 
-status-0-is-handed-on : {Standard File : Type 0} (words : List Text) (inputs : Known Standard File) (opened opened' : Option (List InputName)) (before after : Writers)
+status-0-is-flushed : {Standard File : Type 0} (words : List Text) (inputs : KnownInputs Standard File) (opened opened' : Option (List InputName)) (before after : Writers)
     → RunsProgram words inputs opened opened' before after 0 → after.output.all_flushed ≡ true
-status-0-is-handed-on words inputs opened opened' before after (Does job accepted is (Ran tally) between comes same line status) =
-    ap (λ w. w.all_flushed) same ∙ command-is-handed-on inputs before between (Opens opened opened') job.command job.file tally comes
-status-0-is-handed-on words inputs opened opened' before after (Does job accepted is (Usage text) between comes same line status) = absurd (zero-is-not-two inputs before after status)
-status-0-is-handed-on words inputs opened opened' before after (Does job accepted is (CannotOpen name) between comes same line status) = absurd (zero-is-not-two inputs before after status)
-status-0-is-handed-on words inputs opened opened' before after (Does job accepted is (TableB fault) between comes same line status) = absurd (zero-is-not-two inputs before after status)
-status-0-is-handed-on words inputs opened opened' before after (Does job accepted is (TableD fault) between comes same line status) = absurd (zero-is-not-two inputs before after status)
-status-0-is-handed-on words inputs opened opened' before after (Does job accepted is (Run fault) between comes same line status) = absurd (zero-is-not-two inputs before after status)
-status-0-is-handed-on words inputs opened opened' before after (Answers (line.Help text) why opens (InWhole wrote flushed stays errors status)) = flushed
-status-0-is-handed-on words inputs opened opened' before after (Answers (line.Help text) why opens (InPart wrote failed line status)) = absurd (zero-is-not-two inputs before after status)
-status-0-is-handed-on words inputs opened opened' before after (Answers (line.Usage text) why opens (same, wrote, status)) = absurd (zero-is-not-two inputs before after status)
-status-0-is-handed-on words inputs opened opened' before after (Answers line.Memory why opens (same, wrote, status)) = absurd (zero-is-not-two inputs before after status)
+status-0-is-flushed words inputs opened opened' before after (Does job accepted is (Ran tally) between comes same line status) =
+    ap (λ w. w.all_flushed) same ∙ command-is-flushed inputs before between (Opens opened opened') job.command job.file tally comes
+status-0-is-flushed words inputs opened opened' before after (Does job accepted is (Usage text) between comes same line status) = absurd (zero-is-not-two inputs before after status)
+status-0-is-flushed words inputs opened opened' before after (Does job accepted is (CannotOpen name) between comes same line status) = absurd (zero-is-not-two inputs before after status)
+status-0-is-flushed words inputs opened opened' before after (Does job accepted is (TableB fault) between comes same line status) = absurd (zero-is-not-two inputs before after status)
+status-0-is-flushed words inputs opened opened' before after (Does job accepted is (TableD fault) between comes same line status) = absurd (zero-is-not-two inputs before after status)
+status-0-is-flushed words inputs opened opened' before after (Does job accepted is (Run fault) between comes same line status) = absurd (zero-is-not-two inputs before after status)
+status-0-is-flushed words inputs opened opened' before after (Answers (line.Help text) why opens (InWhole wrote flushed stays errors status)) = flushed
+status-0-is-flushed words inputs opened opened' before after (Answers (line.Help text) why opens (InPart wrote failed line status)) = absurd (zero-is-not-two inputs before after status)
+status-0-is-flushed words inputs opened opened' before after (Answers (line.Usage text) why opens (same, wrote, status)) = absurd (zero-is-not-two inputs before after status)
+status-0-is-flushed words inputs opened opened' before after (Answers line.Memory why opens (same, wrote, status)) = absurd (zero-is-not-two inputs before after status)
 
 -- Reading a table from such a file does not end with fault 70 or 72, either.
 table-is-not-70 : (fault : RunFault) → IsOfReads fault → (named : List ℕ → Option (List ℕ)) (tables : TableNames) (opens : List InputName → Type 0)

@@ -11,7 +11,7 @@ use Rattle.bufr_frame.proofs.FinderLemmas.{adds-then}
 use Rattle.bufr_frame.specs.declared.fault.RunFault.{RunFault}
 use Rattle.bufr_frame.specs.declared.fault.RunFault.TheVariants.{Read, Write, InputTooLong, Memory}
 use Rattle.bufr_text.specs.Prelude.{GrowsByPrefix, Stays, Fails, Writes}
-use Rattle.bufr_cli.specs.Prelude.{BlamesWriter, CountsCalls, CountsRead, EndsRun, FlushesRest, TakesStep, HasFlushed, FlushesBoth, FlushesWritten, IsFlushedIf, IsFlushed, Writer, Input, IsCut, IsDone, InputName, IsOpen, Opens, HasNotFailed, InPart, Known, LeavesDevices, FlushesAtMost, FlushesByRead, FlushFails, NoFlushFails, OnErrors, OnOutput, Piece, Progress, ReadsAndWrites, ReadsAtMost, ReadsFewer, ReadsOctets, RunPieces, RunReads, RunsOver, RunsOverInput, StopsPiece, Tallies, Tally, Writers, WritesHelp, WritesLine, WritesPieces, WritesPrefixes, WrittenInPart, errors_of, is_accepted, is_refused, output_of, run_line}
+use Rattle.bufr_cli.specs.Prelude.{BlamesWriter, CountsCalls, CountsRead, EndsRun, FlushesRest, TakesStep, HasFlushed, FlushesBoth, FlushesWritten, IsFlushedIf, IsFlushed, Writer, Input, IsCut, IsDone, InputName, IsOpen, Opens, HasNotFailed, InPart, KnownInputs, LeavesDevices, FlushesAtMost, FlushesByRead, FlushFails, NoFlushFails, OnErrors, OnOutput, Piece, Progress, ReadsAndWrites, ReadsAtMost, ReadsFewer, ReadsOctets, RunPieces, RunReads, RunsOver, RunsOverInput, StopsPiece, Tallies, Tally, Writers, WritesHelp, WritesLine, WritesPieces, WritesPrefixes, WrittenInPart, errors_of, is_accepted, is_refused, output_of, run_line}
 use Rattle.bufr_cli.specs.declared.run_pieces.RunStep.{RunStep}
 use Rattle.bufr_cli.specs.declared.run_pieces.Unflushed.{Unflushed}
 use Rattle.bufr_cli.specs.declared.run_pieces.RunStep.TheVariants as step
@@ -448,12 +448,12 @@ pub ends-run : (pieces : RunPieces) (from to : Input) (before between after : Wr
 ends-run pieces from to before between after ran ran' leaves same rest errors = rw same (record { between = between; leaves = leaves; rest = rest; errors = errors })
 
 -- The run read standard input.
-pub runs-standard : {Standard File : Type 0} (inputs : Known Standard File) (file : Option (Bor (List ℕ))) (run : (from to : Input) → Type 0) → file ≡ None
+pub runs-standard : {Standard File : Type 0} (inputs : KnownInputs Standard File) (file : Option (Bor (List ℕ))) (run : (from to : Input) → Type 0) → file ≡ None
     → RunsOver inputs.of_standard inputs.standard run → RunsOverInput inputs file run
 runs-standard inputs file run none runs = rw none runs
 
 -- The run read a file.
-pub runs-file : {Standard File : Type 0} (inputs : Known Standard File) (file : Option (Bor (List ℕ))) (name : Bor (List ℕ)) (run : (from to : Input) → Type 0) → file ≡ Some name
+pub runs-file : {Standard File : Type 0} (inputs : KnownInputs Standard File) (file : Option (Bor (List ℕ))) (name : Bor (List ℕ)) (run : (from to : Input) → Type 0) → file ≡ Some name
     → RunsOver inputs.of_file (inputs.named name.now) run → RunsOverInput inputs file run
 runs-file inputs file name run some runs = rw some runs
 

@@ -8,7 +8,7 @@ pub use Rattle.bufr_cli.specs.Pieces.{Piece, output_of, errors_of, is_accepted, 
 unfoldable pub use Rattle.bufr_cli.specs.Pieces.{up_to_refused}
 pub use Rattle.bufr_cli.specs.Ending.{EndsRun, FlushesRest, WritesLine, run_line, last_line, status_of, table_line}
 pub use Rattle.bufr_cli.specs.Line.{bufr_app, no_job_text, word_of, HasTables, IsWhyNoJob, SaysWhy, name_of, form_rule, table_rule, tables_app, top_app, AreNamed, GivesNoJob, IsJobOf}
-pub use Rattle.bufr_cli.specs.Program.{InputName, Opens, standard_name, file_name, table_names, input_name, InPart, InWhole, WritesHelp, command_pieces, NoTableB, NoTableD, FailsToRead, IsNotOpened, IsUnread, Runs, RunsOver, RunsOverInput, WantsMemory, known, ByTables, CommandOutcome, Known, NoTables, AnswersFault, Answers, Does, RunsProgram, AreTables, AreUnread, IsClosed, RunOutcome, TableOutcome, ran_outcome}
+pub use Rattle.bufr_cli.specs.Program.{InputName, Opens, standard_name, file_name, table_names, input_name, InPart, InWhole, WritesHelp, command_pieces, NoTableB, NoTableD, FailsToRead, IsNotOpened, IsUnread, Runs, RunsOver, RunsOverInput, WantsMemory, known_inputs, ByTables, CommandOutcome, KnownInputs, NoTables, AnswersFault, Answers, Does, RunsProgram, AreTables, AreUnread, IsClosed, RunOutcome, TableOutcome, ran_outcome}
 pub use Rattle.bufr_cli.specs.declared.outcome.Tally.{Tally}
 pub use Rattle.bufr_cli.specs.declared.outcome.Verdict.{Verdict}
 pub use Rattle.bufr_cli.specs.Buffering.{CallsAtMost, flushes_by, CountsCall, StaysBounded, flushed_by, taken_by}

@@ -41,7 +41,7 @@ Opens (Some before) (Some after) names = after ≡ before ++ names
 
 -- What is known about the program's inputs. `Standard` and `File` are the types of the readers for
 -- standard input and for files.
-pub record Known (Standard File : Type 0) : Type 0 where
+pub record KnownInputs (Standard File : Type 0) : Type 0 where
   -- the octets of standard input, if known
   pub standard : Option (List ℕ)
   -- the octets of the file with the given name, if known (see `Inputs`)
@@ -51,10 +51,10 @@ pub record Known (Standard File : Type 0) : Type 0 where
   -- the state of a file
   pub of_file : File → Input
 
-abbrev pub known : {Standard File : Type 0} → (standard : Option (List ℕ))
+abbrev pub known_inputs : {Standard File : Type 0} → (standard : Option (List ℕ))
     → (named : List ℕ → Option (List ℕ)) → (Standard → Input) → (File → Input)
-    → Known Standard File
-known standard named of_standard of_file =
+    → KnownInputs Standard File
+known_inputs standard named of_standard of_file =
     record { standard = standard; named = named; of_standard = of_standard; of_file = of_file }
 
 -- the pieces that a command writes
@@ -81,7 +81,7 @@ RunsOver {R} state_of octets run =
 
 -- A run reads the file with the given name, or standard input if no name is given.
 -- rule: dash-is-a-name
-abbrev pub RunsOverInput : {Standard File : Type 0} → Known Standard File
+abbrev pub RunsOverInput : {Standard File : Type 0} → KnownInputs Standard File
     → (file : Option (Bor (List ℕ))) → (run : (from to : Input) → Type 0) → Type 0
 RunsOverInput inputs None run = RunsOver inputs.of_standard inputs.standard run
 RunsOverInput inputs (Some name) run = RunsOver inputs.of_file (inputs.named name.now) run
@@ -89,8 +89,9 @@ RunsOverInput inputs (Some name) run = RunsOver inputs.of_file (inputs.named nam
 -- The possible outcomes of a run that reads the file with the given name, or standard input if no
 -- name is given. Either the input is not opened and nothing is written, or the run reads it.
 -- Opening standard input fails only if memory runs out.
-pub data RunOutcome {Standard File : Type 0} (pieces : RunPieces) (inputs : Known Standard File)
-    (file : Option (Bor (List ℕ))) (before after : Writers) (outcome : Outcome) : Type 0 where
+pub data RunOutcome {Standard File : Type 0} (pieces : RunPieces)
+    (inputs : KnownInputs Standard File) (file : Option (Bor (List ℕ))) (before after : Writers)
+    (outcome : Outcome) : Type 0 where
   IsNotOpened : (name : Bor (List ℕ)) → file ≡ Some name → IsClosed inputs.named name outcome
       → after ≡ before → RunOutcome pieces inputs file before after outcome
   WantsMemory : file ≡ None → outcome ≡ Run run_fault.Memory → after ≡ before
@@ -161,7 +162,7 @@ input_name (Some name) = file_name name.now
 -- written, or the input is opened after both tables (see `RunOutcome`).
 -- rule: tables-before-input
 pub data TablesOutcome {Standard File : Type 0} (pieces : List Row → List Sequence → RunPieces)
-    (inputs : Known Standard File) (tables : TableNames) (opens : List InputName → Type 0)
+    (inputs : KnownInputs Standard File) (tables : TableNames) (opens : List InputName → Type 0)
     (file : Option (Bor (List ℕ))) (before after : Writers) (outcome : Outcome) : Type 0 where
   NoTables : after ≡ before → AreUnread inputs.of_file inputs.named tables opens outcome
       → TablesOutcome pieces inputs tables opens file before after outcome
@@ -171,7 +172,7 @@ pub data TablesOutcome {Standard File : Type 0} (pieces : List Row → List Sequ
       → TablesOutcome pieces inputs tables opens file before after outcome
 
 -- The subcommand has the given outcome, and the list of inputs that it opens satisfies `opens`.
-abbrev pub CommandOutcome : {Standard File : Type 0} → Known Standard File
+abbrev pub CommandOutcome : {Standard File : Type 0} → KnownInputs Standard File
     → (opens : List InputName → Type 0) → Subcommand → (file : Option (Bor (List ℕ)))
     → (before after : Writers) → Outcome → Type 0
 CommandOutcome inputs opens Ls file before after outcome =
@@ -208,8 +209,9 @@ AnswersFault Memory before after status =
 -- Either the program runs the job that the command line specifies and reports the outcome, or it
 -- opens no inputs and reports why there is no job.
 -- rule: status-of-help
-pub data RunsProgram {Standard File : Type 0} (words : List Text) (inputs : Known Standard File)
-    (opened opened' : Option (List InputName)) (before after : Writers) (status : ℕ) : Type 0 where
+pub data RunsProgram {Standard File : Type 0} (words : List Text)
+    (inputs : KnownInputs Standard File) (opened opened' : Option (List InputName))
+    (before after : Writers) (status : ℕ) : Type 0 where
   Does : (job : Job) → fault_of bufr_app words ≡ []
       → IsJobOf (subcommand_of bufr_app words) job → (outcome : Outcome) → (between : Writers)
       → CommandOutcome inputs (Opens opened opened') job.command job.file before between outcome

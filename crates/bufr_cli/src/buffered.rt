@@ -101,7 +101,7 @@ fn remove_front(octets: &mut Vec<u8>, left: usize)
 impl<S: Sink> Buffered<S> {
     /// Writes the buffered octets to the sink. Octets that the sink does not accept remain
     /// buffered.
-    fn hand_on(&mut self) -> Result<(), Failed>
+    fn flush_buf(&mut self) -> Result<(), Failed>
         ensures octets { Keeps (taken_by S.taken self.old) (taken_by S.taken self.new) }
         ensures none { OnOk result (self.new.held.items ≡ []) }
         ensures flushed { flushed_by S.all_flushed self.new
@@ -138,7 +138,7 @@ impl<S: Sink> Buffered<S> {
         ensures full { IfOk result (λ n. n < length buf.now
             → CallsAtMost S.Sink 1 0 self.old.sink self.new.sink) }
     {
-        self.hand_on()?;
+        self.flush_buf()?;
         if buf.len() <= self.capacity && self.held.extend_from_slice(buf).is_ok() {
             return Ok(buf.len());
         }
@@ -160,7 +160,7 @@ impl<S: Sink> Buffered<S> {
         ensures flushes { flushes_by self.new ≡ flushes_by self.old }
         ensures calls { CallsAtMost S.Sink 1 1 self.old.sink self.new.sink }
     {
-        self.hand_on()?;
+        self.flush_buf()?;
         self.sink.flush()
     }
 

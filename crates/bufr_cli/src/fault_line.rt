@@ -177,7 +177,7 @@ pub(crate) fn write_stray<E: Sink>(offset: u64, cause: Cause, e: &mut E) -> Resu
     let mut line = LineWriter::new(&mut block, e);
     line.push_named(b"offset ", offset);
     push_stray(&mut line, cause);
-    line.hand_on();
+    line.flush_buf();
     let outcome = line.status();
     let _ = line.into_sink();
     outcome
@@ -197,7 +197,7 @@ pub(crate) fn write_fault<E: Sink>(
     let mut block = [0; LINE];
     let mut line = LineWriter::new(&mut block, e);
     push_fault(&mut line, offset, fault);
-    line.hand_on();
+    line.flush_buf();
     let outcome = line.status();
     let _ = line.into_sink();
     outcome
@@ -284,7 +284,7 @@ pub fn write_document_fault<E: Sink>(fault: DocumentFault, e: &mut E) -> Result<
     let mut block = [0; LINE];
     let mut line = LineWriter::new(&mut block, e);
     push_document_fault(&mut line, fault);
-    line.hand_on();
+    line.flush_buf();
     let outcome = line.status();
     let _ = line.into_sink();
     outcome
@@ -325,7 +325,7 @@ pub fn write_read_fault<E: Sink>(fault: ReadFault, e: &mut E) -> Result<(), RunF
     let mut block = [0; LINE];
     let mut line = LineWriter::new(&mut block, e);
     push_read_fault(&mut line, fault);
-    line.hand_on();
+    line.flush_buf();
     let outcome = line.status();
     let _ = line.into_sink();
     outcome

@@ -131,7 +131,7 @@ pub fn finish<E: Sink>(outcome: &Outcome<'_>, e: &mut E) -> u8
     let mut block = [0; LINE];
     let mut line = LineWriter::new(&mut block, e);
     push_last(&mut line, outcome);
-    line.hand_on();
+    line.flush_buf();
     let _ = line.into_sink();
     status(outcome)
 }

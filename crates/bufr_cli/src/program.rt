@@ -5,7 +5,7 @@ ghost use Rattle.bufr_frame.specs.Prelude.{read_failures_after, MakesReads};
 ghost use Rattle.bufr_tables.specs.Prelude.{Record, AreRows};
 ghost use Rattle.bufr_text.specs.Prelude.{Writes};
 ghost use Rattle.bufr_cli.specs.declared.program.OpenFault.TheVariants.{CannotOpen};
-ghost use Rattle.bufr_cli.specs.Prelude.{LeavesDevices, CountsCalls, input_of, writer_of, writers_of, ReadsAll, EndsRun, FlushesRest, AreTables, AreUnread, IsClosed, IsUnread, CommandOutcome, InputName, Opens, RunOutcome, file_name, input_name, known, command_pieces, ran_outcome, standard_name, table_names, RunsProgram};
+ghost use Rattle.bufr_cli.specs.Prelude.{LeavesDevices, CountsCalls, input_of, writer_of, writers_of, ReadsAll, EndsRun, FlushesRest, AreTables, AreUnread, IsClosed, IsUnread, CommandOutcome, InputName, Opens, RunOutcome, file_name, input_name, known_inputs, command_pieces, ran_outcome, standard_name, table_names, RunsProgram};
 
 use crate::dump::run_dump;
 use crate::encode::run_encode_form;
@@ -115,10 +115,10 @@ pub fn run<'a, S: AsStr, I: Inputs, W: Sink, E: Sink>(
 ) -> u8
     // `RunsProgram` (specs/Program) relates the following, in this order: the words of the command
     // line, what is known about the inputs, the inputs that had been opened before and after the
-    // call, the writers before and after the call, and the exit status. `known`, `input_of` and
-    // `writers_of` only group ghost items.
+    // call, the writers before and after the call, and the exit status. `known_inputs`, `input_of`
+    // and `writers_of` only group ghost items.
     ensures { RunsProgram (map S.text words.entry.now)
-        (known (I.standard_octets inputs.old) (I.file_octets inputs.old)
+        (known_inputs (I.standard_octets inputs.old) (I.file_octets inputs.old)
         (input_of I.Standard.Source) (input_of I.File.Source))
         (I.opened inputs.old) (I.opened inputs.new)
         (writers_of W.Sink w.old E.Sink e.old) (writers_of W.Sink w.new E.Sink e.new) result }
@@ -163,7 +163,8 @@ fn run_job<'a, I: Inputs, W: Sink, E: Sink>(
     w: &mut W,
     e: &mut E,
 ) -> Outcome<'a>
-    ensures comes { CommandOutcome (known (I.standard_octets inputs.old) (I.file_octets inputs.old)
+    ensures comes { CommandOutcome
+        (known_inputs (I.standard_octets inputs.old) (I.file_octets inputs.old)
         (input_of I.Standard.Source) (input_of I.File.Source))
         (Opens (I.opened inputs.old) (I.opened inputs.new)) job.entry.command job.entry.file
         (writers_of W.Sink w.old E.Sink e.old) (writers_of W.Sink w.new E.Sink e.new) result }
@@ -304,7 +305,7 @@ fn run_input<'a, I: Inputs, W: Sink, E: Sink>(
     e: &mut E,
 ) -> Outcome<'a>
     ensures comes { RunOutcome (command_pieces command.entry)
-        (known (I.standard_octets inputs.old) (I.file_octets inputs.old)
+        (known_inputs (I.standard_octets inputs.old) (I.file_octets inputs.old)
         (input_of I.Standard.Source) (input_of I.File.Source)) call.entry.file
         (writers_of W.Sink w.old E.Sink e.old) (writers_of W.Sink w.new E.Sink e.new) result }
     ensures opens { Opens (I.opened inputs.old) (I.opened inputs.new)

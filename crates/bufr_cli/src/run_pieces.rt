@@ -95,8 +95,8 @@ pub(crate) fn flush<W: Sink>(w: &mut W) -> Result<(), RunFault>
 }
 
 /// Flushes the output and then the error output.
-fn hand_on<W: Sink, E: Sink>(w: &mut W, e: &mut E) -> Result<(), RunFault>
-    ensures handed { FlushesBoth (writers_of W.Sink w.old E.Sink e.old)
+fn flush_both<W: Sink, E: Sink>(w: &mut W, e: &mut E) -> Result<(), RunFault>
+    ensures flushed { FlushesBoth (writers_of W.Sink w.old E.Sink e.old)
         (writers_of W.Sink w.new E.Sink e.new) result }
 {
     flush(w)?;
@@ -133,7 +133,7 @@ fn flush_if<W: Sink>(written: bool, w: &mut W) -> Result<(), RunFault>
 
 /// If the next read from `r` may block, flushes each writer that has been written to since its last
 /// flush.
-fn hand_on_before_read<R: Source, W: Sink, E: Sink>(
+fn flush_before_read<R: Source, W: Sink, E: Sink>(
     r: &R,
     unflushed: &mut Unflushed,
     w: &mut W,
@@ -185,12 +185,12 @@ pub(crate) fn run_pieces<P: PieceWriter, R: Source, W: Sink, E: Sink>(
                 unflushed.note(verdict);
             }
             RunStep::Read => {
-                hand_on_before_read(r, &mut unflushed, w, e)?;
+                flush_before_read(r, &mut unflushed, w, e)?;
                 next.read_more(r)?;
             }
             RunStep::End => break,
         }
     }
-    hand_on(w, e)?;
+    flush_both(w, e)?;
     Ok(tally)
 }

@@ -7,7 +7,7 @@ use Rattle.std.proofs.lemmas.Bool.{ltb-false}
 use Rattle.std.specs.List.{AllByRecursion}
 use Rattle.bufr_tables.specs.Prelude.{IsLegal, Row, Tree}
 use Rattle.bufr_walk.specs.Prelude.{FieldSpec, IsSpec, Content, bits_for, found, content_at, Course, Next, take_next, at_end, astray, refused, next_item, max_values, Item, DataCoding, plain, packed, ReadsItems, answers_in, apart, together, each_subset, items_of_subset, subsets_from, would_be_many}
-use Rattle.bufr_fill.specs.Prelude.{packing_fault, Draft, Subset, ItemFault, DraftFault, at_line, too_many_values, content_of, plain_filler, RowCell, ItemRow, cells_at, rows, most_items, map_err, content_here, contents_here, pack_across, packed_filler, plain_data, packed_data, first_line, ◌>>=◌, WrittenItem, written_item, Filler, fill, with_bits_before, packing, Fits, AllFit, HasOctets, AllHaveOctets, IsSaid, IsReadBack, data_bits, AreDrafts, AreSaid}
+use Rattle.bufr_fill.specs.Prelude.{packing_fault, Draft, Subset, ItemFault, DraftFault, at_line, too_many_values, content_of, plain_filler, RowCell, ItemRow, cells_at, rows, most_items, map_err, item_content, row_contents, pack_across, packed_filler, plain_data, packed_data, first_line, ◌>>=◌, WrittenItem, written_item, Filler, fill, with_bits_before, packing, Fits, AllFit, HasOctets, AllHaveOctets, IsSpecified, IsReadBack, data_bits, AreDrafts, AreSpecified}
 use Rattle.bufr_fill.proofs.FillSteps.{filled, bits_with, fill_at}
 use Rattle.bufr_walk.proofs.NextField.{AreRead, IsGoodCourse, next_field}
 use Rattle.bufr_walk.specs.Prelude.{IsWithin}
@@ -77,10 +77,11 @@ module _ {C D E : Type 0} (form : DataCoding C) (filler : Filler D C E) (of_item
 -- ---- Plain data.
 
 plain_one : (end_line : ℕ) (spec : FieldSpec) (d : Draft) (w : WrittenItem Content) → IsSpec spec → HasOctets d.form
-    → (map_err (at_line d.line) (content_of spec d) >>= λ c. Ok (written_item c (bits_for spec.width c))) ≡ Ok w → IsOneBack plain IsSaid spec d w
+    → (map_err (at_line d.line) (content_of spec d) >>= λ c. Ok (written_item c (bits_for spec.width c))) ≡ Ok w → IsOneBack plain IsSpecified spec d w
 plain_one end_line spec d w good text e = by_content (content_of spec d) refl e
   where
-    by_content : (r : Result Content ItemFault) → content_of spec d ≡ r → (map_err (at_line d.line) r >>= λ c. Ok (written_item c (bits_for spec.width c))) ≡ Ok w → IsOneBack plain IsSaid spec d w
+    by_content : (r : Result Content ItemFault) → content_of spec d ≡ r → (map_err (at_line d.line) r >>= λ c. Ok (written_item c (bits_for spec.width c))) ≡ Ok w
+        → IsOneBack plain IsSpecified spec d w
     by_content (Err why) p q = cc
     by_content (Ok c) p q =
         let fits : Fits spec c = draft_fits spec d c text p in
@@ -95,7 +96,7 @@ module _ (course : Course) (sane : (m : ℕ) → IsSane m course) (good : IsGood
   plain_join s ss out text others (Err why) b p q e = cc
   plain_join s ss out text others (Ok x) (Err why) p q e = cc
   plain_join s ss out text others (Ok x) (Ok y) p q e =
-      let first = back plain (plain_filler s.end_line) IsSaid (λ (d : Draft). HasOctets d.form) (λ spec c. refl) (plain_one s.end_line) course s.items x good text p in
+      let first = back plain (plain_filler s.end_line) IsSpecified (λ (d : Draft). HasOctets d.form) (λ spec c. refl) (plain_one s.end_line) course s.items x good text p in
       let rest = others y q in
       record {
         values = apart (first.items ∷ each_subset (length ss) rest.values);
@@ -129,7 +130,7 @@ said_shift : (j : ℕ) (spec : FieldSpec) (c : Content) (cs : List Content) (cel
 said_shift j spec c cs [] h = tt
 said_shift j spec c cs (cell ∷ cells) h = (h.0, said_shift (suc j) spec c cs cells h.1)
 
-cell_said : (spec : FieldSpec) (o : Option Draft) (end_line : ℕ) (c : Content) → OctetsIn o → content_here spec o end_line ≡ Ok c → IsCellSaid spec c o × Fits spec c
+cell_said : (spec : FieldSpec) (o : Option Draft) (end_line : ℕ) (c : Content) → OctetsIn o → item_content spec o end_line ≡ Ok c → IsCellSaid spec c o × Fits spec c
 cell_said spec None end_line c text e = cc
 cell_said spec (Some d) end_line c text e = by_content (content_of spec d) refl e
   where
@@ -143,8 +144,8 @@ record AreCellsSaid (spec : FieldSpec) (cells : List RowCell) (cs : List Content
   count : length cs ≡ length cells
 
 cells_join : (spec : FieldSpec) (cell : RowCell) (cells : List RowCell) (cs : List Content) → OctetsIn cell.draft
-    → ((rest : List Content) → contents_here spec cells ≡ Ok rest → AreCellsSaid spec cells rest)
-    → (a : Result Content DraftFault) (b : Result (List Content) DraftFault) → content_here spec cell.draft cell.end_line ≡ a → contents_here spec cells ≡ b
+    → ((rest : List Content) → row_contents spec cells ≡ Ok rest → AreCellsSaid spec cells rest)
+    → (a : Result Content DraftFault) (b : Result (List Content) DraftFault) → item_content spec cell.draft cell.end_line ≡ a → row_contents spec cells ≡ b
     → (a >>= λ first. b >>= λ rest. Ok (first ∷ rest)) ≡ Ok cs → AreCellsSaid spec (cell ∷ cells) cs
 cells_join spec cell cells cs text others (Err why) b p q e = cc
 cells_join spec cell cells cs text others (Ok c) (Err why) p q e = cc
@@ -154,10 +155,10 @@ cells_join spec cell cells cs text others (Ok c) (Ok rest) p q e =
     subst (AreCellsSaid spec (cell ∷ cells)) (same_ok (c ∷ rest) cs e)
     (record { said = (here.0, said_shift 0 spec c rest cells suffix.said); fits = (here.1, suffix.fits); count = ap suc suffix.count })
 
-cells_said : (spec : FieldSpec) (cells : List RowCell) (cs : List Content) → AllByRecursion (λ (cell : RowCell). OctetsIn cell.draft) cells → contents_here spec cells ≡ Ok cs
+cells_said : (spec : FieldSpec) (cells : List RowCell) (cs : List Content) → AllByRecursion (λ (cell : RowCell). OctetsIn cell.draft) cells → row_contents spec cells ≡ Ok cs
     → AreCellsSaid spec cells cs
 cells_said spec [] cs text e = grind (arith, common_steps, same_ok)
-cells_said spec (cell ∷ cells) cs text e = cells_join spec cell cells cs text.0 (λ rest q. cells_said spec cells rest text.1 q) (content_here spec cell.draft cell.end_line) (contents_here spec cells)
+cells_said spec (cell ∷ cells) cs text e = cells_join spec cell cells cs text.0 (λ rest q. cells_said spec cells rest text.1 q) (item_content spec cell.draft cell.end_line) (row_contents spec cells)
     refl refl e
 
 -- The item has the contents of the row, up to which there are not too many values.
@@ -189,16 +190,16 @@ packed_one n some spec a w good row e = by_many (would_be_many (length a.cells) 
     by_packing cs few are (Ok bits) q r = subst (IsOneBack (packed n) (IsSaidAcross n) spec a) (same_ok (written_item cs bits) w r) (by_list cs bits few are q)
     by_packing cs few are (Err why) q r = cc
 
-    by_contents : (a.index + 1) * n ≤ max_values → (r : Result (List Content) DraftFault) → contents_here spec a.cells ≡ r
+    by_contents : (a.index + 1) * n ≤ max_values → (r : Result (List Content) DraftFault) → row_contents spec a.cells ≡ r
         → (r >>= λ cs. result_map_both (written_item cs) (packing_fault cs a.cells) (packing spec cs)) ≡ Ok w
         → IsOneBack (packed n) (IsSaidAcross n) spec a w
     by_contents few (Err why) p q = cc
     by_contents few (Ok cs) p q = by_packing cs few (cells_said spec a.cells cs row.1 p) (packing spec cs) refl q
 
     by_many : (b : Bool) → would_be_many (length a.cells) a.index ≡ b → (if b then Err (at_line (first_line a.cells) (too_many_values spec.fxy)) else
-        (contents_here spec a.cells >>= λ cs. result_map_both (written_item cs) (packing_fault cs a.cells) (packing spec cs))) ≡ Ok w → IsOneBack (packed n) (IsSaidAcross n) spec a w
+        (row_contents spec a.cells >>= λ cs. result_map_both (written_item cs) (packing_fault cs a.cells) (packing spec cs))) ≡ Ok w → IsOneBack (packed n) (IsSaidAcross n) spec a w
     by_many true p q = cc
-    by_many false p q = by_contents (rw (← row.0) (few_of a.index (length a.cells) p)) (contents_here spec a.cells) refl q
+    by_many false p q = by_contents (rw (← row.0) (few_of a.index (length a.cells) p)) (row_contents spec a.cells) refl q
 
 -- ---- Rows and subsets.
 
@@ -238,13 +239,13 @@ rows_said n (i ∷ items) (a ∷ more) h = (h.0.0, rows_said n items more h.1)
 rows_said n items more h = absurd h
 
 first_subset : (j count from : ℕ) (s : Subset) (ss : List Subset) (items : List (Item (List Content))) → RowsSaid j items (rows count from (s ∷ ss)) → length s.items ≤ from + count
-    → AreDrafts IsSaid (items_of_subset j items) (drop from s.items)
+    → AreDrafts IsSpecified (items_of_subset j items) (drop from s.items)
 first_subset j zero from s ss [] h l = grind (arith, common_steps, l)
 first_subset j zero from s ss (i ∷ items) h l = absurd h
 first_subset j (suc count) from s ss [] h l = absurd h
 first_subset j (suc count) from s ss (i ∷ items) h l =
     let g = draft_next i.spec (content_at j i.content) s.items from h.0.0 in
-    subst (AreDrafts IsSaid (items_of_subset j (i ∷ items))) (sym g.1) (g.2, first_subset j count (from + 1) s ss items h.1 (omega arith))
+    subst (AreDrafts IsSpecified (items_of_subset j (i ∷ items))) (sym g.1) (g.2, first_subset j count (from + 1) s ss items h.1 (omega arith))
 
 other_subsets : (j count from : ℕ) (s : Subset) (ss : List Subset) (items : List (Item (List Content))) → RowsSaid j items (rows count from (s ∷ ss)) → RowsSaid (suc j) items (rows count from ss)
 other_subsets j zero from s ss [] h = tt
@@ -252,7 +253,7 @@ other_subsets j zero from s ss (i ∷ items) h = absurd h
 other_subsets j (suc count) from s ss [] h = absurd h
 other_subsets j (suc count) from s ss (i ∷ items) h = (h.0.1, other_subsets j count (from + 1) s ss items h.1)
 
-all_subsets : (j count : ℕ) (ss : List Subset) (items : List (Item (List Content))) → RowsSaid j items (rows count 0 ss) → most_items ss ≤ count → AreSaid (subsets_from (length ss) j items) ss
+all_subsets : (j count : ℕ) (ss : List Subset) (items : List (Item (List Content))) → RowsSaid j items (rows count 0 ss) → most_items ss ≤ count → AreSpecified (subsets_from (length ss) j items) ss
 all_subsets j count [] items h l = tt
 all_subsets j count (s ∷ ss) items h l = (first_subset j count 0 s ss items h (omega arith), all_subsets (suc j) count ss items (other_subsets j count 0 s ss items h) (omega arith))
 

@@ -4,7 +4,7 @@ use Rattle.std.proofs.Common.{◌≡◌, ℕ, zero, suc, ◌+◌, ◌-◌, ◌�
 use Rattle.std.proofs.Math.Seq.{drop-cons, drop-append_seam}
 use Rattle.std.proofs.lemmas.List.{map-append, take_all, drop_all}
 use Rattle.std.proofs.lemmas.Option.{none-some, slice_get-get_or, slice_get_within, get_or_from_slice_get}
-use Rattle.bufr_fill.specs.Prelude.{ValueKind, Taken, Draft, DraftEntry, Holds, Ends, Subset, subset, prepend_to_subset, subsets_of, ItemFault, DraftFault, at_line, item_too_many, RowCell, cells_at, map_err, entry_or_end, ends_of, entry_here, is_end, value_by, entry_with, entries_stored, AreOctetsInside, IsEntryInside, AreInside, octets_stored, line_at, PlainOutModel, plain_out_model, IsFilled, IsFaultOf, IfDraftFault, after_end, FieldContent, content_of, padded_content}
+use Rattle.bufr_fill.specs.Prelude.{ValueKind, Taken, Draft, DraftEntry, Holds, Ends, Subset, subset, prepend_to_subset, subsets_of, ItemFault, DraftFault, at_line, item_too_many, RowCell, cells_at, map_err, entry_or_end, ends_of, entry_content, is_end, value_by, entry_with, entries_stored, AreOctetsInside, IsEntryInside, AreInside, octets_stored, line_at, PlainOutModel, plain_out_model, IsFilled, IsFaultOf, IfDraftFault, after_end, FieldContent, content_of, padded_content}
 use Rattle.bufr_fill.specs.declared.draft.StoredEntry.{StoredEntry}
 use Rattle.bufr_walk.specs.Prelude.{FieldSpec, Content, answer_of, bits_for}
 use Rattle.bufr_fill.specs.declared.fault.DraftFault.TheVariants as draft_fault
@@ -268,7 +268,7 @@ next_there entries index e here = cc (drop-cons entries index e (slice_get_withi
 
 pub filled_here : (entries : List DraftEntry) (index : ℕ) (e : DraftEntry) (spec : FieldSpec) (d : FieldContent) (t : Taken) (old new : List Bool) (s : PlainOutModel)
     → plain_out_model (drop index entries) old ≡ s → slice_get entries index ≡ Some e
-    → Ok (padded_content (spec.width / 8) d) ≡ entry_here spec e → t ≡ answer_of spec (padded_content (spec.width / 8) d)
+    → Ok (padded_content (spec.width / 8) d) ≡ entry_content spec e → t ≡ answer_of spec (padded_content (spec.width / 8) d)
     → new ≡ old ++ bits_for spec.width (padded_content (spec.width / 8) d) → length old < length new
     → IsFilled s spec t (plain_out_model (drop (index + 1) entries) new)
 filled_here entries index (Ends line) spec d t old new s view here said gives bits forth = absurd cc
@@ -296,7 +296,7 @@ pub left_none : (entries : List DraftEntry) (index : ℕ) (old : List Bool) (s :
 left_none entries index old s view here = cc (view, drop_all index entries (none_there entries index here))
 
 -- The fault of the next entry is the one that is defined.
-pub item_fault : (spec : FieldSpec) (more : List DraftEntry) (fault : DraftFault) (e : DraftEntry) → Err fault ≡ entry_here spec e
+pub item_fault : (spec : FieldSpec) (more : List DraftEntry) (fault : DraftFault) (e : DraftEntry) → Err fault ≡ entry_content spec e
     → IfDraftFault fault (IsFaultOf spec (e ∷ more))
 item_fault spec more draft_fault.Memory e is = tt
 item_fault spec more (draft_fault.Item line fault) (Ends end) is = cc

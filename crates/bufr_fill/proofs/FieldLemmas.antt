@@ -10,7 +10,7 @@ use Rattle.std.proofs.lemmas.Nat.{shr_high}
 use Rattle.bufr_bits.specs.Prelude.{bits_of, bits_of_octet, bits_in, number_after_bits, number_of, are_all_ones}
 use Rattle.bufr_bits.proofs.BitLemmas.{are_all_ones-bits_of, bit, number_after_bits-is, number_of-below, number-bits_of_octet, length-bits_of, bits_in-above, bits_in-octet, length-bits_in, number_of-bits_in, are_all_ones-number, and_false}
 use Rattle.bufr_walk.specs.Prelude.{reference, HasWidth, FieldSpec, is_reference, Content, number, text, missing, octets_in, signed_by, content_by, Coding, coding_by, numbers, texts, sign_bit, bits_for, answer_of, answer_by_role}
-use Rattle.bufr_fill.specs.Prelude.{Role, Kind, AreOctets, FitsKind, FitsNumber, FitsText, raw_limit, is_of, is_marked, wrong_for, content_by_form, Draft, draft, ValueKind, value_by, entry_with, entry_here, map_err, at_line}
+use Rattle.bufr_fill.specs.Prelude.{Role, Kind, AreOctets, FitsKind, FitsNumber, FitsText, raw_limit, is_of, is_marked, wrong_for, content_by_form, Draft, draft, ValueKind, value_by, entry_with, entry_content, map_err, at_line}
 use Rattle.std.proofs.lemmas.Int.{ints}
 use Rattle.std.proofs.lemmas.Bool.{eq-eqb, eqb-true}
 use Rattle.bufr_tables.specs.declared.table_b.Kind.TheVariants as kind
@@ -257,7 +257,7 @@ marks spec d h = grind arith
 
 -- An item has the content of its value, or a fault if it is not that of the field.
 pub entry_is : (spec : FieldSpec) (e : StoredEntry) (octets : List ℕ) (k : ValueKind) (b : Bool) → e.kind ≡ Some k → is_of spec (draft e.line e.fxy (value_by k e.start octets)) ≡ b
-    → entry_here spec (entry_with e octets) ≡ map_err (at_line e.line) (if b then content_by_form (value_by k e.start octets) spec else Err (wrong_for spec))
+    → entry_content spec (entry_with e octets) ≡ map_err (at_line e.line) (if b then content_by_form (value_by k e.start octets) spec else Err (wrong_for spec))
 entry_is spec e octets k b is of = cc (is)
 
 -- the answer of a field, by its role

@@ -7,7 +7,7 @@ use Rattle.std.proofs.lemmas.Bool.{le-ltb}
 use Rattle.bufr_walk.specs.Prelude.{FieldSpec, IsSpec, Content, found, bits_for, answer_by_role, answer_of, missing, packed_field, answer_first, max_values, Item, packed, plain, after, apart, ReadsItems, answers_in, content_at, Course, take_next, at_end, subsets_from, items_of_subset, would_be_many}
 use Rattle.bufr_walk.proofs.CourseLemmas.{IsSane}
 use Rattle.bufr_fill.proofs.ReadsLemmas.{AreReadAs, subset_then, items_read, none_read, none_read_together}
-use Rattle.bufr_fill.specs.Prelude.{ItemFault, Taken, Role, packing, same, packed_bits, packed_unlike, written_item, fill, with_bits_before, plain_filler, RowCell, ItemRow, map_err, content_here, contents_here, pack_across, packed_filler, first_line, unlike_line, ◌>>=◌, plain_data, item_row, cells_at, rows, most_items, packing_fault, packed_data, Fits, AllFit, IsDumped, AreDrafts, AreDumped, IsSaid, AreSaid, IsUnlike, IsTogetherOrNot, Draft, Subset, at_line, content_of}
+use Rattle.bufr_fill.specs.Prelude.{ItemFault, Taken, Role, packing, same, packed_bits, packed_unlike, written_item, fill, with_bits_before, plain_filler, RowCell, ItemRow, map_err, item_content, row_contents, pack_across, packed_filler, first_line, unlike_line, ◌>>=◌, plain_data, item_row, cells_at, rows, most_items, packing_fault, packed_data, Fits, AllFit, IsDumped, AreDrafts, AreDumped, IsSpecified, AreSpecified, IsUnlike, IsTogetherOrNot, Draft, Subset, at_line, content_of}
 use Rattle.bufr_fill.proofs.FillSteps.{filled, fill_more, fill_end, plain_both}
 use Rattle.bufr_fill.proofs.PlainLaws.{IsSaidRow, item_bits, join, IsRewritten, draft_again, same_draft, AllFields, plain_again, width_least, plain_read, content_length}
 use Rattle.bufr_fill.proofs.PackedLaws.{packed_again, packed_count, fitting_again}
@@ -18,7 +18,7 @@ use Rattle.bufr_fill.specs.declared.fault.ItemFault.TheVariants as wrong
 use Rattle.bufr_walk.specs.declared.spec.Role.TheVariants as role
 
 -- Unless there are too many values, the contents of a row are packed.
-pub across : (spec : FieldSpec) (cs : List Content) (a : ItemRow) → contents_here spec a.cells ≡ Ok cs → (a.index + 1) * length a.cells ≤ max_values
+pub across : (spec : FieldSpec) (cs : List Content) (a : ItemRow) → row_contents spec a.cells ≡ Ok cs → (a.index + 1) * length a.cells ≤ max_values
     → pack_across spec a ≡ result_map_both (written_item cs) (packing_fault cs a.cells) (packing spec cs)
 across spec cs a contents few = rw (le-ltb, contents)
 
@@ -66,7 +66,7 @@ pub record ArePlain (end_line : ℕ) (course : Course) (items : List (Item Conte
   pub again : (more : List Bool) → ReadsItems plain course items (flat_map item_bits items ++ more) more
   pub end : course (answers_in answer_of items) ≡ at_end
 
-pub plain_subset : (end_line : ℕ) (course : Course) (items : List (Item Content)) (ds : List Draft) → Follows course items → AreDrafts IsSaid items ds → ArePlain end_line course items ds
+pub plain_subset : (end_line : ℕ) (course : Course) (items : List (Item Content)) (ds : List Draft) → Follows course items → AreDrafts IsSpecified items ds → ArePlain end_line course items ds
 plain_subset end_line course [] [] h said = record { fills = fill_end (plain_filler end_line) course h; again = λ more. refl; end = h }
 plain_subset end_line course (i ∷ items) (d ∷ ds) h said =
     let first = item_bits i in
@@ -97,7 +97,7 @@ pub record AreAllPlain (course : Course) (subsets : List (List (Item Content))) 
   pub is : plain_data course drafts ≡ Ok (subset_bits subsets)
   pub again : AreReadAs course false (length subsets) (apart subsets) (subset_bits subsets)
 
-pub plain_subsets : (course : Course) → ((m : ℕ) → IsSane m course) → (subsets : List (List (Item Content))) (drafts : List Subset) → AllFollow course subsets → AreSaid subsets drafts
+pub plain_subsets : (course : Course) → ((m : ℕ) → IsSane m course) → (subsets : List (List (Item Content))) (drafts : List Subset) → AllFollow course subsets → AreSpecified subsets drafts
     → AreAllPlain course subsets drafts
 plain_subsets course sane [] [] h said = record { is = refl; again = none_read course }
 plain_subsets course sane (items ∷ subsets) (s ∷ ss) h said =
@@ -113,7 +113,7 @@ plain_subsets course sane subsets ss h said = absurd said
 
 -- ---- The drafts in the dump of items have the contents of these items.
 
-items_said : (course : Course) (items : List (Item Content)) (ds : List Draft) → Follows course items → AreDrafts IsDumped items ds → AreDrafts IsSaid items ds
+items_said : (course : Course) (items : List (Item Content)) (ds : List Draft) → Follows course items → AreDrafts IsDumped items ds → AreDrafts IsSpecified items ds
 items_said course [] [] f h = tt
 items_said course (i ∷ items) (d ∷ ds) f h = (
   ap (content_of i.spec) (same_draft i.spec i.content d h.0) ∙ draft_again i.spec f.1 d.line i.content f.2,
@@ -121,7 +121,7 @@ items_said course (i ∷ items) (d ∷ ds) f h = (
 )
 items_said course items ds f h = absurd h
 
-pub subsets_said : (course : Course) (subsets : List (List (Item Content))) (ss : List Subset) → AllFollow course subsets → AreDumped subsets ss → AreSaid subsets ss
+pub subsets_said : (course : Course) (subsets : List (List (Item Content))) (ss : List Subset) → AllFollow course subsets → AreDumped subsets ss → AreSpecified subsets ss
 subsets_said course [] [] f h = tt
 subsets_said course (items ∷ subsets) (s ∷ ss) f h = (items_said course items s.items f.0 h.0, subsets_said course subsets ss f.1 h.1)
 subsets_said course subsets ss f h = absurd h
@@ -218,7 +218,7 @@ longest_left (r ∷ rs) = max (length r) (longest_left rs)
 
 -- The drafts from index p on have the contents of the remaining items.
 abbrev SaidAt : ℕ → List (List (Item Content)) → List Subset → Type 0
-SaidAt p rs ss = AllZip (λ (r : List (Item Content)) (s : Subset). AreDrafts IsSaid r (drop p s.items)) rs ss
+SaidAt p rs ss = AllZip (λ (r : List (Item Content)) (s : Subset). AreDrafts IsSpecified r (drop p s.items)) rs ss
 
 -- The next item of the subset has this field, and fits it.
 abbrev IsHeaded : FieldSpec → List (Item Content) → Type 0
@@ -260,20 +260,20 @@ longest_tails spec (i ∷ items) (q ∷ rs) h = omega (arith, longest_tails spec
 
 -- ---- The cells at an index.
 
-content_there : (p : ℕ) (ds : List Draft) (end_line : ℕ) (i : Item Content) (items : List (Item Content)) → AreDrafts IsSaid (i ∷ items) (drop p ds)
-    → content_here i.spec (slice_get ds p) end_line ≡ Ok i.content
+content_there : (p : ℕ) (ds : List Draft) (end_line : ℕ) (i : Item Content) (items : List (Item Content)) → AreDrafts IsSpecified (i ∷ items) (drop p ds)
+    → item_content i.spec (slice_get ds p) end_line ≡ Ok i.content
 content_there zero [] end_line i items h = absurd h
 content_there zero (d ∷ ds) end_line i items h = rw (h.0)
 content_there (suc p) [] end_line i items h = absurd h
 content_there (suc p) (d ∷ ds) end_line i items h = content_there p ds end_line i items h
 
-draft_next : (p : ℕ) (ds : List Draft) (i : Item Content) (items : List (Item Content)) → AreDrafts IsSaid (i ∷ items) (drop p ds) → AreDrafts IsSaid items (drop (suc p) ds)
+draft_next : (p : ℕ) (ds : List Draft) (i : Item Content) (items : List (Item Content)) → AreDrafts IsSpecified (i ∷ items) (drop p ds) → AreDrafts IsSpecified items (drop (suc p) ds)
 draft_next zero [] i items h = absurd h
 draft_next zero (d ∷ ds) i items h = h.1
 draft_next (suc p) [] i items h = absurd h
 draft_next (suc p) (d ∷ ds) i items h = draft_next p ds i items h
 
-contents_there : (spec : FieldSpec) (p : ℕ) (rs : List (List (Item Content))) (ss : List Subset) → AreHeaded spec rs → SaidAt p rs ss → contents_here spec (cells_at p ss) ≡ Ok (firsts rs)
+contents_there : (spec : FieldSpec) (p : ℕ) (rs : List (List (Item Content))) (ss : List Subset) → AreHeaded spec rs → SaidAt p rs ss → row_contents spec (cells_at p ss) ≡ Ok (firsts rs)
 contents_there spec p [] [] h d = refl
 contents_there spec p ([] ∷ rs) (s ∷ ss) h d = absurd h.0
 contents_there spec p ((i ∷ items) ∷ rs) (s ∷ ss) h d = cc (
@@ -486,11 +486,11 @@ pub more_followed : (course : Course) (n : ℕ) (items : List (Item Content)) (s
     → ReadsItems plain course items bits mid → course (answers_in answer_of items) ≡ at_end → AreAllFollowed course n subsets mid suffix → AreAllFollowed course (suc n) (items ∷ subsets) bits suffix
 more_followed course n items subsets bits mid suffix fields r end rest = grind (arith, common_steps, followed)
 
-said_from : (subsets : List (List (Item Content))) (ss : List Subset) → AreSaid subsets ss → SaidAt 0 subsets ss × (most_items ss ≡ longest_left subsets)
+said_from : (subsets : List (List (Item Content))) (ss : List Subset) → AreSpecified subsets ss → SaidAt 0 subsets ss × (most_items ss ≡ longest_left subsets)
 said_from [] [] h = (tt, refl)
 said_from (items ∷ subsets) (s ∷ ss) h =
     let rest = said_from subsets ss h.1 in
-    ((h.0, rest.0), omega (arith, rest.1, AllZip-long IsSaid items s.items h.0))
+    ((h.0, rest.0), omega (arith, rest.1, AllZip-long IsSpecified items s.items h.0))
 said_from subsets ss h = absurd h
 
 -- Plain data that were read are written as compressed data, if these can represent their contents.

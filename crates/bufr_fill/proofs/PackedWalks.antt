@@ -4,7 +4,7 @@ use Rattle.std.proofs.Common.{◌≡◌, ℕ, zero, suc, ◌+◌, ◌-◌, ◌<�
 use Rattle.std.proofs.lemmas.List.{append-nil}
 use Rattle.bufr_walk.specs.Prelude.{FieldSpec, Content, Course, Next, take_next, at_end, astray, refused, TakenField, Takes, oks, answers_of, would_be_many}
 use Rattle.bufr_walk.specs.Pass.{EndsPass}
-use Rattle.bufr_fill.specs.Prelude.{packing_fault, Taken, Draft, Subset, DraftFault, at_line, too_many_values, item_too_many, walk_refused, WrittenItem, written_item, bits_of_pass, WritesDrafts, filling, Filler, item_row, cells_at, rows, most_items, content_here, contents_here, pack_across, packed_filler, ◌>>=◌, ItemRow, first_there, packed_data, packing, PackedOutModel, IsPacked, PackedFills, rows_left, new_packed_out, and_end, all_at_end, IsFaultHere}
+use Rattle.bufr_fill.specs.Prelude.{packing_fault, Taken, Draft, Subset, DraftFault, at_line, too_many_values, item_too_many, walk_refused, WrittenItem, written_item, bits_of_pass, WritesDrafts, filling, Filler, item_row, cells_at, rows, most_items, item_content, row_contents, pack_across, packed_filler, ◌>>=◌, ItemRow, first_item_line, packed_data, packing, PackedOutModel, IsPacked, PackedFills, rows_left, new_packed_out, and_end, all_at_end, IsFaultHere}
 use Rattle.bufr_fill.proofs.WalkLemmas.{HasFilled, walk_writes, walk_ends}
 use Rattle.bufr_fill.proofs.EntryLemmas.{length-cells}
 use Rattle.std.specs.Option.{option_map_or}
@@ -95,16 +95,16 @@ ends_past index (s ∷ ss) e = by (slice_get s.items index) refl e (λ e. ends_p
 
 -- If an item is left over, the index is inside the longest subset, and the fault is on the line of
 -- this item.
-ends_before : (index : ℕ) (ss : List Subset) (f : DraftFault) → all_at_end (cells_at index ss) ≡ Err f → (index < most_items ss) × (f ≡ at_line (first_there (cells_at index ss)) item_too_many)
+ends_before : (index : ℕ) (ss : List Subset) (f : DraftFault) → all_at_end (cells_at index ss) ≡ Err f → (index < most_items ss) × (f ≡ at_line (first_item_line (cells_at index ss)) item_too_many)
 ends_before index [] f e = absurd cc e
 ends_before index (s ∷ ss) f e = by (slice_get s.items index) refl e (λ e. ends_before index ss f e)
   where
     by : (o : Option Draft) → slice_get s.items index ≡ o → and_end o (all_at_end (cells_at index ss)) ≡ Err f
-        → (all_at_end (cells_at index ss) ≡ Err f → (index < most_items ss) × (f ≡ at_line (first_there (cells_at index ss)) item_too_many))
-        → (index < most_items (s ∷ ss)) × (f ≡ at_line (first_there (cells_at index (s ∷ ss))) item_too_many)
-    by None is e g = let r = g e in (omega (arith, r.0), r.1 ∙ ap (λ o. at_line (option_map_or (λ (d : Draft). d.line) o (first_there (cells_at index ss))) item_too_many) (sym is))
+        → (all_at_end (cells_at index ss) ≡ Err f → (index < most_items ss) × (f ≡ at_line (first_item_line (cells_at index ss)) item_too_many))
+        → (index < most_items (s ∷ ss)) × (f ≡ at_line (first_item_line (cells_at index (s ∷ ss))) item_too_many)
+    by None is e g = let r = g e in (omega (arith, r.0), r.1 ∙ ap (λ o. at_line (option_map_or (λ (d : Draft). d.line) o (first_item_line (cells_at index ss))) item_too_many) (sym is))
     by (Some d) is e g = let same : at_line d.line item_too_many ≡ f =
-        cc in (omega (arith, some_there), sym same ∙ ap (λ o. at_line (option_map_or (λ (d : Draft). d.line) o (first_there (cells_at index ss))) item_too_many) (sym is))
+        cc in (omega (arith, some_there), sym same ∙ ap (λ o. at_line (option_map_or (λ (d : Draft). d.line) o (first_item_line (cells_at index ss))) item_too_many) (sym is))
 
 -- ---- The walk.
 
@@ -114,7 +114,7 @@ module _ (s : Subset) (more : List Subset) where
 
   past : (spec : FieldSpec) (index : ℕ) (f : DraftFault) (many many' : Bool) (o : Option Draft) → many ≡ many' → o ≡ None
       → (if many then Err (at_line (option_map_or (λ (d : Draft). d.line) o s.end_line) (too_many_values spec.fxy)) else
-      ((content_here spec o s.end_line >>= λ first. contents_here spec (cells_at index more) >>= λ rest. Ok (first ∷ rest))
+      ((item_content spec o s.end_line >>= λ first. row_contents spec (cells_at index more) >>= λ rest. Ok (first ∷ rest))
       >>= λ cs. result_map_both (written_item cs) (packing_fault cs (cells_at index (s ∷ more)))
       (packing spec cs))) ≡ Err f
       → (packed_filler s.end_line many').none_left spec ≡ f

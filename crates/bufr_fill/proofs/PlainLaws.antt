@@ -2,7 +2,7 @@
 use Rattle.std.proofs.lemmas.Grind.{common_steps}
 use Rattle.std.proofs.lemmas.Bool.{le-ltb, lt-ltb}
 use Rattle.bufr_walk.specs.Prelude.{FieldSpec, IsSpec, IsField, HasWidth, HasRole, HasMissing, is_reference, Content, found, number, text, missing, reference, content_by, coding_by, content_in, bits_for, plain_field, signed_by, sign_bit, max_values, Item, DataCoding, ReadsItems, answers_in, after, Course, take_next, at_end}
-use Rattle.bufr_fill.specs.Prelude.{Role, Kind, Draft, DraftValue, number_token, text_form, missing_form, reference_token, draft_value_of, content_of, content_by_form, raw_within, raw_of, reference_of, text_within, is_marked, wrong_for, IsMinusZero, is_of, decimal_again, normal_form, raw_limit, ItemRow, written_item, Filler, fill, with_bits_before, AreDrafts, contents_here, FitsText, FitsKind, FitsRole, Fits}
+use Rattle.bufr_fill.specs.Prelude.{Role, Kind, Draft, DraftValue, number_token, text_form, missing_form, reference_token, draft_value_of, content_of, content_by_form, raw_within, raw_of, reference_of, text_within, is_marked, wrong_for, IsMinusZero, is_of, decimal_again, normal_form, raw_limit, ItemRow, written_item, Filler, fill, with_bits_before, AreDrafts, row_contents, FitsText, FitsKind, FitsRole, Fits}
 use Rattle.bufr_fill.specs.declared.fault.ItemFault.TheVariants as wrong
 use Rattle.bufr_fill.proofs.FillSteps.{fill_more, fill_end}
 use Rattle.std.proofs.Common.{Bool, ◌++◌, Ok, refl, ◌∙◌, ap, arith, append_assoc, suc, ◌-◌, ◌^◌, ◌<◌, true, false, not, replicate, Err, ℤ, pos, negsuc, ◌+ℤ◌, ◌-ℤ◌, nat_abs, pow_mono, take, drop, Result, zero, neg_ℤ, ◌≡◌, ℕ, ◌+◌, ◌*◌, ◌≤◌, List, [], ◌∷◌, length, nat_lt, if◌then◌else◌, unsigned_abs, flat_map, rules}
@@ -33,7 +33,7 @@ HaveContents n items = AllByRecursion (λ (i : Item (List Content)). length i.co
 
 -- An item of compressed data has the contents of a row, up to which there are not too many values.
 pub record IsSaidRow (i : Item (List Content)) (a : ItemRow) : Type 0 where
-  pub contents : contents_here i.spec a.cells ≡ Ok i.content
+  pub contents : row_contents i.spec a.cells ≡ Ok i.content
   pub few : (a.index + 1) * length a.cells ≤ max_values
 
 -- the bits of an item of plain data

@@ -5,7 +5,7 @@ use Rattle.bufr_bits.specs.Prelude.{decimal_text_of, unsigned_text, decimal_valu
 use Rattle.bufr_tables.specs.declared.table_b.Kind.TheVariants as kind
 use Rattle.bufr_walk.specs.declared.spec.Role.TheVariants as role
 use Rattle.bufr_walk.specs.Prelude.{FieldSpec, Content, number, text, missing, reference, Item, subsets_from}
-use Rattle.bufr_fill.specs.Prelude.{Role, Kind, AllAlike, HasOctets, AllHaveOctets, IsSaid, AreSaid, draft, number_token, text_form, missing_form, reference_token, subset, content_of, normal_form}
+use Rattle.bufr_fill.specs.Prelude.{Role, Kind, AllAlike, HasOctets, AllHaveOctets, IsSpecified, AreSpecified, draft, number_token, text_form, missing_form, reference_token, subset, content_of, normal_form}
 use Rattle.bufr_fill.specs.declared.fault.ItemFault.TheVariants as wrong
 
 -- fields: a 7-bit number, a 16-bit number with two decimal places, a text of four octets, and a
@@ -31,10 +31,10 @@ item spec content = record { spec = spec; content = content }
 -- ---- The content of an item.
 
 point_and_zero :
-    (IsSaid (item block (number 1)) (draft 24 257 (number_token (codes "1.0"))))
-    × (IsSaid (item block (number 0)) (draft 24 257 (number_token (codes "-0"))))
-    × (IsSaid (item temperature (number 1250)) (draft 24 257 (number_token (codes "0012.5000"))))
-    × (IsSaid (item block (number 126)) (draft 24 257 (number_token (codes "126"))))
+    (IsSpecified (item block (number 1)) (draft 24 257 (number_token (codes "1.0"))))
+    × (IsSpecified (item block (number 0)) (draft 24 257 (number_token (codes "-0"))))
+    × (IsSpecified (item temperature (number 1250)) (draft 24 257 (number_token (codes "0012.5000"))))
+    × (IsSpecified (item block (number 126)) (draft 24 257 (number_token (codes "126"))))
 unfolding decimal_value_of
 point_and_zero = (refl, refl, refl, refl)
 
@@ -44,22 +44,23 @@ unfolding decimal_value_of
 one_above = refl
 
 short_text :
-    (IsSaid (item letters (text (codes "AB  "))) (draft 24 257 (text_form (codes "AB"))))
+    (IsSpecified (item letters (text (codes "AB  "))) (draft 24 257 (text_form (codes "AB"))))
     × (content_of letters (draft 24 257 (text_form (codes "ABCDE"))) ≡ Err wrong.TextLong)
-    × (IsSaid (item temperature missing) (draft 24 257 missing_form))
+    × (IsSpecified (item temperature missing) (draft 24 257 missing_form))
 short_text = (refl, refl, refl)
 
-minus_zero_reference : IsSaid (item redefining (reference (pos 0))) (draft 24 257 (reference_token (codes "-0.0")))
+minus_zero_reference : IsSpecified (item redefining (reference (pos 0))) (draft 24 257 (reference_token (codes "-0.0")))
 unfolding decimal_value_of
 minus_zero_reference = refl
 
 -- ---- All items, one by one.
 
-two_subsets : AreSaid ((item block (number 1) ∷ []) ∷ (item block missing ∷ []) ∷ []) (subset (draft 24 257 (number_token (codes "1.0")) ∷ []) 25 ∷ subset (draft 26 257 missing_form ∷ []) 27 ∷ [])
+two_subsets : AreSpecified ((item block (number 1) ∷ []) ∷ (item block missing ∷ []) ∷ [])
+    (subset (draft 24 257 (number_token (codes "1.0")) ∷ []) 25 ∷ subset (draft 26 257 missing_form ∷ []) 27 ∷ [])
 unfolding decimal_value_of
 two_subsets = ((refl, tt), ((refl, tt), tt))
 
-two_together : AreSaid (subsets_from 2 0 (record { spec = block; content = number 1 ∷ missing ∷ [] } ∷ []))
+two_together : AreSpecified (subsets_from 2 0 (record { spec = block; content = number 1 ∷ missing ∷ [] } ∷ []))
     (subset (draft 24 257 (number_token (codes "1.0")) ∷ []) 25 ∷ subset (draft 26 257 missing_form ∷ []) 27 ∷ [])
 unfolding decimal_value_of
 two_together = ((refl, tt), ((refl, tt), tt))

@@ -9,7 +9,7 @@ use Rattle.std.proofs.Math.Seq.{drop-cons}
 use Rattle.std.proofs.lemmas.List.{append-nil, take-replicate, length-append, drop_all}
 use Rattle.bufr_bits.specs.Prelude.{bits_of}
 use Rattle.std.specs.Str.{bytes_eq}
-use Rattle.bufr_fill.specs.Prelude.{packing_fault, spaced, Taken, Role, FieldContent, padded_content, IsContentOf, raw_limit, AreContentsOf, padded_contents, need_of, most_need, FitsIncrement, AreShort, least_from, entry_or_end, entry_here, and_end, all_at_end, IsPutWithin, trimmed, same, first_from, packing, packed_bits, packed_over, packed_unlike, RowCell, content_here, contents_here, first_unlike, unlike_line, cell_line, first_line, ◌>>=◌, item_row, cells_at, pack_across, written_item, Draft, DraftEntry, Holds, Ends, Subset, DraftFault, at_line, item_too_many, too_many_values, IfDraftFault, is_end}
+use Rattle.bufr_fill.specs.Prelude.{packing_fault, spaced, Taken, Role, FieldContent, padded_content, IsContentOf, raw_limit, AreContentsOf, padded_contents, need_of, most_need, FitsIncrement, AreShort, least_from, entry_or_end, entry_content, and_end, all_at_end, IsPutWithin, trimmed, same, first_from, packing, packed_bits, packed_over, packed_unlike, RowCell, item_content, row_contents, first_unlike, unlike_line, cell_line, first_line, ◌>>=◌, item_row, cells_at, pack_across, written_item, Draft, DraftEntry, Holds, Ends, Subset, DraftFault, at_line, item_too_many, too_many_values, IfDraftFault, is_end}
 use Rattle.bufr_fill.specs.declared.fault.ItemFault.TheVariants as wrong
 use Rattle.bufr_walk.specs.Prelude.{is_reference}
 use Rattle.bufr_walk.specs.Prelude.{FieldSpec, Content, reference, answer_of, bits_for, answer_first, max_values}
@@ -27,7 +27,7 @@ with_contents_before cs (Err f) = Err f
 
 -- The first `number` cells were converted.
 pub record IsGathering (count : ℕ) (spec : FieldSpec) (cells : List RowCell) (number : ℕ) (contents : List FieldContent) : Type 0 where
-  pub so : contents_here spec cells ≡ with_contents_before (padded_contents count contents) (contents_here spec (drop number cells))
+  pub so : row_contents spec cells ≡ with_contents_before (padded_contents count contents) (row_contents spec (drop number cells))
   pub all : AreContentsOf spec contents
   pub many : length contents ≡ number
 
@@ -166,7 +166,7 @@ cell_at (c ∷ cells) (suc j) h =
     record { cell = r.cell; is = r.is; left = r.left ∙ ap (λ k. r.cell ∷ drop k (c ∷ cells)) n }
 
 -- An entry has the content of its cell.
-entry_same : (spec : FieldSpec) (o : Option Draft) (line : ℕ) → entry_here spec (entry_or_end o line) ≡ content_here spec o line
+entry_same : (spec : FieldSpec) (o : Option Draft) (line : ℕ) → entry_content spec (entry_or_end o line) ≡ item_content spec o line
 entry_same spec None line = refl
 entry_same spec (Some d) line = refl
 
@@ -189,21 +189,21 @@ contents_before_more cs x (Err f) = refl
 module _ (count : ℕ) (spec : FieldSpec) (cells : List RowCell) (j : ℕ) (ds : List FieldContent) (e : DraftEntry) (inv : IsGathering count spec cells j ds) (within : j < length cells)
     (here : (c : RowCell) → slice_get cells j ≡ Some c → e ≡ entry_or_end c.draft c.end_line) where
   -- the contents of the row, given the next cell
-  next_is : (k : CellAt cells j) → contents_here spec cells ≡ with_contents_before (padded_contents count ds)
-      (entry_here spec e >>= λ first. contents_here spec (drop (j + 1) cells) >>= λ rest. Ok (first ∷ rest))
+  next_is : (k : CellAt cells j) → row_contents spec cells ≡ with_contents_before (padded_contents count ds)
+      (entry_content spec e >>= λ first. row_contents spec (drop (j + 1) cells) >>= λ rest. Ok (first ∷ rest))
   next_is k =
-      inv.so ∙ ap (λ cs. with_contents_before (padded_contents count ds) (contents_here spec cs)) k.left
-      ∙ ap (λ r. with_contents_before (padded_contents count ds) (r >>= λ first. contents_here spec (drop (j + 1) cells) >>= λ rest. Ok (first ∷ rest)))
-      (sym (entry_same spec k.cell.draft k.cell.end_line) ∙ ap (entry_here spec) (sym (here k.cell k.is)))
+      inv.so ∙ ap (λ cs. with_contents_before (padded_contents count ds) (row_contents spec cs)) k.left
+      ∙ ap (λ r. with_contents_before (padded_contents count ds) (r >>= λ first. row_contents spec (drop (j + 1) cells) >>= λ rest. Ok (first ∷ rest)))
+      (sym (entry_same spec k.cell.draft k.cell.end_line) ∙ ap (entry_content spec) (sym (here k.cell k.is)))
 
-  pub gather_fault : (o : DraftFault) → Err o ≡ entry_here spec e → IfDraftFault o (λ f. contents_here spec cells ≡ Err f)
+  pub gather_fault : (o : DraftFault) → Err o ≡ entry_content spec e → IfDraftFault o (λ f. row_contents spec cells ≡ Err f)
   gather_fault o h = search (rules, next_is, cell_at)
 
-  pub gather_more : (d : FieldContent) → Ok (padded_content count d) ≡ entry_here spec e → IsContentOf spec d → IsGathering count spec cells (j + 1) (ds ++ d ∷ [])
+  pub gather_more : (d : FieldContent) → Ok (padded_content count d) ≡ entry_content spec e → IsContentOf spec d → IsGathering count spec cells (j + 1) (ds ++ d ∷ [])
   gather_more d h g = grind (arith, common_steps, next_is, cell_at, contents_before_more, contents_more, all_more)
 
 pub gathered : (count : ℕ) (spec : FieldSpec) (cells : List RowCell) (j : ℕ) (ds : List FieldContent) → IsGathering count spec cells j ds → length cells ≤ j
-    → contents_here spec cells ≡ Ok (padded_contents count ds)
+    → row_contents spec cells ≡ Ok (padded_contents count ds)
 gathered count spec cells j ds inv h = rw (inv.so, drop_all, append-nil)
 
 -- whether all subsets end
@@ -274,30 +274,30 @@ module _ (spec : FieldSpec) (index : ℕ) (subsets : List Subset) where
   many_fault h = rw lt-ltb
 
   module _ (few : (index + 1) * length (cells_at index subsets) ≤ max_values) where
-    across_is : pack_across spec (item_row index subsets) ≡ (contents_here spec (cells_at index subsets)
+    across_is : pack_across spec (item_row index subsets) ≡ (row_contents spec (cells_at index subsets)
         >>= λ cs. result_map_both (written_item cs) (packing_fault cs (cells_at index subsets)) (packing spec cs))
     across_is =
         ap (λ b. if b then Err (at_line (first_line (cells_at index subsets)) (too_many_values spec.fxy)) else
-        (contents_here spec (cells_at index subsets) >>= λ cs. result_map_both (written_item cs) (packing_fault cs (cells_at index subsets)) (packing spec cs)))
+        (row_contents spec (cells_at index subsets) >>= λ cs. result_map_both (written_item cs) (packing_fault cs (cells_at index subsets)) (packing spec cs)))
         (le-ltb max_values ((index + 1) * length (cells_at index subsets)) few)
 
-    pub put_fault : (o : DraftFault) → IfDraftFault o (λ f. contents_here spec (cells_at index subsets) ≡ Err f) → IfDraftFault o (λ f. pack_across spec (item_row index subsets) ≡ Err f)
+    pub put_fault : (o : DraftFault) → IfDraftFault o (λ f. row_contents spec (cells_at index subsets) ≡ Err f) → IfDraftFault o (λ f. pack_across spec (item_row index subsets) ≡ Err f)
     put_fault draft_fault.Memory h = tt
     put_fault (draft_fault.Item line fault) h = across_is ∙ ap (λ r. r >>= λ cs. result_map_both (written_item cs) (packing_fault cs (cells_at index subsets)) (packing spec cs)) h
 
-    given : (cs : List Content) → contents_here spec (cells_at index subsets) ≡ Ok cs → pack_across spec (item_row index subsets)
+    given : (cs : List Content) → row_contents spec (cells_at index subsets) ≡ Ok cs → pack_across spec (item_row index subsets)
         ≡ result_map_both (written_item cs) (packing_fault cs (cells_at index subsets)) (packing spec cs)
     given cs h = across_is ∙ ap (λ r. r >>= λ cs. result_map_both (written_item cs) (packing_fault cs (cells_at index subsets)) (packing spec cs)) h
 
-    pub put_ok : (cs : List Content) (bits : List Bool) → contents_here spec (cells_at index subsets) ≡ Ok cs → packing spec cs ≡ Ok bits
+    pub put_ok : (cs : List Content) (bits : List Bool) → row_contents spec (cells_at index subsets) ≡ Ok cs → packing spec cs ≡ Ok bits
         → pack_across spec (item_row index subsets) ≡ Ok (written_item cs bits)
     put_ok cs bits h e = given cs h ∙ ap (result_map_both (written_item cs) (packing_fault cs (cells_at index subsets))) e
 
-    pub put_unequal : (cs : List Content) → contents_here spec (cells_at index subsets) ≡ Ok cs → packing spec cs ≡ Err wrong.UnequalFactor
+    pub put_unequal : (cs : List Content) → row_contents spec (cells_at index subsets) ≡ Ok cs → packing spec cs ≡ Err wrong.UnequalFactor
         → pack_across spec (item_row index subsets) ≡ Err (at_line (unlike_line cs (cells_at index subsets)) wrong.UnequalFactor)
     put_unequal cs h e = given cs h ∙ ap (result_map_both (written_item cs) (packing_fault cs (cells_at index subsets))) e
 
-    pub put_uneven : (cs : List Content) → contents_here spec (cells_at index subsets) ≡ Ok cs → packing spec cs ≡ Err wrong.Increment
+    pub put_uneven : (cs : List Content) → row_contents spec (cells_at index subsets) ≡ Ok cs → packing spec cs ≡ Err wrong.Increment
         → pack_across spec (item_row index subsets) ≡ Err (at_line (first_line (cells_at index subsets)) wrong.Increment)
     put_uneven cs h e = given cs h ∙ ap (result_map_both (written_item cs) (packing_fault cs (cells_at index subsets))) e
 
@@ -328,7 +328,7 @@ apart_by spec cs r is (inr e) = ap (λ a. packed_unlike a spec cs) (sym is ∙ e
 -- The item was written, given its bits.
 pub put_within : (spec : FieldSpec) (index : ℕ) (subsets : List Subset) (ds : List FieldContent) (z : FieldContent) (t : Taken) (old new bits : List Bool) (most : ℕ)
     → (index + 1) * length (cells_at index subsets) ≤ max_values
-    → contents_here spec (cells_at index subsets) ≡ Ok (padded_contents (spec.width / 8) ds) → 0 < length ds → t ≡ answer_of spec (padded_content (spec.width / 8) (get_or ds 0 z))
+    → row_contents spec (cells_at index subsets) ≡ Ok (padded_contents (spec.width / 8) ds) → 0 < length ds → t ≡ answer_of spec (padded_content (spec.width / 8) (get_or ds 0 z))
     → packing spec (padded_contents (spec.width / 8) ds) ≡ Ok bits → new ≡ old ++ bits → length bits ≤ most → length old < length new → IsPutWithin old new spec (item_row index subsets) most t
 put_within spec index subsets ds z t old new bits most few given some gives packed is fits forth = record {
   put = record {
@@ -345,7 +345,7 @@ put_within spec index subsets ds z t old new bits most few given some gives pack
 -- The item was written, given how contents that differ are packed.
 pub put_packed : (spec : FieldSpec) (index : ℕ) (subsets : List Subset) (ds : List FieldContent) (z : FieldContent) (t : Taken) (old new : List Bool) (few most : ℕ)
     → (index + 1) * length (cells_at index subsets) ≤ max_values
-    → contents_here spec (cells_at index subsets) ≡ Ok (padded_contents (spec.width / 8) ds) → 0 < length ds → t ≡ answer_of spec (padded_content (spec.width / 8) (get_or ds 0 z))
+    → row_contents spec (cells_at index subsets) ≡ Ok (padded_contents (spec.width / 8) ds) → 0 < length ds → t ≡ answer_of spec (padded_content (spec.width / 8) (get_or ds 0 z))
     → packing spec (padded_contents (spec.width / 8) ds) ≡ packed_over spec (padded_contents (spec.width / 8) ds) → few ≤ most
     → (bits : List Bool) × (packed_over spec (padded_contents (spec.width / 8) ds) ≡ Ok bits) × (new ≡ old ++ bits) × (length bits ≤ few) × (length old < length new)
     → IsPutWithin old new spec (item_row index subsets) most t

@@ -4,7 +4,7 @@ use Rattle.std.proofs.lemmas.Slice.Zip.{AllZip-long}
 use Rattle.std.proofs.Common.{◌≡◌, ℕ, zero, suc, ◌+◌, ◌*◌, ◌<◌, ◌≤◌, List, [], ◌∷◌, length, drop, refl, sym, ◌∙◌, ap, subst, arith, Bool, true, false, ◌++◌, Ok, length-drop, slice_get, flat_map, rules}
 use Rattle.bufr_fill.proofs.EntryLemmas.{length-cells}
 use Rattle.bufr_walk.specs.Prelude.{Content, max_values, Item, packed, ReadsItems, answers_in, answer_first, at_end, after, Data, Values, apart, together, each_subset, content_at, Course, next_item, items_of_subset, subsets_from, would_be_many}
-use Rattle.bufr_fill.specs.Prelude.{IsAlike, Draft, Subset, cells_at, rows, most_items, packed_filler, content_here, contents_here, packed_data, AreDrafts, AreDumped, HasReading, IsWritten, IsWrittenAgain, IsTogetherOrNot, data_bits, IsSaid, AreSaid, AllAlike, AllHaveOctets}
+use Rattle.bufr_fill.specs.Prelude.{IsAlike, Draft, Subset, cells_at, rows, most_items, packed_filler, item_content, row_contents, packed_data, AreDrafts, AreDumped, HasReading, IsWritten, IsWrittenAgain, IsTogetherOrNot, data_bits, IsSpecified, AreSpecified, AllAlike, AllHaveOctets}
 use Rattle.bufr_fill.proofs.PlainLaws.{IsSaidRow, HaveContents, AllFields, rewritten}
 use Rattle.std.specs.List.{AllZip}
 use Rattle.bufr_tables.specs.Prelude.{Row, Tree, IsLegal}
@@ -39,8 +39,8 @@ drop_next (x ∷ items) zero i rest e = cc
 drop_next (x ∷ items) (suc p) i rest e = let q : suc p + 1 ≡ suc (p + 1) = omega arith in cc (q, drop_next items p i rest e)
 
 -- The draft at an index has the content of the item there.
-said_at : (end_line : ℕ) (items : List (Item Content)) (ds : List Draft) (p : ℕ) (i : Item Content) (rest : List (Item Content)) → AreDrafts IsSaid items ds → drop p items ≡ i ∷ rest
-    → content_here i.spec (slice_get ds p) end_line ≡ Ok i.content
+said_at : (end_line : ℕ) (items : List (Item Content)) (ds : List Draft) (p : ℕ) (i : Item Content) (rest : List (Item Content)) → AreDrafts IsSpecified items ds → drop p items ≡ i ∷ rest
+    → item_content i.spec (slice_get ds p) end_line ≡ Ok i.content
 said_at end_line [] [] zero i rest h e = absurd cc
 said_at end_line [] [] (suc p) i rest h e = absurd cc
 said_at end_line (x ∷ items) (d ∷ ds) zero i rest h e = grind arith
@@ -49,7 +49,7 @@ said_at end_line items ds p i rest h e = absurd h
 
 -- The cells at an index have the contents of the item there.
 contents_said : (items : List (Item (List Content))) (p : ℕ) (i : Item (List Content)) (rest : List (Item (List Content))) (j : ℕ) (ss : List Subset) → drop p items ≡ i ∷ rest
-    → j + length ss ≡ length i.content → AreSaid (subsets_from (length ss) j items) ss → contents_here i.spec (cells_at p ss) ≡ Ok (drop j i.content)
+    → j + length ss ≡ length i.content → AreSpecified (subsets_from (length ss) j items) ss → row_contents i.spec (cells_at p ss) ≡ Ok (drop j i.content)
 contents_said items p i rest j [] e n h = ap Ok (sym (content_none j i.content (omega arith)))
 contents_said items p i rest j (s ∷ ss) e n h =
     let here : drop p (items_of_subset j items) ≡ record { spec = i.spec; content = content_at j i.content } ∷ items_of_subset j rest = drop-items_of j p items ∙ ap (items_of_subset j) e in
@@ -60,7 +60,7 @@ contents_said items p i rest j (s ∷ ss) e n h =
     )
 
 -- the rows from an index on
-rows_said : (items : List (Item (List Content))) (ss : List Subset) (rest : List (Item (List Content))) (p : ℕ) → HaveContents (length ss) rest → AreSaid (subsets_from (length ss) 0 items) ss
+rows_said : (items : List (Item (List Content))) (ss : List Subset) (rest : List (Item (List Content))) (p : ℕ) → HaveContents (length ss) rest → AreSpecified (subsets_from (length ss) 0 items) ss
     → drop p items ≡ rest → (p + length rest) * length ss ≤ max_values → AreDrafts IsSaidRow rest (rows (length rest) p ss)
 rows_said items ss [] p have h e few = tt
 rows_said items ss (i ∷ rest) p have h e few =
@@ -72,16 +72,16 @@ rows_said items ss (i ∷ rest) p have h e few =
       rows_said items ss rest (p + 1) have.1 h (drop_next items p i rest e) (rw q few),
     )
 
-longest_said : (j : ℕ) (items : List (Item (List Content))) (ss : List Subset) → AreSaid (subsets_from (length ss) j items) ss → most_items ss ≤ length items
+longest_said : (j : ℕ) (items : List (Item (List Content))) (ss : List Subset) → AreSpecified (subsets_from (length ss) j items) ss → most_items ss ≤ length items
 longest_said j items [] h = omega arith
-longest_said j items (s ∷ ss) h = omega (arith, AllZip-long IsSaid (items_of_subset j items) s.items h.0, length-items_of, longest_said (suc j) items ss h.1)
+longest_said j items (s ∷ ss) h = omega (arith, AllZip-long IsSpecified (items_of_subset j items) s.items h.0, length-items_of, longest_said (suc j) items ss h.1)
 
-all_rows_said : (n : ℕ) (items : List (Item (List Content))) (s : Subset) (ss : List Subset) → HaveContents n items → AreSaid (subsets_from n 0 items) (s ∷ ss)
+all_rows_said : (n : ℕ) (items : List (Item (List Content))) (s : Subset) (ss : List Subset) → HaveContents n items → AreSpecified (subsets_from n 0 items) (s ∷ ss)
     → length items * n ≤ max_values → AreDrafts IsSaidRow items (rows (most_items (s ∷ ss)) 0 (s ∷ ss))
 all_rows_said n items s ss have said few =
     let same = sym (subset_count _ n items (s ∷ ss) said) in
-    let h = subst (λ k. AreSaid (subsets_from k 0 items) (s ∷ ss)) same said in
-    let l : most_items (s ∷ ss) ≡ length items = omega (arith, AllZip-long IsSaid (items_of_subset 0 items) s.items h.0, length-items_of, longest_said 1 items ss h.1) in
+    let h = subst (λ k. AreSpecified (subsets_from k 0 items) (s ∷ ss)) same said in
+    let l : most_items (s ∷ ss) ≡ length items = omega (arith, AllZip-long IsSpecified (items_of_subset 0 items) s.items h.0, length-items_of, longest_said 1 items ss h.1) in
     search (rules, rows_said)
 
 have_contents : (n : ℕ) (course : Course) (items : List (Item (List Content))) (bits suffix : List Bool) → AllFields items → ReadsItems (packed n) course items bits suffix → HaveContents n items
@@ -94,12 +94,12 @@ pub record ArePackedRows (n : ℕ) (course : Course) (items : List (Item (List C
   pub again : AreReadAs course true n (together items) (flat_map row_bits items)
   pub short : length (flat_map row_bits items) + length suffix ≤ length bits
 
-no_rows : (course : Course) (drafts : List Subset) (bits : List Bool) → AreSaid [] drafts → ArePackedRows 0 course [] drafts bits bits
+no_rows : (course : Course) (drafts : List Subset) (bits : List Bool) → AreSpecified [] drafts → ArePackedRows 0 course [] drafts bits bits
 no_rows course [] bits said = record { is = refl; again = none_read_together course; short = omega arith }
 no_rows course (s ∷ ss) bits said = absurd said
 
 packed_rows : (course : Course) → ((m : ℕ) → IsSane m course) → (n : ℕ) (items : List (Item (List Content))) (drafts : List Subset) (bits suffix : List Bool) → AllFields items
-    → AreSaid (subsets_from (suc n) 0 items) drafts → ReadsItems (packed (suc n)) course items bits suffix → course (answers_in answer_first items) ≡ at_end → length items * suc n ≤ max_values
+    → AreSpecified (subsets_from (suc n) 0 items) drafts → ReadsItems (packed (suc n)) course items bits suffix → course (answers_in answer_first items) ≡ at_end → length items * suc n ≤ max_values
     → ArePackedRows (suc n) course items drafts bits suffix
 packed_rows course sane n items [] bits suffix fields said r end few = absurd said
 packed_rows course sane n items (s ∷ ss) bits suffix fields said r end few =
@@ -127,10 +127,10 @@ module _ (table : List Row) (template : Tree) (rows : AreRead table) (legal : Is
   plain_all subsets used h =
       of_apart table template rows legal (AreAllFollowed course) (none_followed course) (more_followed course) d subsets used h
 
-  packed_all : (items : List (Item (List Content))) (drafts : List Subset) (used : ℕ) → AreSaid (subsets_from d.subsets 0 items) drafts → HasReading course d (together items) used
+  packed_all : (items : List (Item (List Content))) (drafts : List Subset) (used : ℕ) → AreSpecified (subsets_from d.subsets 0 items) drafts → HasReading course d (together items) used
       → ArePackedRows d.subsets course items drafts d.bits (drop used d.bits)
   packed_all items drafts used said h =
-      of_together table template rows legal (λ n items bits left. AreSaid (subsets_from n 0 items) drafts → ArePackedRows n course items drafts bits left)
+      of_together table template rows legal (λ n items bits left. AreSpecified (subsets_from n 0 items) drafts → ArePackedRows n course items drafts bits left)
       (λ bits said. no_rows course drafts bits said) (λ n items bits left fields r end few said. packed_rows course sane n items drafts bits left fields said r end few) d items used h said
 
   -- There are as many lists of items as subsets.
@@ -145,7 +145,7 @@ module _ (table : List Row) (template : Tree) (rows : AreRead table) (legal : Is
       (λ n items bits left fields r end few. all_follow (suc n) 0 (suc n) course items bits left (omega arith) fields r end) d items used h
 
   -- Drafts with the contents that were read are written so that they read back the same.
-  pub said_again : (values : Values) (used : ℕ) (drafts : List Subset) → HasReading course d values used → AreSaid (each_subset d.subsets values) drafts
+  pub said_again : (values : Values) (used : ℕ) (drafts : List Subset) → HasReading course d values used → AreSpecified (each_subset d.subsets values) drafts
       → (w : IsWrittenAgain course d values used drafts) × (w.0.out ≡ bits_again values)
   said_again (apart subsets) used drafts h said =
       let form = form_is course d (apart subsets) used h in
@@ -181,8 +181,8 @@ module _ (table : List Row) (template : Tree) (rows : AreRead table) (legal : Is
   written_again values used drafts h dumped = (said_again values used drafts h (subsets_said course (each_subset d.subsets values) drafts (follows values used h) dumped)).0
 
   -- The contents of drafts determine the bits that are written.
-  pub said_alike : (values : Values) (used : ℕ) (drafts others : List Subset) → HasReading course d values used → AreSaid (each_subset d.subsets values) drafts
-      → AreSaid (each_subset d.subsets values) others → data_bits d.compressed course drafts ≡ data_bits d.compressed course others
+  pub said_alike : (values : Values) (used : ℕ) (drafts others : List Subset) → HasReading course d values used → AreSpecified (each_subset d.subsets values) drafts
+      → AreSpecified (each_subset d.subsets values) others → data_bits d.compressed course drafts ≡ data_bits d.compressed course others
   said_alike values used drafts others h said also =
       let a = said_again values used drafts h said in
       let b = said_again values used others h also in
@@ -204,14 +204,14 @@ module _ (table : List Row) (template : Tree) (rows : AreRead table) (legal : Is
 
 -- ---- Drafts with the same contents are written as the same bits.
 
-items_alike : (items : List (Item Content)) (ds es : List Draft) → AllZip IsAlike ds es → AreDrafts IsSaid items ds → AreDrafts IsSaid items es
+items_alike : (items : List (Item Content)) (ds es : List Draft) → AllZip IsAlike ds es → AreDrafts IsSpecified items ds → AreDrafts IsSpecified items es
 items_alike [] [] [] a h = tt
 items_alike [] [] (e ∷ es) a h = absurd a
 items_alike (i ∷ items) (d ∷ ds) [] a h = absurd a
 items_alike (i ∷ items) (d ∷ ds) (e ∷ es) a h = (sym (a.0 i.spec) ∙ h.0, items_alike items ds es a.1 h.1)
 items_alike items ds es a h = absurd h
 
-subsets_alike : (subsets : List (List (Item Content))) (ss ts : List Subset) → AllAlike ss ts → AreSaid subsets ss → AreSaid subsets ts
+subsets_alike : (subsets : List (List (Item Content))) (ss ts : List Subset) → AllAlike ss ts → AreSpecified subsets ss → AreSpecified subsets ts
 subsets_alike [] [] [] a h = tt
 subsets_alike [] [] (t ∷ ts) a h = absurd a
 subsets_alike (items ∷ subsets) (s ∷ ss) [] a h = absurd a

@@ -184,16 +184,16 @@ pub record HasLeastK (n : ℕ) (spec : FieldSpec) (contents : List Content) : Ty
 -- the content that an item specifies, or a fault; if the subset has no more items, the fault is
 -- reported for line `end_line`, which ends the subset
 -- rule: fault-51
-abbrev pub content_here : FieldSpec → Option Draft → (end_line : ℕ) → Result Content DraftFault
-content_here spec None end_line = Err (at_line end_line (wrong_for spec))
-content_here spec (Some d) end_line = map_err (at_line d.line) (content_of spec d)
+abbrev pub item_content : FieldSpec → Option Draft → (end_line : ℕ) → Result Content DraftFault
+item_content spec None end_line = Err (at_line end_line (wrong_for spec))
+item_content spec (Some d) end_line = map_err (at_line d.line) (content_of spec d)
 
 -- How the items of one subset are written as plain data. The subset ends on line `end_line`.
 -- rule: fault-51, fault-62
 abbrev pub plain_filler : (end_line : ℕ) → Filler Draft Content DraftFault
 plain_filler end_line = record {
   fills = λ spec d.
-      content_here spec (Some d) end_line >>= λ c. Ok (written_item c (bits_for spec.width c));
+      item_content spec (Some d) end_line >>= λ c. Ok (written_item c (bits_for spec.width c));
   gives = answer_of;
   none_left = λ spec. at_line end_line (wrong_for spec);
   left_over = λ d. at_line d.line item_too_many;
@@ -253,16 +253,16 @@ first_line [] = 0
 first_line (c ∷ cs) = cell_line c
 
 -- the line number of the first item in a row; cells without an item are skipped
-abbrev pub first_there : List RowCell → ℕ
-first_there [] = 0
-first_there (c ∷ cs) = option_map_or (λ (d : Draft). d.line) c.draft (first_there cs)
+abbrev pub first_item_line : List RowCell → ℕ
+first_item_line [] = 0
+first_item_line (c ∷ cs) = option_map_or (λ (d : Draft). d.line) c.draft (first_item_line cs)
 
 -- the contents that the cells of a row specify, or the fault in the first invalid cell
-abbrev pub contents_here : FieldSpec → List RowCell → Result (List Content) DraftFault
-contents_here spec [] = Ok []
-contents_here spec (c ∷ cs) = do
-  first ← content_here spec c.draft c.end_line
-  rest ← contents_here spec cs
+abbrev pub row_contents : FieldSpec → List RowCell → Result (List Content) DraftFault
+row_contents spec [] = Ok []
+row_contents spec (c ∷ cs) = do
+  first ← item_content spec c.draft c.end_line
+  rest ← row_contents spec cs
   Ok (first ∷ rest)
 
 -- the line number of the first cell whose content differs from c
@@ -295,7 +295,7 @@ pack_across spec a =
     if would_be_many (length a.cells) a.index
     then Err (at_line (first_line a.cells) (too_many_values spec.fxy))
     else do
-      cs ← contents_here spec a.cells
+      cs ← row_contents spec a.cells
       result_map_both (written_item cs) (packing_fault cs a.cells) (packing spec cs)
 
 -- How the rows of compressed data are written. `many` is true if one more row would exceed the
@@ -309,7 +309,7 @@ packed_filler end_line many = record {
   gives = answer_first;
   none_left = λ spec. if many then at_line end_line (too_many_values spec.fxy)
       else at_line end_line (wrong_for spec);
-  left_over = λ a. at_line (first_there a.cells) item_too_many;
+  left_over = λ a. at_line (first_item_line a.cells) item_too_many;
   refused_at = λ a why. at_line (first_line a.cells) (walk_refused why);
   refused_at_end = λ why. at_line end_line (walk_refused why);
   lost = at_line end_line item_too_many;

@@ -116,18 +116,19 @@ AllHaveOctets ss =
     AllByRecursion (λ (s : Subset). AllByRecursion (λ (d : Draft). HasOctets d.form) s.items) ss
 
 -- The item has the content that the draft specifies for its field.
-abbrev pub IsSaid : Item Content → Draft → Type 0
-IsSaid i d = content_of i.spec d ≡ Ok i.content
+abbrev pub IsSpecified : Item Content → Draft → Type 0
+IsSpecified i d = content_of i.spec d ≡ Ok i.content
 
 -- Each item has the content that is specified by the draft at the same index in the same subset.
-abbrev pub AreSaid : List (List (Item Content)) → List Subset → Type 0
-AreSaid = AllZip (λ (items : List (Item Content)) (s : Subset). AreDrafts IsSaid items s.items)
+abbrev pub AreSpecified : List (List (Item Content)) → List Subset → Type 0
+AreSpecified =
+    AllZip (λ (items : List (Item Content)) (s : Subset). AreDrafts IsSpecified items s.items)
 
 -- The bits are read back as the contents that the drafts specify, even if other bits follow.
 pub record IsReadBack (course : Course) (compressed : Bool) (drafts : List Subset)
     (bits : List Bool) : Type 0 where
   pub values : Values
-  pub said : AreSaid (each_subset (length drafts) values) drafts
+  pub said : AreSpecified (each_subset (length drafts) values) drafts
   pub read : (suffix : List Bool) → HasReading course
       (record { compressed = compressed; subsets = length drafts; bits = bits ++ suffix }) values
       (length bits)

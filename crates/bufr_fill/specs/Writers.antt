@@ -5,7 +5,7 @@ use Rattle.bufr_walk.specs.declared.spec.Taken.{Taken}
 use Rattle.bufr_walk.specs.Prelude.{FieldSpec, Content, answer_of, bits_for, Next, take_next, at_end, astray, refused, answer_first, max_values}
 use Rattle.bufr_fill.specs.Draft.{DraftFault, Draft, DraftEntry, Holds, Ends, ItemFault, at_line, item_too_many, walk_refused, Subset, content_of, wrong_for, FieldContent, raw_limit, padded_content, IsContentOf, subsets_of, has_octets, entry_with, ends_of}
 use Rattle.bufr_fill.specs.declared.fault.DraftFault.{DraftFault}
-use Rattle.bufr_fill.specs.Encoding.{written_item, RowCell, ItemRow, rows, most_items, item_row, cells_at, first_line, pack_across, content_here, contents_here, first_from, Taken}
+use Rattle.bufr_fill.specs.Encoding.{written_item, RowCell, ItemRow, rows, most_items, item_row, cells_at, first_line, pack_across, item_content, row_contents, first_from, Taken}
 use Rattle.std.specs.List.{list_all, AllByRecursion}
 use Rattle.bufr_fill.specs.declared.packed_out.NumberRange.{NumberRange}
 use Rattle.bufr_fill.specs.declared.draft.StoredEntry.{StoredEntry}
@@ -279,9 +279,9 @@ PutAcross old new spec a most (Err e) =
 -- ---- How the code reads the rows of compressed data.
 
 -- the content that an entry specifies for a field, or a fault
-abbrev pub entry_here : FieldSpec → DraftEntry → Result Content DraftFault
-entry_here spec (Holds d) = content_here spec (Some d) d.line
-entry_here spec (Ends line) = content_here spec None line
+abbrev pub entry_content : FieldSpec → DraftEntry → Result Content DraftFault
+entry_content spec (Holds d) = item_content spec (Some d) d.line
+entry_content spec (Ends line) = item_content spec None line
 
 -- All of the contents are valid for the field.
 abbrev pub AreContentsOf : FieldSpec → List FieldContent → Type 0
@@ -303,7 +303,7 @@ pub record IsRangeOf (range : NumberRange) (contents : List FieldContent) : Type
 abbrev pub ReturnsRow : (count : ℕ) → FieldSpec → List RowCell → List FieldContent
     → Result NumberRange DraftFault → Type 0
 ReturnsRow count spec cells contents (Ok range) =
-    (contents_here spec cells ≡ Ok (padded_contents count contents)) × AreContentsOf spec contents
+    (row_contents spec cells ≡ Ok (padded_contents count contents)) × AreContentsOf spec contents
     × (length contents ≡ length cells) × IsRangeOf range contents
 ReturnsRow count spec cells contents (Err e) =
-    IfDraftFault e (λ f. contents_here spec cells ≡ Err f)
+    IfDraftFault e (λ f. row_contents spec cells ≡ Err f)

@@ -4,7 +4,7 @@ ghost use Rattle.std.specs.List.{list_all};
 ghost use Rattle.bufr_tables.specs.Prelude.{is_character};
 ghost use Rattle.bufr_walk.specs.Prelude.{is_reference, IsFor, number, reference, bits_for, answer_of};
 ghost use Rattle.bufr_bits.specs.Prelude.{decimal_value_of};
-ghost use Rattle.bufr_fill.specs.Prelude.{raw_of, reference_of, is_marked, wrong_for, content_by_form, returned, padded_content, IsContentOf, raw_limit, entry_with, is_of, draft, value_by, entry_here, at_line};
+ghost use Rattle.bufr_fill.specs.Prelude.{raw_of, reference_of, is_marked, wrong_for, content_by_form, returned, padded_content, IsContentOf, raw_limit, entry_with, is_of, draft, value_by, entry_content, at_line};
 
 use crate::draft::{StoredEntry, ValueKind};
 use crate::fault::{DraftFault, Expected, ItemFault};
@@ -185,7 +185,7 @@ pub(crate) fn field_content<'a>(
     spec: &Spec,
 ) -> Result<FieldContent<'a>, DraftFault>
     ensures is { returned (padded_content (spec.now.width / 8)) result
-        ≡ entry_here spec.now (entry_with entry.now octets.now) }
+        ≡ entry_content spec.now (entry_with entry.now octets.now) }
     ensures content { IfOk result (λ d. IsContentOf spec.now d) }
 {
     let Some(kind) = entry.kind else {

@@ -4,7 +4,7 @@
 //! written with the smallest possible increment width `k`.
 ghost use Rattle.std.specs.Prelude.{◌≡◌, ◌≤◌, ℕ, List, [], Bool, false, length, Ok, Err};
 ghost use Rattle.bufr_walk.specs.Prelude.{FieldSpec, IsSpec, Content, found, packed_field, Course, at_end, TakenField, Takes, oks, answers_of, max_values, Item, Data, Values, apart, together, each_subset, subsets_from};
-ghost use Rattle.bufr_fill.specs.Prelude.{AllAlike, OfTemplates, WritesDrafts, AllFit, AllHaveOctets, AreSaid, HasReading, IsReadBack, IsWritten, IsTogetherOrNot, AreDumped, IsWrittenAgain, plain_filler, fill, cells_at, packed_filler, packed_data, data_bits, HasLeastK, packing, DraftEntry, Subset, DraftFault, PackedOutModel, new_packed_out, PackedFills, all_at_end, rows_left, IsFaultHere, PlainOutModel, PlainFills, IsFaultNext, items_left, end_left};
+ghost use Rattle.bufr_fill.specs.Prelude.{AllAlike, OfTemplates, WritesDrafts, AllFit, AllHaveOctets, AreSpecified, HasReading, IsReadBack, IsWritten, IsTogetherOrNot, AreDumped, IsWrittenAgain, plain_filler, fill, cells_at, packed_filler, packed_data, data_bits, HasLeastK, packing, DraftEntry, Subset, DraftFault, PackedOutModel, new_packed_out, PackedFills, all_at_end, rows_left, IsFaultHere, PlainOutModel, PlainFills, IsFaultNext, items_left, end_left};
 
 /// Law: if the data of a message can be read, the items of its dump can be written in the same form
 /// (compressed or plain). Reading the written bits gives the same values as reading the original
@@ -41,11 +41,11 @@ pub fn written_data_are_read()
 /// Law: if the items read from a message are written in the original form (compressed or plain),
 /// the written bits depend only on the items. Two documents that specify the same contents for all
 /// fields produce the same bits.
-pub fn data_are_fixed_by_what_is_said()
+pub fn items_determine_the_data()
     ensures { OfTemplates (λ course. (d : Data) (values : Values) (used : ℕ)
         (drafts others : List Subset) → HasReading course d values used
-        → AreSaid (each_subset d.subsets values) drafts
-        → AreSaid (each_subset d.subsets values) others
+        → AreSpecified (each_subset d.subsets values) drafts
+        → AreSpecified (each_subset d.subsets values) others
         → data_bits d.compressed course drafts ≡ data_bits d.compressed course others) }
 {}
 

@@ -1,7 +1,7 @@
 //! A writer that converts the items of a dump to compressed data.
 ghost use Rattle.std.specs.Prelude.{◌≡◌, ◌==◌, ◌≤◌, ◌<◌, ◌+◌, ◌*◌, ◌/◌, ◌^◌, IfOk, Ok, length, ℕ, Bool, slice_get, Some, List, ◌-◌, ◌++◌, ◌∷◌, ◌%◌, [], true, false, take, unwrap_or, vec_len, OnOk};
 ghost use Rattle.bufr_walk.specs.Prelude.{IsFor, is_reference, max_values, numbers, texts};
-ghost use Rattle.bufr_fill.specs.Prelude.{item_row, cells_at, contents_here, RowCell, unlike_line, same, lowest, increment_for, packed_over, subsets_of, AreContentsOf, padded_contents, IsRangeOf, entry_or_end, cell_line, ReturnsRow, PutAcross, number_or, spread, trimmed, most_need, PacksItem, FitsIncrement, AreShort, least_from, ends_of, first_line_at, EndsAllSubsets, entry_with, padded_content, IsContentOf, raw_limit, FieldContent, StartsPackedOut, PackedFills, spaced, AreTransposed};
+ghost use Rattle.bufr_fill.specs.Prelude.{item_row, cells_at, row_contents, RowCell, unlike_line, same, lowest, increment_for, packed_over, subsets_of, AreContentsOf, padded_contents, IsRangeOf, entry_or_end, cell_line, ReturnsRow, PutAcross, number_or, spread, trimmed, most_need, PacksItem, FitsIncrement, AreShort, least_from, ends_of, first_line_at, EndsAllSubsets, entry_with, padded_content, IsContentOf, raw_limit, FieldContent, StartsPackedOut, PackedFills, spaced, AreTransposed};
 ghost use Rattle.std.specs.Str.{bytes_eq};
 ghost use Rattle.std.specs.List.{flat_map, list_all};
 ghost use Rattle.bufr_bits.specs.Prelude.{bits_in, bits_of, padding};
@@ -71,7 +71,7 @@ fn pack_row(
     out: &mut BitWriter,
 ) -> Result<Taken, DraftFault>
     requires values { (row.index + 1) * length row.ends.now ≤ max_values }
-    requires given { contents_here spec.now (cells_at row.index (subsets_of row.entries.now))
+    requires given { row_contents spec.now (cells_at row.index (subsets_of row.entries.now))
         ≡ Ok (padded_contents (spec.now.width / 8) contents.now) }
     requires all { AreContentsOf spec.now contents.now }
     requires range { IsRangeOf range contents.now }

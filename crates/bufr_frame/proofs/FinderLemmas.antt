@@ -4,7 +4,7 @@ use Rattle.std.specs.Io.KnownBytes.{Consumes, IsAtEnd}
 use Rattle.std.proofs.KnownBytes.{Consumes-trans}
 use Rattle.bufr_bits.specs.Prelude.{counted}
 use Rattle.bufr_bits.proofs.CountLemmas.{counted-counted, counted-none}
-use Rattle.bufr_frame.specs.Prelude.{read_failures_after, StopsFinder, IsUndecided, AddsReads, max_reads, ReadsOnce, FillFails, FillEnds, Candidate, StreamEvent, FrameAt, scan, scan_from, open_scan, stream_event, candidate_len, is_decided, Advances, NoEventCertain, first_event, StrayAt, has_word_at, classify, length_here, longest_of, offset_of, IsNextEvent, IsIncomplete, HasNoFurtherEvent, gone_to, stated_length, StartsWithBufr, FinderModel, ReadsAndPasses, Follows, new_finder, IsStatedLength, RaisesLongest, held, EachReadIsNeeded, CallReadsAreNeeded, ReturnsNextEvent, LeavesFinder, events_returned}
+use Rattle.bufr_frame.specs.Prelude.{read_failures_after, StopsFinder, IsUndecided, AddsReads, max_reads, ReadsOnce, FillFails, FillEnds, Candidate, StreamEvent, FrameAt, scan, scan_from, open_scan, stream_event, candidate_len, is_decided, Advances, NoEventCertain, first_event, StrayAt, has_word_at, classify, stated_or_zero, longest_of, offset_of, IsNextEvent, IsIncomplete, HasNoFurtherEvent, gone_to, stated_length, StartsWithBufr, FinderModel, ReadsAndPasses, Follows, new_finder, IsStatedLength, RaisesLongest, held, EachReadIsNeeded, CallReadsAreNeeded, ReturnsNextEvent, LeavesFinder, events_returned}
 use Rattle.bufr_frame.specs.declared.fault.RunFault.{RunFault}
 use Rattle.bufr_frame.specs.declared.fault.RunFault.TheVariants.{Read, Write, InputTooLong, Memory}
 use Rattle.std.proofs.lemmas.List.{drop-take, take-take, take-append-le, drop-append-le}
@@ -329,7 +329,7 @@ scan-placed (suc n) at (x ∷ m) within =
     ]
 
 -- Octets that follow do not change the length that is declared at a certain event.
-here-prefix : (m t : List ℕ) → 8 ≤ length m → length_here (m ++ t) ≡ length_here m
+here-prefix : (m t : List ℕ) → 8 ≤ length m → stated_or_zero (m ++ t) ≡ stated_or_zero m
 here-prefix m t long = length-eight (m ++ t) (omega (arith, length-append m t)) ∙ stated-prefix m t long ∙ sym (length-eight m long)
 
 longest-prefix : (s t : List ℕ) (es : List StreamEvent) → AllPlaced 0 s es → list_all is_decided es ≡ true → longest_of 0 (s ++ t) es ≡ longest_of 0 s es
@@ -337,7 +337,7 @@ longest-prefix s t [] all sure = refl
 longest-prefix s t (e ∷ es) all sure =
     let both = and_parts (is_decided e) (list_all is_decided es) sure in
     let o = offset_of e - 0 in
-    let one : length_here (drop o (s ++ t)) ≡ length_here (drop o s) = ap length_here (drop-append-le o s t (omega arith)) ∙ here-prefix (drop o s) t (omega (arith, length-drop o s)) in
+    let one : stated_or_zero (drop o (s ++ t)) ≡ stated_or_zero (drop o s) = ap stated_or_zero (drop-append-le o s t (omega arith)) ∙ here-prefix (drop o s) t (omega (arith, length-drop o s)) in
     cc (one, longest-prefix s t es all.1 both.1)
 
 longest-append : (at : ℕ) (s : List ℕ) (xs ys : List StreamEvent) → longest_of at s (xs ++ ys) ≡ max (longest_of at s xs) (longest_of at s ys)
@@ -350,7 +350,7 @@ longest-back s at t [] all is = refl
 longest-back s at t (e ∷ es) all is =
     let o = offset_of e in
     let k : at + (o - at) ≡ o - 0 = omega (arith, all.0.0) in
-    let one : length_here (drop (o - at) t) ≡ length_here (drop (o - 0) s) = cc (is, drop-twice (o - at) at s ∙ ap (λ n. drop n s) k) in
+    let one : stated_or_zero (drop (o - at) t) ≡ stated_or_zero (drop (o - 0) s) = cc (is, drop-twice (o - at) at s ∙ ap (λ n. drop n s) k) in
     cc (one, longest-back s at t es all.1 is)
 
 -- the greatest length after another call
@@ -466,7 +466,7 @@ module _ (old s' : FinderModel) (offset place len size : ℕ) (here : Option Can
 
   -- the reads of the call that passes the event
   pub found-reads : here ≢ None → (left left' : Option (List ℕ)) (first : FinderModel) (bs : List ℕ) → ReadsAndPasses left left' first old bs [] → CallReadsAreNeeded first old bs
-      → Raised first.longest old.longest old.rest → size ≡ length_here (drop place old.rest)
+      → Raised first.longest old.longest old.rest → size ≡ stated_or_zero (drop place old.rest)
       → ReadsOn left left' first s' (stream_event offset (drop place old.rest) here) (stream_event offset (drop place old.rest) here)
   found-reads some left left' first bs steps each raised stated = (
     bs,

@@ -6,7 +6,7 @@ use Rattle.std.proofs.lemmas.Slice.Eq.{bytes_eq-Decides}
 use Rattle.std.proofs.lemmas.Grind.{common_steps}
 use Rattle.memchr.specs.Find.{OccursAt, FindsNeedle, Nowhere}
 use Rattle.memchr.proofs.lemmas.MatchLemmas.{OccursAt-from_part, OccursAt-part}
-use Rattle.bufr_frame.specs.Prelude.{Candidate, scan_from, classify, has_word_at, stated_length, stream_event, candidate_len, StreamEvent, scan, open_scan, is_decided, Advances, NoEventCertain, length_here, longest_of, first_event, FrameAt, StrayAt, StartsWithBufr, IsNextEvent, IsIncomplete, HasNoFurtherEvent, FinderModel, Follows, RaisesLongest, max_octets}
+use Rattle.bufr_frame.specs.Prelude.{Candidate, scan_from, classify, has_word_at, stated_length, stream_event, candidate_len, StreamEvent, scan, open_scan, is_decided, Advances, NoEventCertain, stated_or_zero, longest_of, first_event, FrameAt, StrayAt, StartsWithBufr, IsNextEvent, IsIncomplete, HasNoFurtherEvent, FinderModel, Follows, RaisesLongest, max_octets}
 use Rattle.bufr_frame.specs.declared.finder.Candidate.TheVariants.{Stray, Frame}
 use Rattle.bufr_frame.specs.declared.fault.Cause.TheVariants.{Cut, ShortLength, NoEnd}
 use Rattle.std.specs.List.{list_all, prefix_len, AllByRecursion}
@@ -289,15 +289,15 @@ pub cut-so : (m : List ℕ) → has_word_at (codes "BUFR") 0 m ≡ true → ((le
 cut-so m here (inl short) = grind arith
 cut-so m here (inr short) = grind arith
 
-pub length-eight : (m : List ℕ) → 8 ≤ length m → length_here m ≡ stated_length m
+pub length-eight : (m : List ℕ) → 8 ≤ length m → stated_or_zero m ≡ stated_length m
 length-eight m long = let a : nat_lt (length m) 8 ≡ false = grind arith in rw a refl
 
 -- `BUFR`, with too few octets after it
-pub cut-here : (m : List ℕ) (size : ℕ) → StartsWithBufr m → size ≡ length_here m → length m < max 8 size → classify m ≡ Some (Stray Cut)
+pub cut-here : (m : List ℕ) (size : ℕ) → StartsWithBufr m → size ≡ stated_or_zero m → length m < max 8 size → classify m ≡ Some (Stray Cut)
 cut-here m size here is few = grind arith
 
 -- More octets are needed after the first `BUFR`.
-pub open-so : (s : List ℕ) (place size : ℕ) → FindsNeedle s (codes "BUFR") 0 (Some place) → size ≡ length_here (drop place s) → length (drop place s) < max 8 size → IsIncomplete s place size
+pub open-so : (s : List ℕ) (place size : ℕ) → FindsNeedle s (codes "BUFR") 0 (Some place) → size ≡ stated_or_zero (drop place s) → length (drop place s) < max 8 size → IsIncomplete s place size
 open-so s place size found is few =
     let m = drop place s in
     let here = holds-there s place found.1 in
@@ -327,7 +327,7 @@ none-so s found =
     }
 
 -- The last three octets declare no length.
-pub none-stated : (s : List ℕ) → 0 ≡ length_here (drop (length s - min (length s) 3) s)
+pub none-stated : (s : List ℕ) → 0 ≡ stated_or_zero (drop (length s - min (length s) 3) s)
 none-stated s = grind (arith, common_steps, length-drop, nat_tests)
 
 pub end-so : (s : List ℕ) → FindsNeedle s (codes "BUFR") 0 None → HasNoFurtherEvent s
@@ -343,7 +343,7 @@ found-at-end ended s m place v found end is here =
     rw end (rw (here ∙ ap classify is) (found-so-end s place found))
 
 pub found-whole : (ended : Bool) (s m : List ℕ) (place size : ℕ) (v : Option Candidate) → FindsNeedle s (codes "BUFR") 0 (Some place)
-    → size ≡ length_here m → 8 ≤ length m → size ≤ length m → m ≡ drop place s → v ≡ classify m → IsNextEvent ended s place v
+    → size ≡ stated_or_zero m → 8 ≤ length m → size ≤ length m → m ≡ drop place s → v ≡ classify m → IsNextEvent ended s place v
 found-whole ended s m place size v found states long whole is here =
     let size_is : size ≡ stated_length m = states ∙ length-eight m long in
     rw (here ∙ ap classify is) (found-so ended s place found (rw is at long) (rw is at (rw size_is at whole)))
@@ -433,7 +433,7 @@ abbrev pub Raised : (old now : ℕ) → List ℕ → Type 0
 Raised old now rest = (now ≡ old) ⊎ (StartsWithBufr rest × (8 ≤ length rest) × (now ≡ max old (stated_length rest)))
 
 -- If the length at the first `BUFR` is taken into account, an earlier raise makes no difference.
-pub raise : (a b place size : ℕ) (rest : List ℕ) → Raised a b rest → (StartsWithBufr rest → place ≡ 0) → size ≡ length_here (drop place rest) → max b size ≡ max a size
+pub raise : (a b place size : ℕ) (rest : List ℕ) → Raised a b rest → (StartsWithBufr rest → place ≡ 0) → size ≡ stated_or_zero (drop place rest) → max b size ≡ max a size
 raise a b place size rest (inl same) first is = ap (λ n. max n size) same
 raise a b place size rest (inr (word, long, grown)) first is = grind arith
 
@@ -446,11 +446,11 @@ raised-read a b rest bs (inr (word, long, grown)) = inr (
   grown ∙ ap (max a) (sym (stated-prefix rest bs long)),
 )
 
-pub short-here : (m : List ℕ) → length m < 8 → length_here m ≡ 0
+pub short-here : (m : List ℕ) → length m < 8 → stated_or_zero m ≡ 0
 short-here m short = let a : nat_lt (length m) 8 ≡ true = grind arith in rw a refl
 
 -- It still holds after the finder advances to where more octets are needed.
-pub raised-open : (a b place size : ℕ) (rest : List ℕ) → Raised a b rest → IsIncomplete rest place size → size ≡ length_here (drop place rest) → Raised a (max b size) (drop place rest)
+pub raised-open : (a b place size : ℕ) (rest : List ℕ) → Raised a b rest → IsIncomplete rest place size → size ≡ stated_or_zero (drop place rest) → Raised a (max b size) (drop place rest)
 raised-open a b place size rest before open' is =
     let m = drop place rest in
     let grown : max b size ≡ max a size = raise a b place size rest before open'.first is in
@@ -463,7 +463,7 @@ raised-open a b place size rest before open' is =
     ]
 
 -- the greatest length of a single event
-longest-event : (at : ℕ) (s : List ℕ) (m : List ℕ) (offset : ℕ) (here : Option Candidate) → here ≢ None → longest_of at s (stream_event offset m here) ≡ length_here (drop (offset - at) s)
+longest-event : (at : ℕ) (s : List ℕ) (m : List ℕ) (offset : ℕ) (here : Option Candidate) → here ≢ None → longest_of at s (stream_event offset m here) ≡ stated_or_zero (drop (offset - at) s)
 longest-event at s m offset here some = search (rules, max-none)
 
 -- an index in the remaining octets, as an index in all octets
@@ -473,17 +473,17 @@ place-in at at' place offset s rest follows is = grind (arith, drop-twice)
 -- An event is passed.
 pub found-sees : (old s s' : FinderModel) (bs : List ℕ) (offset place size : ℕ) (here : Option Candidate) → here ≢ None → Follows old.at (old.rest ++ bs) s.at s.rest
     → Raised old.longest s.longest s.rest
-    → IsNextEvent s.ended s.rest place here → size ≡ length_here (drop place s.rest) → offset ≡ s.at + place → s'.longest ≡ max s.longest size
+    → IsNextEvent s.ended s.rest place here → size ≡ stated_or_zero (drop place s.rest) → offset ≡ s.at + place → s'.longest ≡ max s.longest size
     → RaisesLongest old s' bs (stream_event offset (drop place s.rest) here)
 found-sees old s s' bs offset place size here some follows raised found is at grown =
     cc (
       grown,
       raise old.longest s.longest place size s.rest raised found.first is,
-      is ∙ ap length_here (sym (place-in old.at s.at place offset (old.rest ++ bs) s.rest follows at)) ∙ sym (longest-event old.at (old.rest ++ bs) (drop place s.rest) offset here some),
+      is ∙ ap stated_or_zero (sym (place-in old.at s.at place offset (old.rest ++ bs) s.rest follows at)) ∙ sym (longest-event old.at (old.rest ++ bs) (drop place s.rest) offset here some),
     )
 
 -- The first remaining event is not certain.
-first-open : (at old_at size : ℕ) (m s : List ℕ) → drop (at - old_at) s ≡ m → ((length m < 4) ⊎ StartsWithBufr m) → size ≡ length_here m → length m < max 8 size
+first-open : (at old_at size : ℕ) (m s : List ℕ) → drop (at - old_at) s ≡ m → ((length m < 4) ⊎ StartsWithBufr m) → size ≡ stated_or_zero m → length m < max 8 size
     → longest_of old_at s (first_event (scan_from 0 at m)) ≡ size
 first-open at old_at size m s there (inl short) is few =
     let none : scan_from 0 at m ≡ [] = scan_from-found m None (λ j _ _ occurs. absurd (omega (arith, occurs.fits))) at in
@@ -492,7 +492,7 @@ first-open at old_at size m s there (inr word) is few = grind (arith, cut-here, 
 
 -- The finder stops where the first remaining event is not certain.
 pub open-sees : (old s s' : FinderModel) (bs : List ℕ) (place size : ℕ) → Follows old.at (old.rest ++ bs) s.at s.rest → Raised old.longest s.longest s.rest
-    → IsIncomplete s.rest place size → size ≡ length_here (drop place s.rest) → s'.at ≡ s.at + place → s'.rest ≡ drop place s.rest → s'.longest ≡ max s.longest size
+    → IsIncomplete s.rest place size → size ≡ stated_or_zero (drop place s.rest) → s'.at ≡ s.at + place → s'.rest ≡ drop place s.rest → s'.longest ≡ max s.longest size
     → RaisesLongest old s' bs (first_event (scan_from 0 s'.at s'.rest))
 open-sees old s s' bs place size follows raised open' is at left grown =
     grown ∙ raise old.longest s.longest place size s.rest raised open'.first is

@@ -1,7 +1,7 @@
 -- Worked examples of a `BUFR` that does not begin a message. Each bound is shown from both sides.
 -- If two causes meet, the example shows which one is reported.
 use Rattle.std.proofs.Common.{◌≡◌, ℕ, ◌-◌, List, [], ◌∷◌, ◌++◌, refl, take, replicate, codes, slice_set}
-use Rattle.bufr_frame.specs.Prelude.{StreamEvent, FrameAt, StrayAt, scan, scan_from, length_here}
+use Rattle.bufr_frame.specs.Prelude.{StreamEvent, FrameAt, StrayAt, scan, scan_from, stated_or_zero}
 use Rattle.bufr_frame.specs.declared.fault.Cause.TheVariants.{Cut, ShortLength, NoEnd}
 
 -- section 0 with a declared length under 256
@@ -66,8 +66,8 @@ ends = (refl, refl, refl, refl, refl, refl, refl)
 
 -- A length is declared only if all eight octets are there.
 lengths-stated :
-    (length_here (take 7 (section_0 8)) ≡ 0)
-    × (length_here (section_0 8) ≡ 8)
+    (stated_or_zero (take 7 (section_0 8)) ≡ 0)
+    × (stated_or_zero (section_0 8) ≡ 8)
 unfolding section_0
 lengths-stated = (refl, refl)
 

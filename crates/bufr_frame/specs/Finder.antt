@@ -2,7 +2,7 @@
 use Rattle.std.specs.Prelude.{◌≡◌, ◌≢◌, ℕ, ◌+◌, ◌*◌, ◌<◌, ◌≤◌, max, Bool, true, false, List, [], ◌∷◌, ◌++◌, Option, Some, None, length, drop, ◌-◌, Result, Ok, Err, take, ◌⊎◌, ◌^◌, codes, IfSome}
 use Rattle.std.specs.List.{concat}
 use Rattle.std.specs.Io.KnownBytes.{Consumes, IsAtEnd}
-use Rattle.bufr_frame.specs.Scan.{StreamEvent, scan_from, Advances, NoEventCertain, longest_of, classify, stream_event, candidate_len, stated_length, has_word_at, first_event, length_here}
+use Rattle.bufr_frame.specs.Scan.{StreamEvent, scan_from, Advances, NoEventCertain, longest_of, classify, stream_event, candidate_len, stated_length, has_word_at, first_event, stated_or_zero}
 use Rattle.bufr_frame.specs.Input.{AddsReads, InputModel, FillsInput, max_reads}
 use Rattle.std.specs.Result.{MatchResult}
 use Rattle.bufr_frame.specs.declared.fault.RunFault.{RunFault}
@@ -199,7 +199,7 @@ pub record HasNoFurtherEvent (rest : List ℕ) : Type 0 where
 -- `stated_length` is the length declared in octets 5 to 7, or 0 if there are fewer than eight
 -- octets.
 abbrev pub IsStatedLength : List ℕ → ℕ → Type 0
-IsStatedLength m stated_length = (stated_length ≡ length_here m) × (stated_length < 2 ^ 24)
+IsStatedLength m stated_length = (stated_length ≡ stated_or_zero m) × (stated_length < 2 ^ 24)
 
 -- Searching `rest` yields the given result. More octets may follow unless `ended` is true.
 abbrev pub IsSearchResult : Bool → List ℕ → SearchResult → Type 0
@@ -274,7 +274,7 @@ pub record NeedsRead (old new : FinderModel) : Type 0 where
   pub reads : new.reads ≡ old.reads
   pub near : new.at < 2 ^ 63
   pub few : length new.rest < max min_held new.longest
-  pub longest : new.longest ≡ max old.longest (length_here new.rest)
+  pub longest : new.longest ≡ max old.longest (stated_or_zero new.rest)
 
 -- The call returned the next event without reading, or `None` if it needs to read first. If a fault
 -- had occurred earlier, the call returned this fault again.

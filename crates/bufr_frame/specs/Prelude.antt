@@ -3,7 +3,7 @@ pub use Rattle.bufr_frame.specs.Events.{events_of, IsEvent}
 pub use Rattle.bufr_frame.specs.Finder.{NeedsRead, min_held, GivesHeldEvent, ReadsMore, input_left, len_at, passed_by, IsEventAt, IsNextEvent, IsIncomplete, gone_to, FinderModel, ReadsAndPasses, Follows, new_finder, IsStatedLength, RaisesLongest, HasNoMoreEvents, held, EachReadIsNeeded, CallReadsAreNeeded, ReturnsNextEvent, LeavesFinder, events_returned, StartsWithBufr, HasNoFurtherEvent, HoldsUnread, StopsFinder, IsUndecided}
 pub use Rattle.bufr_frame.specs.Input.{AddsReads, asked_by, AsksAtMost, max_reads, ReadsOnce, ReadsInput, InputEnds, FillFails, FillEnds, InputModel, FillsInput, SlidesOver, read_failures_after, MakesReads}
 pub use Rattle.bufr_frame.specs.Layout.{MessageParts, message_octets, message_size, section0_octets, section1_octets, section2_octets, section3_octets, section4_octets, data_flags, sections_from, head_octets, even_size, with_even_length, with_pad_octet, is_writable, size_from, parts_of, parts_in, max_extra_octets, max_octets, IsFitting}
-pub use Rattle.bufr_frame.specs.Scan.{StreamEvent, FrameAt, scan, open_scan, stream_event, candidate_len, is_decided, Advances, NoEventCertain, first_event, StrayAt, has_word_at, classify, length_here, longest_of, offset_of, stated_length}
+pub use Rattle.bufr_frame.specs.Scan.{StreamEvent, FrameAt, scan, open_scan, stream_event, candidate_len, is_decided, Advances, NoEventCertain, first_event, StrayAt, has_word_at, classify, stated_or_zero, longest_of, offset_of, stated_length}
 unfoldable pub use Rattle.bufr_frame.specs.Scan.{scan_from}
 pub use Rattle.bufr_frame.specs.Numbers.{run_report, cause_report, section_report}
 pub use Rattle.bufr_frame.specs.Octets.{u24_at, u16_at, words, three_octets, two_octets, octets_of_words, words_left}

@@ -79,8 +79,8 @@ open_scan s = take_while is_decided (scan s)
 -- ---- The greatest declared message length (not part of FM 94 BUFR).
 
 -- the length declared in octets 5 to 7, or 0 if there are fewer than eight octets
-abbrev pub length_here : List ℕ → ℕ
-length_here m = if nat_lt (length m) 8 then 0 else stated_length m
+abbrev pub stated_or_zero : List ℕ → ℕ
+stated_or_zero m = if nat_lt (length m) 8 then 0 else stated_length m
 
 -- the offset at which an event begins
 abbrev pub offset_of : StreamEvent → ℕ
@@ -91,7 +91,7 @@ offset_of (StrayAt offset cause) = offset
 abbrev pub longest_of : (at : ℕ) → List ℕ → List StreamEvent → ℕ
 longest_of at s [] = 0
 longest_of at s (event ∷ more) =
-    max (length_here (drop (offset_of event - at) s)) (longest_of at s more)
+    max (stated_or_zero (drop (offset_of event - at) s)) (longest_of at s more)
 
 -- the first event as a one-element list, or an empty list if there are no events
 abbrev pub first_event : List StreamEvent → List StreamEvent

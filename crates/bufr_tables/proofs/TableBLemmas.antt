@@ -9,7 +9,7 @@ use Rattle.std.specs.List.{AllByRecursion, IsDistinct, find, list_any}
 use Rattle.std.proofs.lemmas.List.{map-append, map-id}
 use Rattle.std.proofs.lemmas.Map.Steps.{length-le_from_distinct_below}
 use Rattle.std.proofs.lemmas.Option.{same_Some, option_and_then_some}
-use Rattle.bufr_tables.specs.Prelude.{◌>>=◌, mark_of, place_of, f_of, fxy_text, key_of, ExtendsBlock, IsStored, row_parsed, rows_kept, IsRowKept, row_kept, Row, entry_of, row_comment, row_line_start, kind_of, IsRow, allows_width, element_of, is_name, plain_of, row_of, scale_of, width_of, AreRows, columns_b, table_b_of, with_record_b, i64_of, Record, field_of, only_if, table_from, table_of, TableFault}
+use Rattle.bufr_tables.specs.Prelude.{◌>>=◌, mark_of, place_of, f_of, fxy_text, key_of, ExtendsBlock, IsStored, row_parsed, stored_rows, IsRowKept, stored_row, Row, entry_of, row_comment, row_line_start, kind_of, IsRow, allows_width, element_of, is_name, plain_of, row_of, scale_of, width_of, AreRows, columns_b, table_b_of, with_record_b, i64_of, Record, field_of, only_if, table_from, table_of, TableFault}
 use Rattle.bufr_tables.specs.declared.table_b.ParsedRow.{ParsedRow}
 use Rattle.bufr_tables.specs.declared.table_b.Stored.{Stored}
 use Rattle.bufr_tables.specs.declared.table_b.Kind.{Kind}
@@ -138,26 +138,26 @@ module _ (X Y : Type 0) (f : X → Y) (p : Y → Bool) (k : X → ℕ) (key : �
 abbrev pub fxys_of : List Stored → List ℕ
 fxys_of stored = map (λ s. s.fxy) stored
 
-all-same : (octets : List ℕ) (fxy : ℕ) (stored : List Stored) → AllByRecursion (λ s. ((row_kept octets s).fxy == fxy) ≡ (s.fxy == fxy)) stored
+all-same : (octets : List ℕ) (fxy : ℕ) (stored : List Stored) → AllByRecursion (λ s. ((stored_row octets s).fxy == fxy) ≡ (s.fxy == fxy)) stored
 all-same octets fxy [] = tt
 all-same octets fxy (s ∷ stored) = (refl, all-same octets fxy stored)
 
 -- The directory contains a descriptor if and only if the rows do.
-pub entry-absent : (octets : List ℕ) (stored : List Stored) (fxy : ℕ) → place_of (fxys_of stored) fxy ≡ None → entry_of (rows_kept octets stored) fxy ≡ None
-entry-absent octets stored fxy = find-absent Stored Row (row_kept octets) (λ row. row.fxy == fxy) (λ s. s.fxy) fxy stored (all-same octets fxy stored)
+pub entry-absent : (octets : List ℕ) (stored : List Stored) (fxy : ℕ) → place_of (fxys_of stored) fxy ≡ None → entry_of (stored_rows octets stored) fxy ≡ None
+entry-absent octets stored fxy = find-absent Stored Row (stored_row octets) (λ row. row.fxy == fxy) (λ s. s.fxy) fxy stored (all-same octets fxy stored)
 
-pub place-lacking : (octets : List ℕ) (stored : List Stored) (fxy : ℕ) → entry_of (rows_kept octets stored) fxy ≡ None → place_of (fxys_of stored) fxy ≡ None
-place-lacking octets stored fxy = place-absent Stored Row (row_kept octets) (λ row. row.fxy == fxy) (λ s. s.fxy) fxy stored (all-same octets fxy stored)
+pub place-lacking : (octets : List ℕ) (stored : List Stored) (fxy : ℕ) → entry_of (stored_rows octets stored) fxy ≡ None → place_of (fxys_of stored) fxy ≡ None
+place-lacking octets stored fxy = place-absent Stored Row (stored_row octets) (λ row. row.fxy == fxy) (λ s. s.fxy) fxy stored (all-same octets fxy stored)
 
 pub entry-found : (octets : List ℕ) (stored : List Stored) (fxy place : ℕ) (d : Stored) → place_of (fxys_of stored) fxy ≡ Some place
-    → entry_of (rows_kept octets stored) fxy ≡ Some (row_kept octets (get_or stored place d))
-entry-found octets stored fxy place d = find-found Stored Row (row_kept octets) (λ row. row.fxy == fxy) (λ s. s.fxy) fxy stored place d (all-same octets fxy stored)
+    → entry_of (stored_rows octets stored) fxy ≡ Some (stored_row octets (get_or stored place d))
+entry-found octets stored fxy place d = find-found Stored Row (stored_row octets) (λ row. row.fxy == fxy) (λ s. s.fxy) fxy stored place d (all-same octets fxy stored)
 
 unlike : (a b : ℕ) → a < 16384 → 16384 ≤ b → (a == b) ≡ false
 unlike a b small large = search rules
 
 -- All rows are those of elements, so no other descriptor has a row.
-pub entry-other : (octets : List ℕ) (stored : List Stored) (fxy : ℕ) → AllByRecursion (λ s. s.fxy < 16384) stored → 16384 ≤ fxy → entry_of (rows_kept octets stored) fxy ≡ None
+pub entry-other : (octets : List ℕ) (stored : List Stored) (fxy : ℕ) → AllByRecursion (λ s. s.fxy < 16384) stored → 16384 ≤ fxy → entry_of (stored_rows octets stored) fxy ≡ None
 entry-other octets [] fxy elements large = refl
 entry-other octets (s ∷ stored) fxy elements large =
     let here : (s.fxy == fxy) ≡ false = unlike s.fxy fxy elements.0 large in
@@ -167,17 +167,17 @@ entry-other octets (s ∷ stored) fxy elements large =
 pub range-append : (xs ys : List ℕ) (i j : ℕ) → i ≤ j → j ≤ length xs → slice_range (xs ++ ys) i j ≡ slice_range xs i j
 range-append xs ys i j before inside = grind (arith, common_steps)
 
-row_kept-append : (octets more : List ℕ) (s : Stored) → IsRowKept octets s → row_kept (octets ++ more) s ≡ row_kept octets s
-row_kept-append octets more s kept = grind (arith, common_steps)
+stored_row-append : (octets more : List ℕ) (s : Stored) → IsRowKept octets s → stored_row (octets ++ more) s ≡ stored_row octets s
+stored_row-append octets more s kept = grind (arith, common_steps)
 
 kept-append : (octets more : List ℕ) (s : Stored) → IsRowKept octets s → IsRowKept (octets ++ more) s
 kept-append octets more s kept = search (rules, length-append, range-append)
 
-pub rows_kept-append : (octets more : List ℕ) (stored : List Stored) → AllByRecursion (IsRowKept octets) stored → rows_kept (octets ++ more) stored ≡ rows_kept octets stored
-rows_kept-append octets more [] kept = refl
-rows_kept-append octets more (s ∷ stored) kept =
-    let first = row_kept-append octets more s kept.0 in
-    let rest = rows_kept-append octets more stored kept.1 in
+pub stored_rows-append : (octets more : List ℕ) (stored : List Stored) → AllByRecursion (IsRowKept octets) stored → stored_rows (octets ++ more) stored ≡ stored_rows octets stored
+stored_rows-append octets more [] kept = refl
+stored_rows-append octets more (s ∷ stored) kept =
+    let first = stored_row-append octets more s kept.0 in
+    let rest = stored_rows-append octets more stored kept.1 in
     cc
 
 all-kept : (octets more : List ℕ) (stored : List Stored) → AllByRecursion (IsRowKept octets) stored → AllByRecursion (IsRowKept (octets ++ more)) stored
@@ -253,7 +253,7 @@ module _ (before digits name unit : List ℕ) where
 -- A row is stored if its three offsets are those of the appended text.
 pub row-stored : (before : List ℕ) (row : ParsedRow) (s : Stored) (block : List ℕ) → block ≡ row_pushed before (fxy_text row.fxy) row.name.now row.unit.now
     → s.start ≡ length before → s.middle ≡ length (named before (fxy_text row.fxy) row.name.now row.unit.now) → s.end ≡ length block
-    → (slice_range block (s.start + 11) s.middle ≡ row.name.now → slice_range block (s.middle + 2) (s.end - 2) ≡ row.unit.now → row_kept block s ≡ row_parsed row)
+    → (slice_range block (s.start + 11) s.middle ≡ row.name.now → slice_range block (s.middle + 2) (s.end - 2) ≡ row.unit.now → stored_row block s ≡ row_parsed row)
     → IsStored block row s
 row-stored before row s block is at to ends says =
     let digits = fxy_text row.fxy in
@@ -279,18 +279,18 @@ pub element-key : (fxy : ℕ) → fxy < 16384 → key_of fxy ≡ fxy
 element-key fxy small = omega arith
 
 -- A descriptor that is not an element has no row.
-pub entry-not_element : (octets : List ℕ) (stored : List Stored) (fxy : ℕ) → AllByRecursion (λ s. s.fxy < 16384) stored → f_of fxy ≢ 0 → entry_of (rows_kept octets stored) fxy ≡ None
+pub entry-not_element : (octets : List ℕ) (stored : List Stored) (fxy : ℕ) → AllByRecursion (λ s. s.fxy < 16384) stored → f_of fxy ≢ 0 → entry_of (stored_rows octets stored) fxy ≡ None
 entry-not_element octets stored fxy elements other = grind (arith, entry-other)
 
 -- The row that is found is that of the element at its index.
 pub entry-row : (octets : List ℕ) (stored : List Stored) (fxy place : ℕ) (s : Stored) → place_of (fxys_of stored) fxy ≡ Some place
-    → s ≡ get_or stored place s → Some (row_kept octets s) ≡ entry_of (rows_kept octets stored) fxy
+    → s ≡ get_or stored place s → Some (stored_row octets s) ≡ entry_of (stored_rows octets stored) fxy
 entry-row octets stored fxy place s found at = rw (entry-found octets stored fxy place s found, ← at) refl
 
 -- the rows after another element is added
-pub rows_kept-push : (old new : List ℕ) (stored : List Stored) (s : Stored) (row : ParsedRow) → AllByRecursion (IsRowKept old) stored → ExtendsBlock old new
-    → IsStored new row s → rows_kept new (stored ++ s ∷ []) ≡ rows_kept old stored ++ row_parsed row ∷ []
-rows_kept-push old new stored s row kept grows is = grind (arith, map-append, rows_kept-append)
+pub stored_rows-push : (old new : List ℕ) (stored : List Stored) (s : Stored) (row : ParsedRow) → AllByRecursion (IsRowKept old) stored → ExtendsBlock old new
+    → IsStored new row s → stored_rows new (stored ++ s ∷ []) ≡ stored_rows old stored ++ row_parsed row ∷ []
+stored_rows-push old new stored s row kept grows is = grind (arith, map-append, stored_rows-append)
 
 pub kept-grown : (old new : List ℕ) (stored : List Stored) → AllByRecursion (IsRowKept old) stored → ExtendsBlock old new → AllByRecursion (IsRowKept new) stored
 kept-grown old new stored kept grows = rw grows.1 (all-kept old grows.0 stored kept)
@@ -339,9 +339,9 @@ rows-push [] row all here = (here, tt)
 rows-push (first ∷ rows) row all here = (all.0, rows-push rows row all.1 here)
 
 -- Rows stay within the limits when octets are appended to the block.
-pub limits-grown : (old new : List ℕ) (stored : List Stored) → AllByRecursion (IsRowKept old) stored → ExtendsBlock old new → AllByRecursion IsRow (rows_kept old stored)
-    → AllByRecursion IsRow (rows_kept new stored)
-limits-grown old new stored kept grows all = rw (grows.1, rows_kept-append old grows.0 stored kept) all
+pub limits-grown : (old new : List ℕ) (stored : List Stored) → AllByRecursion (IsRowKept old) stored → ExtendsBlock old new → AllByRecursion IsRow (stored_rows old stored)
+    → AllByRecursion IsRow (stored_rows new stored)
+limits-grown old new stored kept grows all = rw (grows.1, stored_rows-append old grows.0 stored kept) all
 
 -- A row that is found is one of the rows, so it is within the limits.
 pub found-limits : (rows : List Row) (fxy : ℕ) (row : Row) → AllByRecursion IsRow rows → entry_of rows fxy ≡ Some row → IsRow row

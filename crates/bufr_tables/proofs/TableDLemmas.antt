@@ -7,7 +7,7 @@ use Rattle.std.specs.Cmp.Lexicographic.{pointwise}
 use Rattle.std.specs.List.{AllByRecursion, IsDistinct, find}
 use Rattle.std.proofs.lemmas.List.{drop_at, map-append, append-nil, append_assoc, map-id}
 use Rattle.bufr_tables.proofs.TableBLemmas.{find-absent, find-found, place-absent, range-append, distinct-added, distinct-none}
-use Rattle.bufr_tables.specs.Prelude.{◌>>=◌, place_of, f_of, key_of, IsMemberRange, LastEnds, run_key, sequence_kept, sequences_kept, Sequence, extended, fxys_of, is_last, members_of, AreSequences, Member, added, begins_again, columns_d, members_or_none, member_of, members_in, table_d_of, with_record_d, Record, table_from, table_of, TableFault}
+use Rattle.bufr_tables.specs.Prelude.{◌>>=◌, place_of, f_of, key_of, IsMemberRange, LastEnds, run_key, stored_sequence, stored_sequences, Sequence, extended, fxys_of, is_last, members_of, AreSequences, Member, added, begins_again, columns_d, members_or_none, member_of, members_in, table_d_of, with_record_d, Record, table_from, table_of, TableFault}
 use Rattle.bufr_tables.specs.declared.table_d.MemberRange.{MemberRange}
 use Rattle.std.proofs.lemmas.Bool.{eqb-true}
 use Rattle.bufr_tables.specs.declared.fault.TableFault.TheVariants.{Header}
@@ -26,42 +26,42 @@ same-key : (a b : ℕ) → 49152 ≤ a → a < 65536 → 49152 ≤ b → b < 655
 same-key a b a_low a_high b_low b_high = rw (key-is a a_low a_high, key-is b b_low b_high) (same-difference a b a_low b_low)
 
 all-same : (members : List ℕ) (fxy : ℕ) (runs : List MemberRange) → 49152 ≤ fxy → fxy < 65536 → AllByRecursion IsSequence runs
-    → AllByRecursion (λ run. ((sequence_kept members run).fxy == fxy) ≡ (run_key run == key_of fxy)) runs
+    → AllByRecursion (λ run. ((stored_sequence members run).fxy == fxy) ≡ (run_key run == key_of fxy)) runs
 all-same members fxy [] low high all = tt
 all-same members fxy (run ∷ runs) low high all = (same-key run.fxy fxy all.0.0 all.0.1 low high, all-same members fxy runs low high all.1)
 
 -- The directory contains a descriptor if and only if the table does.
 module _ (members : List ℕ) (runs : List MemberRange) (fxy : ℕ) (all : AllByRecursion IsSequence runs) where
-  pub members-absent : 49152 ≤ fxy → fxy < 65536 → place_of (map run_key runs) (key_of fxy) ≡ None → members_of (sequences_kept members runs) fxy ≡ None
+  pub members-absent : 49152 ≤ fxy → fxy < 65536 → place_of (map run_key runs) (key_of fxy) ≡ None → members_of (stored_sequences members runs) fxy ≡ None
   members-absent low high absent =
       ap (λ (o : Option Sequence). option_map (λ s. s.members) o)
-      (find-absent MemberRange Sequence (sequence_kept members) (λ s. s.fxy == fxy) run_key (key_of fxy) runs (all-same members fxy runs low high all) absent)
+      (find-absent MemberRange Sequence (stored_sequence members) (λ s. s.fxy == fxy) run_key (key_of fxy) runs (all-same members fxy runs low high all) absent)
 
-  pub place-lacking : 49152 ≤ fxy → fxy < 65536 → members_of (sequences_kept members runs) fxy ≡ None → place_of (map run_key runs) (key_of fxy) ≡ None
+  pub place-lacking : 49152 ≤ fxy → fxy < 65536 → members_of (stored_sequences members runs) fxy ≡ None → place_of (map run_key runs) (key_of fxy) ≡ None
   place-lacking low high absent =
-      place-absent MemberRange Sequence (sequence_kept members) (λ s. s.fxy == fxy) run_key (key_of fxy) runs (all-same members fxy runs low high all) (none _ absent)
+      place-absent MemberRange Sequence (stored_sequence members) (λ s. s.fxy == fxy) run_key (key_of fxy) runs (all-same members fxy runs low high all) (none _ absent)
     where
       none : (o : Option Sequence) → option_map (λ s. s.members) o ≡ None → o ≡ None
       none None e = refl
       none (Some s) e = cc e
 
   pub members-found : (place : ℕ) (run : MemberRange) → 49152 ≤ fxy → fxy < 65536 → place_of (map run_key runs) (key_of fxy) ≡ Some place → run ≡ get_or runs place run
-      → Some (slice_range members run.start run.end) ≡ members_of (sequences_kept members runs) fxy
+      → Some (slice_range members run.start run.end) ≡ members_of (stored_sequences members runs) fxy
   members-found place run low high found at =
-      let row = find-found MemberRange Sequence (sequence_kept members) (λ s. s.fxy == fxy) run_key (key_of fxy) runs place run (all-same members fxy runs low high all) found in
+      let row = find-found MemberRange Sequence (stored_sequence members) (λ s. s.fxy == fxy) run_key (key_of fxy) runs place run (all-same members fxy runs low high all) found in
       rw (row, ← at) refl
 
 -- A descriptor that is not a sequence has no members.
 unlike : (a b : ℕ) → 49152 ≤ a → a < 65536 → b / 16384 ≢ 3 → (a == b) ≡ false
 unlike a b low high other = grind arith
 
-pub members-other : (members : List ℕ) (runs : List MemberRange) (fxy : ℕ) → AllByRecursion IsSequence runs → f_of fxy ≢ 3 → members_of (sequences_kept members runs) fxy ≡ None
+pub members-other : (members : List ℕ) (runs : List MemberRange) (fxy : ℕ) → AllByRecursion IsSequence runs → f_of fxy ≢ 3 → members_of (stored_sequences members runs) fxy ≡ None
 members-other members [] fxy all other = refl
 members-other members (run ∷ runs) fxy all other = rw (unlike run.fxy fxy all.0.0 all.0.1 other) (members-other members runs fxy all.1 other)
 
 -- the last sequence
 pub is_last-at : (members : List ℕ) (runs : List MemberRange) (i fxy : ℕ) (run : MemberRange) → i + 1 ≡ length runs → run ≡ get_or runs i run
-    → is_last (sequences_kept members runs) fxy ≡ (run.fxy == fxy)
+    → is_last (stored_sequences members runs) fxy ≡ (run.fxy == fxy)
 is_last-at members [] i fxy run last at = absurd (omega arith)
 is_last-at members (r ∷ []) zero fxy run last at = rw at refl
 is_last-at members (r ∷ []) (suc i) fxy run last at = absurd (omega arith)
@@ -79,25 +79,25 @@ abbrev pub alone : ℕ → List ℕ → List Sequence
 alone fxy ms = record { fxy = fxy; members = ms } ∷ []
 
 module _ (members : List ℕ) (member : ℕ) where
-  pub sequences_kept-extended : (runs : List MemberRange) (i : ℕ) (run : MemberRange) → i + 1 ≡ length runs → run ≡ get_or runs i run → AllByRecursion (IsMemberRange (length members)) runs
+  pub stored_sequences-extended : (runs : List MemberRange) (i : ℕ) (run : MemberRange) → i + 1 ≡ length runs → run ≡ get_or runs i run → AllByRecursion (IsMemberRange (length members)) runs
       → LastEnds (length members) runs
-      → sequences_kept (members ++ member ∷ []) (set runs i (longer run)) ≡ extended (sequences_kept members runs) member
-  sequences_kept-extended [] i run last at inside end = absurd (omega arith)
-  sequences_kept-extended (r ∷ []) zero run last at inside end =
+      → stored_sequences (members ++ member ∷ []) (set runs i (longer run)) ≡ extended (stored_sequences members runs) member
+  stored_sequences-extended [] i run last at inside end = absurd (omega arith)
+  stored_sequences-extended (r ∷ []) zero run last at inside end =
       rw at (ap (alone r.fxy) (range-push members member r.start r.end (omega (arith, inside.0.0)) end))
-  sequences_kept-extended (r ∷ []) (suc i) run last at inside end = absurd (omega arith)
-  sequences_kept-extended (r ∷ t ∷ runs) zero run last at inside end = absurd (omega arith)
-  sequences_kept-extended (r ∷ t ∷ runs) (suc i) run last at inside end =
+  stored_sequences-extended (r ∷ []) (suc i) run last at inside end = absurd (omega arith)
+  stored_sequences-extended (r ∷ t ∷ runs) zero run last at inside end = absurd (omega arith)
+  stored_sequences-extended (r ∷ t ∷ runs) (suc i) run last at inside end =
       let here = range-append members (member ∷ []) r.start r.end (omega (arith, inside.0.0)) inside.0.1 in
-      let rest = sequences_kept-extended (t ∷ runs) i run (omega arith) at inside.1 end in
+      let rest = stored_sequences-extended (t ∷ runs) i run (omega arith) at inside.1 end in
       cc
 
-pub sequences_kept-append : (members more : List ℕ) (runs : List MemberRange) → AllByRecursion (IsMemberRange (length members)) runs
-    → sequences_kept (members ++ more) runs ≡ sequences_kept members runs
-sequences_kept-append members more [] inside = refl
-sequences_kept-append members more (r ∷ runs) inside =
+pub stored_sequences-append : (members more : List ℕ) (runs : List MemberRange) → AllByRecursion (IsMemberRange (length members)) runs
+    → stored_sequences (members ++ more) runs ≡ stored_sequences members runs
+stored_sequences-append members more [] inside = refl
+stored_sequences-append members more (r ∷ runs) inside =
     let here = range-append members more r.start r.end (omega (arith, inside.0.0)) inside.0.1 in
-    let rest = sequences_kept-append members more runs inside.1 in
+    let rest = stored_sequences-append members more runs inside.1 in
     cc
 
 -- properties of the ranges that hold after the last range grows
@@ -145,18 +145,18 @@ last-end n (r ∷ t ∷ runs) zero run ends last at = absurd (omega arith)
 last-end n (r ∷ t ∷ runs) (suc i) run ends last at = last-end n (t ∷ runs) i run ends (omega arith) at
 
 -- a new sequence with its first member
-pub sequences_kept-begun : (members : List ℕ) (member : ℕ) (runs : List MemberRange) (run : MemberRange) (fxy : ℕ) → AllByRecursion (IsMemberRange (length members)) runs
+pub stored_sequences-begun : (members : List ℕ) (member : ℕ) (runs : List MemberRange) (run : MemberRange) (fxy : ℕ) → AllByRecursion (IsMemberRange (length members)) runs
     → run ≡ record { fxy = fxy; start = length members; end = length members + 1 }
-    → sequences_kept (members ++ member ∷ []) (runs ++ run ∷ []) ≡ sequences_kept members runs ++ record { fxy = fxy; members = member ∷ [] } ∷ []
-sequences_kept-begun members member runs run fxy inside is = grind (arith, drop_at, map-append, sequences_kept-append)
+    → stored_sequences (members ++ member ∷ []) (runs ++ run ∷ []) ≡ stored_sequences members runs ++ record { fxy = fxy; members = member ∷ [] } ∷ []
+stored_sequences-begun members member runs run fxy inside is = grind (arith, drop_at, map-append, stored_sequences-append)
 
-pub some-runs : (members : List ℕ) (runs : List MemberRange) → sequences_kept members runs ≢ [] → 0 < length runs
+pub some-runs : (members : List ℕ) (runs : List MemberRange) → stored_sequences members runs ≢ [] → 0 < length runs
 some-runs members [] some = absurd (some refl)
 some-runs members (run ∷ runs) some = omega arith
 
 -- the descriptor at an index
-pub fxy-at : (members : List ℕ) (runs : List MemberRange) (place : ℕ) (run : MemberRange) → place < length (sequences_kept members runs) → run ≡ get_or runs place run
-    → run.fxy ≡ slice_index (fxys_of (sequences_kept members runs)) place
+pub fxy-at : (members : List ℕ) (runs : List MemberRange) (place : ℕ) (run : MemberRange) → place < length (stored_sequences members runs) → run ≡ get_or runs place run
+    → run.fxy ≡ slice_index (fxys_of (stored_sequences members runs)) place
 fxy-at members [] place run inside at = absurd (omega arith)
 fxy-at members (r ∷ runs) zero run inside at = rw at
 fxy-at members (r ∷ runs) (suc place) run inside at = fxy-at members runs place run (omega arith) at

@@ -4,13 +4,13 @@ use Rattle.std.specs.Cmp.{IsEquivalence, and_equiv, int_eq_equiv, nat_eq_equiv, 
 use Rattle.std.specs.Cmp.Lexicographic.{nat_list_eq_equiv}
 use Rattle.std.specs.Ordering.{int_eq}
 use Rattle.std.specs.Str.{bytes_eq}
-use Rattle.bufr_tables.specs.TableB.{row_kept, Row}
+use Rattle.bufr_tables.specs.TableB.{stored_row, Row}
 use Rattle.bufr_tables.specs.contracts.table_b.KindEq.TheImpl.Laws as kind_law
 use Rattle.bufr_tables.specs.contracts.table_b.KindPartialEq.TheImpl as kind
 use Rattle.bufr_tables.specs.declared.table_b.Entry.{Entry}
 
 abbrev pub row_of_entry : Entry → Row
-row_of_entry e = row_kept e.octets.now e.stored.now
+row_of_entry e = stored_row e.octets.now e.stored.now
 
 abbrev pub is_same_row : Row → Row → Bool
 is_same_row a b =

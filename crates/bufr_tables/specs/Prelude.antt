@@ -1,11 +1,11 @@
 -- This file only re-exports the names that proofs and other crates use.
 pub use Rattle.bufr_tables.specs.Fxy.{only_if, f_of, x_of, y_of, fxy_of, fxy_text, mark_of, place_of, key_of, is_fxy, f_in, x_in, y_in}
-pub use Rattle.bufr_tables.specs.TableB.{ExtendsBlock, IsStored, row_parsed, rows_kept, IsRowKept, row_kept, Row, entry_of, row_comment, row_line_start, IsRow, allows_width, is_name, AreRows, columns_b, table_b_of, with_row, is_character, is_printed}
+pub use Rattle.bufr_tables.specs.TableB.{ExtendsBlock, IsStored, row_parsed, stored_rows, IsRowKept, stored_row, Row, entry_of, row_comment, row_line_start, IsRow, allows_width, is_name, AreRows, columns_b, table_b_of, with_row, is_character, is_printed}
 unfoldable pub use Rattle.bufr_tables.specs.TableB.{natural_of, i64_of, begins_with, kind_of, element_of, plain_of, row_of, scale_of, width_of, with_record_b}
 pub use Rattle.bufr_tables.specs.Records.{◌>>=◌, records_of, Record, GivesNext, IsBetween, count_of, record_given, records_after, text_left, field_of, IsOpened, records_left, field_texts, has_header, ReturnsUnlessMemory, octets_left}
 unfoldable pub use Rattle.bufr_tables.specs.Records.{table_from, table_of}
 pub use Rattle.bufr_tables.specs.Entry.{row_of_entry}
-pub use Rattle.bufr_tables.specs.TableD.{IsFirstCycle, Leads, one, more, ReadsTableD, Sequence, table_d_of, Chain, ReachesItself, fxys_of, members_or_none, members_of, IsAbove, IsSet, IsVisited, Falls, rank_of, unset, IsMemberRange, LastEnds, run_key, sequence_kept, sequences_kept, extended, is_last, AreSequences, Member, begins_again, columns_d, members_in, with_member}
+pub use Rattle.bufr_tables.specs.TableD.{IsFirstCycle, Leads, one, more, ReadsTableD, Sequence, table_d_of, Chain, ReachesItself, fxys_of, members_or_none, members_of, IsAbove, IsSet, IsVisited, Falls, rank_of, unset, IsMemberRange, LastEnds, run_key, stored_sequence, stored_sequences, extended, is_last, AreSequences, Member, begins_again, columns_d, members_in, with_member}
 unfoldable pub use Rattle.bufr_tables.specs.TableD.{with_record_d, added, member_of}
 pub use Rattle.bufr_tables.specs.Cells.{first_tree, cells_of, factor_first, prepend_cell, read_cells, trees_of_cells, AreCellsOf, IsTemplate, tree_code}
 pub use Rattle.bufr_tables.specs.Growing.{builder_model}

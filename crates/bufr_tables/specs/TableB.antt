@@ -182,8 +182,8 @@ pub record AreRows (records : List Record) (table : List Row) : Type 0 where
 
 -- The row of a stored element. In the block, the element's name comes after `FXXYYY   # `, and its
 -- unit is between ` [` and `]`.
-abbrev pub row_kept : List ℕ → Stored → Row
-row_kept octets s =
+abbrev pub stored_row : List ℕ → Stored → Row
+stored_row octets s =
     record {
       fxy = s.fxy;
       name = slice_range octets (s.start + 11) s.middle;
@@ -200,8 +200,8 @@ pub record IsRowKept (octets : List ℕ) (s : Stored) : Type 0 where
   pub name : s.start + 11 ≤ s.middle
   pub unit : s.middle + 4 ≤ s.end
   pub inside : s.end ≤ length octets
-  pub line_start : slice_range octets s.start (s.start + 7) ≡ row_line_start (row_kept octets s)
-  pub comment : slice_range octets (s.start + 7) s.end ≡ row_comment (row_kept octets s)
+  pub line_start : slice_range octets s.start (s.start + 7) ≡ row_line_start (stored_row octets s)
+  pub comment : slice_range octets (s.start + 7) s.end ≡ row_comment (stored_row octets s)
 
 -- the row that was parsed from a record of the file
 abbrev pub row_parsed : ParsedRow → Row
@@ -216,8 +216,8 @@ row_parsed r =
       width = r.width;
     }
 
-abbrev pub rows_kept : List ℕ → List Stored → List Row
-rows_kept octets stored = map (row_kept octets) stored
+abbrev pub stored_rows : List ℕ → List Stored → List Row
+stored_rows octets stored = map (stored_row octets) stored
 
 -- The new block begins with the old block.
 abbrev pub ExtendsBlock : List ℕ → List ℕ → Type 0
@@ -225,7 +225,7 @@ ExtendsBlock old new = (more : List ℕ) × (new ≡ old ++ more)
 
 -- The stored element represents the parsed row, and its octets are in the block.
 pub record IsStored (octets : List ℕ) (row : ParsedRow) (s : Stored) : Type 0 where
-  pub same : row_kept octets s ≡ row_parsed row
+  pub same : stored_row octets s ≡ row_parsed row
   pub kept : IsRowKept octets s
 
 -- Every element is stored in the block and has a valid row, and the index contains the descriptors
@@ -234,7 +234,7 @@ pub record IsTableB (a : Inside) : Type 0 where
   pub kept : AllByRecursion (IsRowKept a.octets.items) a.stored.items
   pub elements : AllByRecursion (λ s. s.fxy < 16384) a.stored.items
   pub members_or_none : a.directory ≡ map (λ s. s.fxy) a.stored.items
-  pub limits : AllByRecursion IsRow (rows_kept a.octets.items a.stored.items)
+  pub limits : AllByRecursion IsRow (stored_rows a.octets.items a.stored.items)
 
 abbrev pub table_b_rows : Inside → List Row
-table_b_rows a = rows_kept a.octets.items a.stored.items
+table_b_rows a = stored_rows a.octets.items a.stored.items

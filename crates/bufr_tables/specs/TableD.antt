@@ -143,12 +143,12 @@ ReadsTableD records (Err fault) = fault ≢ Memory → table_d_of records ≡ Er
 -- sequence is stored as a range of indices in that list.
 
 -- the sequence whose members are in the given range
-abbrev pub sequence_kept : List ℕ → MemberRange → Sequence
-sequence_kept members run =
+abbrev pub stored_sequence : List ℕ → MemberRange → Sequence
+stored_sequence members run =
     record { fxy = run.fxy; members = slice_range members run.start run.end }
 
-abbrev pub sequences_kept : List ℕ → List MemberRange → List Sequence
-sequences_kept members runs = map (sequence_kept members) runs
+abbrev pub stored_sequences : List ℕ → List MemberRange → List Sequence
+stored_sequences members runs = map (stored_sequence members) runs
 
 -- The range is not empty and lies within the list of all members.
 abbrev pub IsMemberRange : ℕ → MemberRange → Type 0
@@ -173,7 +173,7 @@ pub record IsTableD (a : Inside) : Type 0 where
   pub last : LastEnds (length a.members.items) a.runs.items
 
 abbrev pub table_d_rows : Inside → List Sequence
-table_d_rows a = sequences_kept a.members.items a.runs.items
+table_d_rows a = stored_sequences a.members.items a.runs.items
 
 -- ---- The state of the search for cycles. The flags are indexed by 16-bit descriptor numbers.
 

@@ -107,7 +107,7 @@ fn writing_laws_can_be_called() {
     laws::data_round_trip();
     laws::items_are_packed_with_the_least_k();
     laws::written_data_are_read();
-    laws::data_are_fixed_by_what_is_said();
+    laws::items_determine_the_data();
     laws::alike_drafts_have_the_same_data();
     laws::data_are_written_in_the_other_form();
     laws::walks_write_as_defined();

@@ -44,7 +44,7 @@ fn push_each(rt: &impl Runtime, room: usize, w: &mut ScriptOut) {
     line.push_named(b" c=", 1_024);
     line.push_padded(6, 3);
     line.push_decimal(u64::MAX);
-    line.hand_on();
+    line.flush_buf();
     ok(rt, line.status());
 }
 

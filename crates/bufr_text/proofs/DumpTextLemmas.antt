@@ -4,7 +4,7 @@ use Rattle.std.specs.List.{concat, AllByRecursion}
 use Rattle.std.proofs.lemmas.Bool.Decides.{nat_tests}
 use Rattle.std.proofs.lemmas.List.{length-map}
 use Rattle.bufr_fill.specs.Prelude.{draft, DraftEntry, Holds, Ends}
-use Rattle.bufr_text.specs.Prelude.{header_in, leasts, mosts, Document, Heading, BeforeSubsets, Filling, Continues, Completes, Parsing, between, in_range, with_entry, line_step, read_line, parse_lines, lines_of, documents_of, blank, Complete, Line, Opens, Header, Local1, Section2, Descriptors, Begins, ItemLine, Closes, header_lines, local1_line, section2_line, descriptors_line, subset_line, subset_lines, item_text, dump_value_of, item_entries, subset_entries, IsOctet, IsDescriptorWord, IsItem, header_of, head_lines, dump_lines, dump_text_of, document_of, lines_before, IsDumpable, runs_of, runs_after, split_of, before_subsets}
+use Rattle.bufr_text.specs.Prelude.{header_in, leasts, mosts, Document, Heading, BeforeSubsets, Filling, Continues, Completes, Parsing, between, in_range, with_entry, line_step, read_line, parse_lines, lines_of, documents_of, blank, Complete, Line, MessageLine, Header, Local1, Section2, Descriptors, SubsetLine, ItemLine, EndLine, header_lines, local1_line, section2_line, descriptors_line, subset_line, subset_lines, item_text, dump_value_of, item_entries, subset_entries, IsOctet, IsDescriptorWord, IsItem, header_of, head_lines, dump_lines, dump_text_of, document_of, lines_before, IsDumpable, runs_of, runs_after, split_of, before_subsets}
 use Rattle.bufr_text.specs.declared.document.LineGroup.{LineGroup}
 use Rattle.bufr_text.specs.declared.document.LineGroup.TheVariants as group
 use Rattle.bufr_text.proofs.HeaderLemmas.{any-edition, with_value, with_local1, with_section2, with_descriptors}
@@ -171,11 +171,11 @@ subset-lines-count n items subsets = omega (arith, length-append (map item_text 
 
 -- The `subset` line is read, and then the lines of the items.
 subset-run : (items : List View) (subset : ℕ) (d : Document) (at : ℕ) (parsing : Parsing) (tail more : List (List ℕ)) → subset < 65536 → AllByRecursion IsItem items
-    → line_step at parsing (Begins subset) ≡ (Continues (Filling subset), d)
+    → line_step at parsing (SubsetLine subset) ≡ (Continues (Filling subset), d)
     → parse_lines at parsing ((subset_line subset ∷ (map item_text items ++ tail)) ++ more)
     ≡ parse_lines (at + 1 + length items) (Filling subset, with_entries d (item_entries (at + 1) items)) (tail ++ more)
 subset-run items subset d at parsing tail more few all begins = cc (
-  goes at parsing (Filling subset, d) _ (Begins subset) ((map item_text items ++ tail) ++ more) (subset-line subset few) begins,
+  goes at parsing (Filling subset, d) _ (SubsetLine subset) ((map item_text items ++ tail) ++ more) (subset-line subset few) begins,
   append_assoc (map item_text items) tail more,
   items-run items subset d (at + 1) (tail ++ more) all,
 )
@@ -187,7 +187,7 @@ subsets-run : (subsets : List (List View)) (n : ℕ) (d : Document) (at : ℕ) (
 unfolding line_step subset_entries subset_lines
 subsets-run [] n d at more stated few all =
     let closed : (n == (header_in d).subsets) ≡ true = grind arith in
-    gives at (Filling n, d) (with_entry d (Ends at)) _ Closes more end-line (rw closed refl)
+    gives at (Filling n, d) (with_entry d (Ends at)) _ EndLine more end-line (rw closed refl)
     ∙ ap (λ k. Complete (with_entry d (Ends at)) ∷ parse_lines k between more) (omega arith)
 subsets-run (items ∷ subsets) n d at more stated few (here, all) =
     let next : (n + 1 == n + 1) ≡ true = grind arith in
@@ -211,7 +211,7 @@ pub subsets-written : (subsets : List (List View)) (part : LineGroup) (d : Docum
 unfolding line_step subset_entries subset_lines
 subsets-written [] part d at more none stated few all =
     let closed : (0 == (header_in d).subsets) ≡ true = grind arith in
-    grind (arith, gives at (BeforeSubsets part, d) d _ Closes more end-line (rw closed refl))
+    grind (arith, gives at (BeforeSubsets part, d) d _ EndLine more end-line (rw closed refl))
 subsets-written (items ∷ subsets) part d at more none stated few (here, all) =
     let allowed : nat_le 1 (header_in d).subsets ≡ true = grind arith in
     let own = item_entries (at + 1) items in
@@ -368,7 +368,7 @@ all-lines-run s subsets at more given =
     let C = map descriptors_line c ++ D in
     let B = map section2_line b ++ C in
     let A = map local1_line a ++ B in
-    goes at between (Heading, d0) (codes "message") Opens (header_lines 0 (header_of s) ++ A) message-line refl
+    goes at between (Heading, d0) (codes "message") MessageLine (header_lines 0 (header_of s) ++ A) message-line refl
     ∙ header-run s.head.edition s.head.master (header-tail s) at (at + 1) A refl (header-fits s given.head given.few)
     ∙ local1-run a d1 (at + 1 + 1 + 19) B (runs-after IsOctet 0 31 s.local1 given.local1)
     ∙ section2-run b group.Local1 d2 (at + 1 + 1 + 19 + length a) C (λ e. cc) (λ some. optional-there s.section2 some) (runs-after IsOctet 0 31 (unwrap_or s.section2 []) given.section2)

@@ -2,7 +2,7 @@
 -- invalid.
 use Rattle.std.proofs.Common.{◌≡◌, ℕ, List, [], ◌∷◌, ◌++◌, refl, codes, replicate, map, true, false, arith, drop, take, Some, None, pos, ◌+◌, inl}
 use Rattle.bufr_fill.specs.Prelude.{number_token, text_form, missing_form, reference_token, draft, Holds, Ends}
-use Rattle.bufr_text.specs.Prelude.{leasts, mosts, without_prefix, hex_read, fxy_read, descriptors_read, quoted_read, is_hashed, quoted, hex_text, descriptors_text, runs_after, Line, Passed, Header, Local1, Section2, Descriptors, Begins, ItemLine, Wrong, keys, value_read, worded, line_of, Opens, Closes, read_line, ParseResult, Complete, Refused, NotAllowed, SubsetCount, HeaderRange, line_step, parse_lines, lines_of, documents_of, Document, open_documents_of, split_of, parse_open_lines, item_text, local1_line, descriptors_line, text_of_lines, IsDumpable, dump_text_of, header_lines, subset_lines, item_entries, subset_entries, document_of, ls_line, AreEnded, IsProper, NumberedLine, numbered_line, numbered_lines, SubsetHeard, subsets_heard, entries_heard, IsDocument}
+use Rattle.bufr_text.specs.Prelude.{leasts, mosts, without_prefix, hex_read, fxy_read, descriptors_read, quoted_read, is_hashed, quoted, hex_text, descriptors_text, runs_after, Line, Skipped, Header, Local1, Section2, Descriptors, SubsetLine, ItemLine, Invalid, keys, value_read, worded, line_of, MessageLine, EndLine, read_line, ParseResult, Complete, Refused, NotAllowed, SubsetCount, HeaderRange, line_step, parse_lines, lines_of, documents_of, Document, open_documents_of, split_of, parse_open_lines, item_text, local1_line, descriptors_line, text_of_lines, IsDumpable, dump_text_of, header_lines, subset_lines, item_entries, subset_entries, document_of, ls_line, AreEnded, IsProper, NumberedLine, numbered_line, numbered_lines, NumberedSubset, lines_of_subsets, entries_of_subsets, IsDocument}
 use Rattle.bufr_frame.specs.declared.section1.Head.{Head}
 use Rattle.bufr_frame.specs.Prelude.{IsFitting, greatest_values, values_of, Sections}
 use Rattle.bufr_frame.proofs.AgainLemmas.{at-most}
@@ -58,40 +58,41 @@ lines_read :
     × (all_said (
     codes "001001 10 " ∷ codes "001001 10# x" ∷ codes "001001  10" ∷ codes "001001 " ∷ codes "001001 x" ∷ codes "R 012101 MISSING" ∷ codes "064001 1" ∷ codes "01001 1"
     ∷ (codes "205001 " ++ 34 ∷ 65 ∷ []) ∷ (codes "205001 " ++ 34 ∷ 92 ∷ codes "xfe" ++ 34 ∷ []) ∷ (codes "205001 " ++ 34 ∷ 9 ∷ 34 ∷ []) ∷ [])
-    ≡ Wrong ∷ Wrong ∷ Wrong ∷ Wrong ∷ Wrong ∷ Wrong ∷ Wrong ∷ Wrong ∷ Wrong ∷ Wrong ∷ Wrong ∷ [])
+    ≡ Invalid ∷ Invalid ∷ Invalid ∷ Invalid ∷ Invalid ∷ Invalid ∷ Invalid ∷ Invalid ∷ Invalid ∷ Invalid ∷ Invalid ∷ [])
     × (all_said (
     [] ∷ codes "#" ∷ (35 ∷ 13 ∷ []) ∷ codes "local1 abCD" ∷ codes "section2 0102" ∷ codes "descriptors 001001 363255" ∷ codes "subset 01" ∷ codes "year 99999999999999999999999" ∷ [])
-    ≡ Passed ∷ Passed ∷ Passed ∷ Local1 (0xAB ∷ 0xCD ∷ []) ∷ Section2 (1 ∷ 2 ∷ []) ∷ Descriptors (257 ∷ 65535 ∷ []) ∷ Begins 1 ∷ Header 10 65536 ∷ [])
+    ≡ Skipped ∷ Skipped ∷ Skipped ∷ Local1 (0xAB ∷ 0xCD ∷ []) ∷ Section2 (1 ∷ 2 ∷ []) ∷ Descriptors (257 ∷ 65535 ∷ []) ∷ SubsetLine 1 ∷ Header 10 65536 ∷ [])
     × (all_said (
     (13 ∷ []) ∷ codes " " ∷ codes "message " ∷ codes "local1 ABC" ∷ codes "local1 " ∷ codes "local1" ∷ codes "descriptors" ∷ codes "descriptors  001001" ∷ codes "subset " ∷ codes "subset -1"
     ∷ codes "years 1" ∷ codes "end." ∷ [])
-    ≡ Wrong ∷ Wrong ∷ Wrong ∷ Wrong ∷ Wrong ∷ Wrong ∷ Wrong ∷ Wrong ∷ Wrong ∷ Wrong ∷ Wrong ∷ Wrong ∷ [])
+    ≡ Invalid ∷ Invalid ∷ Invalid ∷ Invalid ∷ Invalid ∷ Invalid ∷ Invalid ∷ Invalid ∷ Invalid ∷ Invalid ∷ Invalid ∷ Invalid ∷ [])
     -- A line has at most 32 octets, or at most 8 descriptors.
     × (all_said (local1_line (replicate 32 255) ∷ local1_line (replicate 33 255) ∷ descriptors_line (replicate 8 257) ∷ descriptors_line (replicate 9 257) ∷ [])
-    ≡ Local1 (replicate 32 255) ∷ Wrong ∷ Descriptors (replicate 8 257) ∷ Wrong ∷ [])
+    ≡ Local1 (replicate 32 255) ∷ Invalid ∷ Descriptors (replicate 8 257) ∷ Invalid ∷ [])
     -- Lines have at most 4,096 octets, even comments.
-    × (all_said ((35 ∷ replicate 4095 120) ∷ (35 ∷ replicate 4096 120) ∷ []) ≡ Passed ∷ Wrong ∷ [])
+    × (all_said ((35 ∷ replicate 4095 120) ∷ (35 ∷ replicate 4096 120) ∷ []) ≡ Skipped ∷ Invalid ∷ [])
     -- Exactly one space, and no tab, follows a descriptor. A line of blanks is invalid, but an
     -- empty line is skipped.
-    × (all_said (codes "001001 10" ∷ (codes "001001" ++ 9 ∷ codes "10") ∷ codes "001001  10" ∷ [] ∷ codes "  " ∷ (9 ∷ []) ∷ []) ≡ ten ∷ Wrong ∷ Wrong ∷ Passed ∷ Wrong ∷ Wrong ∷ [])
+    × (all_said (codes "001001 10" ∷ (codes "001001" ++ 9 ∷ codes "10") ∷ codes "001001  10" ∷ [] ∷ codes "  " ∷ (9 ∷ []) ∷ []) ≡ ten ∷ Invalid ∷ Invalid ∷ Skipped ∷ Invalid ∷ Invalid ∷ [])
     -- A carriage return is part of the line, and is allowed only in a comment.
-    × (all_said ((35 ∷ 13 ∷ []) ∷ (13 ∷ []) ∷ (codes "001001 10 #" ++ 13 ∷ []) ∷ (codes "001001 10" ++ 13 ∷ []) ∷ (codes "end" ++ 13 ∷ []) ∷ []) ≡ Passed ∷ Wrong ∷ ten ∷ Wrong ∷ Wrong ∷ [])
+    × (all_said ((35 ∷ 13 ∷ []) ∷ (13 ∷ []) ∷ (codes "001001 10 #" ++ 13 ∷ []) ∷ (codes "001001 10" ++ 13 ∷ []) ∷ (codes "end" ++ 13 ∷ []) ∷ []) ≡ Skipped ∷ Invalid ∷ ten ∷ Invalid ∷ Invalid ∷ [])
     -- After a value, only a comment is allowed. At least one space comes before its `#`.
-    × (all_said (codes "001001 10 #" ∷ codes "001001 10    # x" ∷ codes "001001 10#" ∷ codes "001001 10 x" ∷ codes "001001 10 " ∷ codes " # x" ∷ []) ≡ ten ∷ ten ∷ Wrong ∷ Wrong ∷ Wrong ∷ Wrong ∷ [])
+    × (all_said (codes "001001 10 #" ∷ codes "001001 10    # x" ∷ codes "001001 10#" ∷ codes "001001 10 x" ∷ codes "001001 10 " ∷ codes " # x" ∷ [])
+    ≡ ten ∷ ten ∷ Invalid ∷ Invalid ∷ Invalid ∷ Invalid ∷ [])
     -- An octet has two hexadecimal digits, in upper or lower case.
     × (all_said (codes "local1 0aF9" ∷ codes "local1 0aF" ∷ codes "local1 0g" ∷ codes "section2 ff" ∷ codes "section2 f" ∷ codes "local1  0a" ∷ codes "local1 0a " ∷ [])
-    ≡ Local1 (10 ∷ 249 ∷ []) ∷ Wrong ∷ Wrong ∷ Section2 (255 ∷ []) ∷ Wrong ∷ Wrong ∷ Wrong ∷ [])
+    ≡ Local1 (10 ∷ 249 ∷ []) ∷ Invalid ∷ Invalid ∷ Section2 (255 ∷ []) ∷ Invalid ∷ Invalid ∷ Invalid ∷ [])
     -- On every line, a descriptor has six digits, and its F, X and Y fit their bits.
     × (all_said (codes "descriptors 001001" ∷ codes "descriptors 0010010" ∷ codes "descriptors 00100" ∷ codes "descriptors 363255" ∷ codes "descriptors 364255" ∷ codes "descriptors 363256"
     ∷ codes "descriptors 463255" ∷ codes "363255 10" ∷ codes "363256 10" ∷ codes "0010010 10" ∷ [])
-    ≡ Descriptors (257 ∷ []) ∷ Wrong ∷ Wrong ∷ Descriptors (65535 ∷ []) ∷ Wrong ∷ Wrong ∷ Wrong ∷ ItemLine 65535 (number_token (codes "10")) ∷ Wrong ∷ Wrong ∷ [])
+    ≡ Descriptors (257 ∷ []) ∷ Invalid ∷ Invalid ∷ Descriptors (65535 ∷ []) ∷ Invalid ∷ Invalid ∷ Invalid ∷ ItemLine 65535 (number_token (codes "10")) ∷ Invalid ∷ Invalid ∷ [])
     -- In a text, any octet may be written as an escape with upper-case digits, and octets that are
     -- not printed must be. The closing quote is required.
     × (all_said (
     (codes "205001 " ++ 34 ∷ 92 ∷ codes "x41" ++ 34 ∷ []) ∷ (codes "205001 " ++ 34 ∷ 92 ∷ codes "xaf" ++ 34 ∷ []) ∷ (codes "205001 " ++ 34 ∷ 92 ∷ codes "n" ++ 34 ∷ [])
     ∷ (codes "205001 " ++ 34 ∷ 126 ∷ 34 ∷ []) ∷ (codes "205001 " ++ 34 ∷ 127 ∷ 34 ∷ [])
     ∷ (codes "205001 " ++ 34 ∷ 254 ∷ 34 ∷ []) ∷ (codes "205001 " ++ 34 ∷ 65 ∷ []) ∷ (codes "205001 " ++ 34 ∷ 34 ∷ 34 ∷ []) ∷ [])
-    ≡ ItemLine 0x8501 (text_form (65 ∷ [])) ∷ Wrong ∷ Wrong ∷ ItemLine 0x8501 (text_form (126 ∷ [])) ∷ Wrong ∷ Wrong ∷ Wrong ∷ Wrong ∷ [])
+    ≡ ItemLine 0x8501 (text_form (65 ∷ [])) ∷ Invalid ∷ Invalid ∷ ItemLine 0x8501 (text_form (126 ∷ [])) ∷ Invalid ∷ Invalid ∷ Invalid ∷ Invalid ∷ [])
     -- Any line of octets or of descriptors may be short. The groups of lines have a fixed order.
     × (none_with (codes "local1 01" ∷ codes "local1 0203" ∷ codes "section2 04" ∷ codes "section2 0506" ∷ codes "descriptors 001001" ∷ codes "descriptors 012101 001001" ∷ codes "end" ∷ [])
     ≡ Complete (record { line = 1; header = header_written; local1 = 1 ∷ 2 ∷ 3 ∷ []; section2 = 4 ∷ 5 ∷ 6 ∷ []; descriptors = 257 ∷ 0x0C65 ∷ 257 ∷ []; entries = [] }) ∷ [])
@@ -337,21 +338,21 @@ no_section2 h = some-none 1 [] (h.no_section2 refl)
 
 -- Comments and empty lines are skipped, but counted.
 passed_over : numbered_lines 21 (codes "# x" ∷ [] ∷ codes "subset 1" ∷ codes "001001 10  # x" ∷ codes "end" ∷ codes "x" ∷ [])
-    ≡ numbered_line 23 (Begins 1) ∷ numbered_line 24 (ItemLine 257 (number_token (codes "10"))) ∷ numbered_line 25 Closes ∷ numbered_line 26 Wrong ∷ []
+    ≡ numbered_line 23 (SubsetLine 1) ∷ numbered_line 24 (ItemLine 257 (number_token (codes "10"))) ∷ numbered_line 25 EndLine ∷ numbered_line 26 Invalid ∷ []
 unfolding numbered_lines line_of worded without_prefix fxy_read value_read is_hashed keys leasts mosts
 passed_over = refl
 
-abbrev subset_at : (at : ℕ) → SubsetHeard
-subset_at at = record { at = at; items = record { at = at + 1; fxy = 257; form = number_token (codes "10") } ∷ [] }
+abbrev subset_at : (at : ℕ) → NumberedSubset
+subset_at at = record { at = at; items = draft (at + 1) 257 (number_token (codes "10")) ∷ [] }
 
 -- A subset ends on the line that begins the next subset, and the last subset on the `end` line.
-two_ends : entries_heard (subset_at 23 ∷ subset_at 25 ∷ []) 27 ≡ number 24 257 (codes "10") ∷ Ends 25 ∷ number 26 257 (codes "10") ∷ Ends 27 ∷ []
+two_ends : entries_of_subsets (subset_at 23 ∷ subset_at 25 ∷ []) 27 ≡ number 24 257 (codes "10") ∷ Ends 25 ∷ number 26 257 (codes "10") ∷ Ends 27 ∷ []
 unfolding number
 two_ends = refl
 
 -- Subsets are numbered from 1.
-two_subsets : subsets_heard 1 (subset_at 23 ∷ subset_at 25 ∷ [])
-    ≡ numbered_line 23 (Begins 1) ∷ numbered_line 24 (ItemLine 257 (number_token (codes "10"))) ∷ numbered_line 25 (Begins 2) ∷ numbered_line 26 (ItemLine 257 (number_token (codes "10"))) ∷ []
+two_subsets : lines_of_subsets 1 (subset_at 23 ∷ subset_at 25 ∷ [])
+    ≡ numbered_line 23 (SubsetLine 1) ∷ numbered_line 24 (ItemLine 257 (number_token (codes "10"))) ∷ numbered_line 25 (SubsetLine 2) ∷ numbered_line 26 (ItemLine 257 (number_token (codes "10"))) ∷ []
 two_subsets = refl
 
 -- ---- The lines of a document.
@@ -364,8 +365,8 @@ header_heard =
     ∷ numbered_line 17 (Header 15 5) ∷ numbered_line 18 (Header 16 1) ∷ numbered_line 19 (Header 17 0) ∷ numbered_line 20 (Header 18 0) ∷ numbered_line 21 (Header 19 1) ∷ []
 
 one_document : IsDocument (document 0 1 (257 ∷ []) (number 24 257 (codes "10") ∷ Ends 25 ∷ []))
-    (numbered_line 1 Opens ∷ header_heard ++ numbered_line 22 (Descriptors (257 ∷ [])) ∷ numbered_line 23 (Begins 1) ∷ numbered_line 24 (ItemLine 257 (number_token (codes "10")))
-    ∷ numbered_line 25 Closes ∷ [])
+    (numbered_line 1 MessageLine ∷ header_heard ++ numbered_line 22 (Descriptors (257 ∷ [])) ∷ numbered_line 23 (SubsetLine 1) ∷ numbered_line 24 (ItemLine 257 (number_token (codes "10")))
+    ∷ numbered_line 25 EndLine ∷ [])
 unfolding document number
 one_document = record {
   header = header_heard;

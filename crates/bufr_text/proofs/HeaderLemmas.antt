@@ -6,7 +6,7 @@ use Rattle.std.proofs.Common.{◌≡◌, ℕ, ◌+◌, List, [], ◌∷◌, ◌+
 use Rattle.std.specs.Char.{is_ascii_digit}
 use Rattle.std.specs.List.{AllByRecursion, position_from}
 use Rattle.bufr_fill.specs.Prelude.{Draft, DraftEntry, Holds, Ends, Subset, prepend_to_subset, subsets_of, DraftValue, number_token, text_form, missing_form, reference_token, draft, HasOctets, AllHaveOctets, AreOctets}
-use Rattle.bufr_text.specs.Prelude.{header_in, Document, read_line, Between, Heading, BeforeSubsets, Filling, Stopped, LineEffect, Parsing, LineStep, IsLineStep, in_range, heading, before_subsets, in_subset, beginning, closing, with_entry, line_step, are_in_range, IsHeaded, IsOctet, IsDescriptorWord, AreEnded, IsBare, HasLineGroups, EntryHasOctets, HasSubsets, IsParsing, without_space, either_value, pair_value, onto_read, hex_read, fxy_read, descriptors_read, number_read, QuotedToken, Octet, quoting_of, quoted_on, quoted_read, is_passed_after, Line, Passed, Opens, Header, Local1, Section2, Descriptors, Begins, ItemLine, Closes, Wrong, keys, with_one_to, item_if_comment, number_value, value_read, item_line, worded, line_of, leasts, mosts, is_named, lead_of}
+use Rattle.bufr_text.specs.Prelude.{header_in, Document, read_line, Between, Heading, BeforeSubsets, Filling, Stopped, LineEffect, Parsing, LineStep, IsLineStep, in_range, heading, before_subsets, in_subset, beginning, closing, with_entry, line_step, are_in_range, IsHeaded, IsOctet, IsDescriptorWord, AreEnded, IsBare, HasLineGroups, EntryHasOctets, HasSubsets, IsParsing, without_space, either_value, pair_value, onto_read, hex_read, fxy_read, descriptors_read, number_read, QuotedToken, Octet, quoting_of, quoted_on, quoted_read, is_end_or_comment, Line, Skipped, MessageLine, Header, Local1, Section2, Descriptors, SubsetLine, ItemLine, EndLine, Invalid, keys, with_one_to, item_if_comment, number_value, value_read, item_line, worded, line_of, leasts, mosts, is_named, lead_of}
 use Rattle.bufr_text.specs.declared.document.LineGroup.{LineGroup}
 use Rattle.bufr_text.specs.declared.document.LineGroup.TheVariants as group
 use Rattle.std.specs.Str.{bytes_eq}
@@ -157,7 +157,7 @@ if-line : (b : Bool) (x y : Line) → IsSound x → IsSound y → IsSound (if b 
 if-line true x y p q = p
 if-line false x y p q = q
 
-or-wrong : (r : Option Line) → IfSome r IsSound → IsSound (unwrap_or r Wrong)
+or-wrong : (r : Option Line) → IfSome r IsSound → IsSound (unwrap_or r Invalid)
 or-wrong (Some line) h = h
 or-wrong None h = tt
 
@@ -174,7 +174,7 @@ then-sound (Some x) line h = h x
 then-sound None line h = tt
 
 item-sound : (fxy : ℕ) (r : Option (DraftValue × List ℕ)) → IfSome r (λ r. HasOctets (r.0)) → IfSome (r >>= item_if_comment fxy) IsSound
-item-sound fxy (Some (form, rest)) h = only-sound (is_passed_after rest) (ItemLine fxy form) h
+item-sound fxy (Some (form, rest)) h = only-sound (is_end_or_comment rest) (ItemLine fxy form) h
 item-sound fxy None h = tt
 
 item-line-sound : (read : List ℕ → Option (DraftValue × List ℕ)) (text : List ℕ) → ((text : List ℕ) → IfSome (read text) (λ r. HasOctets (r.0))) → IfSome (item_line read text) IsSound
@@ -189,32 +189,32 @@ listed-sound : (most : ℕ) (line : List ℕ → Line) (xs : Option (List ℕ)) 
 listed-sound most line (Some xs) h = only-sound (nat_lt 0 (length xs) && nat_le (length xs) most) (line xs) h
 listed-sound most line None h = tt
 
-subset-sound : (subset : Option ℕ) → IfSome (option_map Begins subset) IsSound
+subset-sound : (subset : Option ℕ) → IfSome (option_map SubsetLine subset) IsSound
 subset-sound (Some n) = tt
 subset-sound None = tt
 
 worded-sound : (word rest : List ℕ) → IfSome (worded word rest) IsSound
 unfolding worded
 worded-sound word rest =
-    if-sound (bytes_eq word (codes "message")) _ _ (only-sound (length rest == 0) Opens tt)
+    if-sound (bytes_eq word (codes "message")) _ _ (only-sound (length rest == 0) MessageLine tt)
     (if-sound (bytes_eq word (codes "local1")) _ _ (listed-sound 32 Local1 (without_space rest >>= hex_read) (octets-after (without_space rest)))
     (if-sound (bytes_eq word (codes "section2")) _ _ (listed-sound 32 Section2 (without_space rest >>= hex_read) (octets-after (without_space rest)))
     (if-sound (bytes_eq word (codes "descriptors")) _ _ (listed-sound 8 Descriptors (descriptors_read rest) (descriptors-words rest))
     (if-sound (bytes_eq word (codes "subset")) _ _ (subset-sound (without_space rest >>= number_read))
     (if-sound (bytes_eq word (codes "R")) _ _
     (then-sound (without_space rest) (item_line (number_value reference_token)) (λ text. item-line-sound (number_value reference_token) text reference-sound))
-    (if-sound (bytes_eq word (codes "end")) _ _ (only-sound (length rest == 0) Closes tt)
+    (if-sound (bytes_eq word (codes "end")) _ _ (only-sound (length rest == 0) EndLine tt)
     (then-sound (position_from (bytes_eq word) 0 keys) _ (λ key. then-sound (without_space rest >>= number_read) _ (λ value. tt)))))))))
 
 line-sound : (line : List ℕ) → IsSound (line_of line)
 unfolding line_of
 line-sound [] = tt
 line-sound (c ∷ more) =
-    if-line (c == 35) Passed _ tt
+    if-line (c == 35) Skipped _ tt
     (or-wrong _ (if-sound (is_ascii_digit c) _ _ (item-line-sound value_read (c ∷ more) value-sound) (worded-sound _ _)))
 
 pub said-sound : (line : List ℕ) → IsSound (read_line line)
-said-sound line = if-line (nat_lt 4096 (length line)) Wrong (line_of line) tt (line-sound line)
+said-sound line = if-line (nat_lt 4096 (length line)) Invalid (line_of line) tt (line-sound line)
 
 -- ---- A header value is at most the greatest value of its key.
 
@@ -393,7 +393,7 @@ by-number subset ended d is has = rw is has
 
 in_subset-so : (at subset : ℕ) (d : Document) (line : Line) → IsSound line → IsHeaded d → length d.entries < at → subset < 65536 → HasLineGroups d
     → ((ended : ℕ) × (subset ≡ ended + 1) × HasSubsets ended d) → IsLineStep (at + 1) (in_subset at subset d line)
-in_subset-so at subset d (Begins next) sound h lines few written (ended, is, has) =
+in_subset-so at subset d (SubsetLine next) sound h lines few written (ended, is, has) =
     beginning-so at subset next (with_entry d (Ends at)) (still-headed d (Ends at) h) (omega (arith, one-entry)) (still-written d (Ends at) written)
     (by-number subset ended (with_entry d (Ends at)) is (one-more at ended d has))
 in_subset-so at subset d (ItemLine fxy form) sound h lines few written (ended, is, has) = (
@@ -410,7 +410,7 @@ in_subset-so at subset d (ItemLine fxy form) sound h lines few written (ended, i
     },
   ),
 )
-in_subset-so at subset d Closes sound h lines few written (ended, is, has) =
+in_subset-so at subset d EndLine sound h lines few written (ended, is, has) =
     closing-so at subset (with_entry d (Ends at)) (still-headed d (Ends at) h) (omega (arith, lines, one-entry d (Ends at))) (still-written d (Ends at) written)
     (by-number subset ended (with_entry d (Ends at)) is (one-more at ended d has)) (ends-last d.entries at)
 in_subset-so at subset d line sound h lines few written has = tt
@@ -418,13 +418,13 @@ in_subset-so at subset d line sound h lines few written has = tt
 -- If the state of the parser is valid before a line, it is valid after this line, too.
 pub line_step-holds : (at : ℕ) (parsing : Parsing) (line : Line) → 0 < at → IsSound line → IsParsing at parsing → IsLineStep (at + 1) (line_step at parsing line)
 unfolding line_step
-line_step-holds at (Between, d) Passed some sound s = s
-line_step-holds at (Between, d) Opens some sound s = (omega arith, refl, omega arith, record { local1 = refl; section2 = refl; descriptors = refl; entries = refl })
-line_step-holds at (Heading, d) Passed some sound s = later at (Heading, d) s
+line_step-holds at (Between, d) Skipped some sound s = s
+line_step-holds at (Between, d) MessageLine some sound s = (omega arith, refl, omega arith, record { local1 = refl; section2 = refl; descriptors = refl; entries = refl })
+line_step-holds at (Heading, d) Skipped some sound s = later at (Heading, d) s
 line_step-holds at (Heading, d) (Header key value) some sound s = heading-so at key value d s.0 s.1 s.2 s.3
-line_step-holds at (BeforeSubsets part, d) Passed some sound s = later at (BeforeSubsets part, d) s
+line_step-holds at (BeforeSubsets part, d) Skipped some sound s = later at (BeforeSubsets part, d) s
 line_step-holds at (BeforeSubsets part, d) line some sound s = before_subsets-so at part d line sound s.0 s.1 s.2 s.3
-line_step-holds at (Filling subset, d) Passed some sound s = later at (Filling subset, d) s
+line_step-holds at (Filling subset, d) Skipped some sound s = later at (Filling subset, d) s
 line_step-holds at (Filling subset, d) line some sound s = in_subset-so at subset d line sound s.0 s.1 s.2 s.3 s.4
 line_step-holds at (Stopped, d) line some sound s = absurd s
 line_step-holds at parsing line some sound s = tt

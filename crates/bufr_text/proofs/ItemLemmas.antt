@@ -9,7 +9,7 @@ use Rattle.std.proofs.lemmas.Grind.{common_steps}
 use Rattle.std.proofs.lemmas.List.{drop_all, drop-drop}
 use Rattle.bufr_bits.proofs.DecimalLemmas.{and_first, and_second}
 use Rattle.bufr_tables.specs.Prelude.{fxy_of, is_fxy, f_in, x_in, y_in}
-use Rattle.bufr_text.specs.Prelude.{without_space, without_prefix, fxy_read, is_number_octet, is_hashed, is_passed_after, hex_read, onto_read, descriptors_read, either_value, pair_value, QuotedToken, Closed, Octet, Nothing, is_unescaped, upper_value, escape_of, quoting_of, quoted_on, quoted_read, Describes, Unhexes, Unquotes, value_read, number_value, Passed, ItemLine, Local1, Section2, with_one_to, item_line, item_if_comment, worded, line_of, Descriptors, Wrong}
+use Rattle.bufr_text.specs.Prelude.{without_space, without_prefix, fxy_read, is_number_octet, is_hashed, is_end_or_comment, hex_read, onto_read, descriptors_read, either_value, pair_value, QuotedToken, Closed, Octet, Nothing, is_unescaped, upper_value, escape_of, quoting_of, quoted_on, quoted_read, Describes, Unhexes, Unquotes, value_read, number_value, Skipped, ItemLine, Local1, Section2, with_one_to, item_line, item_if_comment, worded, line_of, Descriptors, Invalid}
 use Rattle.bufr_fill.specs.Prelude.{number_token, reference_token, DraftValue, text_form, missing_form}
 use Rattle.memchr.specs.Find.{IsFirstByte, is_byte}
 use Rattle.std.specs.Char.{is_ascii_digit}
@@ -189,19 +189,19 @@ pub hashed-end : (text : List ℕ) (at : ℕ) → length text ≤ at → is_hash
 unfolding is_hashed
 hashed-end text at h = ap is_hashed (drop_all at text h)
 
-pub passed-space : (text : List ℕ) → slice_index text 0 ≡ 32 → is_passed_after text ≡ is_hashed text
+pub passed-space : (text : List ℕ) → slice_index text 0 ≡ 32 → is_end_or_comment text ≡ is_hashed text
 passed-space [] e = absurd (omega arith)
 passed-space (c ∷ more) e = let q : (c == 32) ≡ true = grind arith in rw q (sym (hashed-one c more e))
 
-pub passed-other : (text : List ℕ) → 0 < length text → (slice_index text 0 ≡ 32 → ⊥) → is_passed_after text ≡ false
+pub passed-other : (text : List ℕ) → 0 < length text → (slice_index text 0 ≡ 32 → ⊥) → is_end_or_comment text ≡ false
 passed-other [] some e = absurd (omega arith)
 passed-other (c ∷ more) some e = let q : (c == 32) ≡ false = grind arith in rw q refl
 
-pub passed-none : (text : List ℕ) → length text ≡ 0 → is_passed_after text ≡ true
+pub passed-none : (text : List ℕ) → length text ≡ 0 → is_end_or_comment text ≡ true
 passed-none [] e = refl
 passed-none (c ∷ more) e = absurd (omega arith)
 
-pub passed-comment : (text : List ℕ) → 3 ≤ length text → slice_index text 0 ≡ 32 → slice_index text 1 ≡ 32 → slice_index text 2 ≡ 35 → is_passed_after text ≡ true
+pub passed-comment : (text : List ℕ) → 3 ≤ length text → slice_index text 0 ≡ 32 → slice_index text 1 ≡ 32 → slice_index text 2 ≡ 35 → is_end_or_comment text ≡ true
 unfolding is_hashed
 passed-comment text h1 h2 h3 h4 = grind (arith, common_steps)
 
@@ -246,24 +246,24 @@ word-at line (Some m) n h is = is ∙ word-to line m h.0.high h.0.before h.1
 
 -- ---- A line, by its first octet.
 
-pub line-none : (line : List ℕ) → length line ≡ 0 → line_of line ≡ Passed
+pub line-none : (line : List ℕ) → length line ≡ 0 → line_of line ≡ Skipped
 unfolding line_of
 line-none [] e = refl
 line-none (c ∷ line) e = absurd (omega arith)
 
-pub line-note : (line : List ℕ) → slice_index line 0 ≡ 35 → line_of line ≡ Passed
+pub line-note : (line : List ℕ) → slice_index line 0 ≡ 35 → line_of line ≡ Skipped
 unfolding line_of
 line-note [] e = refl
 line-note (c ∷ line) e = let q : (c == 35) ≡ true = grind arith in rw q refl
 
 pub line-item : (line : List ℕ) → (slice_index line 0 ≡ 35 → ⊥) → is_ascii_digit (slice_index line 0) ≡ true
-    → line_of line ≡ unwrap_or (item_line value_read line) Wrong
+    → line_of line ≡ unwrap_or (item_line value_read line) Invalid
 unfolding line_of
 line-item [] e d = absurd cc
 line-item (c ∷ line) e d = let q : (c == 35) ≡ false = grind arith in rw (q, d) refl
 
 pub line-word : (line : List ℕ) → 0 < length line → (slice_index line 0 ≡ 35 → ⊥) → is_ascii_digit (slice_index line 0) ≡ false
-    → line_of line ≡ unwrap_or (worded (take (word_len line) line) (drop (word_len line) line)) Wrong
+    → line_of line ≡ unwrap_or (worded (take (word_len line) line) (drop (word_len line) line)) Invalid
 unfolding line_of
 line-word [] some e d = absurd (omega arith)
 line-word (c ∷ line) some e d = let q : (c == 35) ≡ false = grind arith in rw (q, d) refl
@@ -283,7 +283,7 @@ begins-by-digit (c ∷ more) fxy h is = grind (arith, nat_tests, is-fxy (take 6 
 
 -- An item line says the value after its descriptor and one space.
 pub item-line : (line text : List ℕ) (fxy : ℕ) → 6 ≤ length line → Some text ≡ without_space (drop 6 line) → Some fxy ≡ fxy_of (take 6 line)
-    → line_of line ≡ unwrap_or (value_read text >>= item_if_comment fxy) Wrong
+    → line_of line ≡ unwrap_or (value_read text >>= item_if_comment fxy) Invalid
 item-line line text fxy h space is =
     let digit = begins-by-digit line fxy h is in
     line-item line (λ (e : slice_index line 0 ≡ 35). absurd (grind (arith, nat_tests, digit))) digit
@@ -296,7 +296,7 @@ fits-fxy text fxy h1 h2 h3 h4 h5 h6 = grind arith
 
 spaced-line : (line : List ℕ) (f x y fxy : ℕ) → 7 ≤ length line → slice_index line 6 ≡ 32 → list_all is_ascii_digit (take 6 line) ≡ true → f ≤ 3 → x ≤ 63 → y ≤ 255
     → f ≡ f_in line → x ≡ x_in line → y ≡ y_in line → fxy ≡ f * 16384 + x * 256 + y
-    → line_of line ≡ unwrap_or (value_read (drop 7 line) >>= item_if_comment fxy) Wrong
+    → line_of line ≡ unwrap_or (value_read (drop 7 line) >>= item_if_comment fxy) Invalid
 spaced-line line f x y fxy long space digits h_f_most h_x_most h_y_most h_f_is h_x_is h_y_is is = grind (arith, common_steps, item-line, space-there, fits-fxy)
 
 -- the difference of an octet and `0`, with wrapping
@@ -340,7 +340,7 @@ all-digits line long h1 h2 h3 h4 h5 h6 = absurd (omega arith)
 -- A line that passes the tests is an item line.
 pub spaced-item : (line : List ℕ) (f b c d e g fxy : ℕ) → 8 ≤ length line → ((i : ℕ) → slice_index line i < 256) → is_spaced line ≡ true → f ≡ wrapped line 0 → b ≡ wrapped line 1 → c ≡ wrapped line 2
     → d ≡ wrapped line 3 → e ≡ wrapped line 4 → g ≡ wrapped line 5 → 10 * b + c ≤ 63 → 100 * d + 10 * e + g ≤ 255 → fxy ≡ f * 16384 + (10 * b + c) * 256 + (100 * d + 10 * e + g)
-    → line_of line ≡ unwrap_or (value_read (drop 7 line) >>= item_if_comment fxy) Wrong
+    → line_of line ≡ unwrap_or (value_read (drop 7 line) >>= item_if_comment fxy) Invalid
 spaced-item line f b c d e g fxy long fits tests f-is b-is c-is d-is e-is g-is x-few y-few is =
     let (f-few, b-few, c-few, d-few, e-few, g-few, space) =
     seven-tests (wrapped line 0) (wrapped line 1) (wrapped line 2) (wrapped line 3) (wrapped line 4) (wrapped line 5) (slice_index line 6) tests in
@@ -356,8 +356,8 @@ spaced-item line f b c d e g fxy long fits tests f-is b-is c-is d-is e-is g-is x
     spaced-line line f (10 * b + c) (100 * d + 10 * e + g) fxy (omega arith) space digits (at-most f _ f-is f-few) x-few y-few (digit-is f _ _ f-is first)
     (x-is line b c _ _ b-is c-is second third) (y-is line d e g _ _ _ d-is e-is g-is fourth fifth sixth) is
 
-pub item-read : (text rest : List ℕ) (fxy : ℕ) (form : DraftValue) → value_read text ≡ Some (form, rest) → is_passed_after rest ≡ true
-    → unwrap_or (value_read text >>= item_if_comment fxy) Wrong ≡ ItemLine fxy form
+pub item-read : (text rest : List ℕ) (fxy : ℕ) (form : DraftValue) → value_read text ≡ Some (form, rest) → is_end_or_comment rest ≡ true
+    → unwrap_or (value_read text >>= item_if_comment fxy) Invalid ≡ ItemLine fxy form
 item-read text rest fxy form value passed = rw (value, passed) refl
 
 pub ruleset read_steps = (line-none, line-note, line-item, line-word)

@@ -3,71 +3,64 @@ use Rattle.std.proofs.Common.{slice_index, inl, inr, ◌⊎◌, ◌≡◌, ◌�
 use Rattle.std.specs.List.{concat}
 use Rattle.std.proofs.lemmas.List.{map-append}
 use Rattle.bufr_bits.proofs.DecimalLemmas.{and_first}
-use Rattle.bufr_fill.specs.Prelude.{DraftValue, draft, DraftEntry, Holds, Ends}
-use Rattle.bufr_text.specs.Prelude.{header_in, Document, ParserState, Between, Heading, BeforeSubsets, Filling, Stopped, LineEffect, Continues, Completes, Refuses, Parsing, LineStep, between, before_subsets, IsLineStep, NotAllowed, SubsetCount, HeaderRange, in_range, heading, beginning, closing, with_entry, line_step, read_line, parse_lines, parsing_after, reported_at, reported_at_end, lines_of, documents_of, Line, Passed, Opens, Header, Local1, Section2, Descriptors, Begins, ItemLine, Closes, NumberedLine, numbered_line, onto_heard, numbered_lines, header_says, Element, SubsetHeard, subsets_heard, first_at, entries_heard, IsDocument, AreReported, IsProperlyReported, AreProper, IsBare, IsParsing}
+use Rattle.bufr_fill.specs.Prelude.{Draft, draft, DraftEntry, Holds, Ends}
+use Rattle.bufr_text.specs.Prelude.{header_in, Document, ParserState, Between, Heading, BeforeSubsets, Filling, Stopped, LineEffect, Continues, Completes, Refuses, Parsing, LineStep, between, before_subsets, IsLineStep, NotAllowed, SubsetCount, HeaderRange, in_range, heading, beginning, closing, with_entry, line_step, read_line, parse_lines, parsing_after, reported_at, reported_at_end, lines_of, documents_of, Line, Skipped, MessageLine, Header, Local1, Section2, Descriptors, SubsetLine, ItemLine, EndLine, NumberedLine, numbered_line, prepend_line, numbered_lines, parsed_header, NumberedSubset, lines_of_subsets, first_at, entries_of_subsets, IsDocument, AreReported, IsProperlyReported, AreProper, IsBare, IsParsing}
 use Rattle.bufr_text.proofs.ReaderLemmas.{stopped-reports}
 use Rattle.bufr_text.specs.declared.document.LineGroup.{LineGroup}
 use Rattle.bufr_text.specs.declared.document.LineGroup.TheVariants as group
 use Rattle.bufr_text.proofs.HeaderLemmas.{line_step-holds, all-more, said-sound, with_value, with_local1, with_section2, with_descriptors, equal}
 use Rattle.std.proofs.lemmas.Grind.{common_steps}
 
-abbrev says : List NumberedLine → List Line
-says lines = map (λ l. l.says) lines
+abbrev without_numbers : List NumberedLine → List Line
+without_numbers lines = map (λ l. l.line) lines
 
 -- the line with its number, or nothing if it is skipped
 abbrev one : ℕ → Line → List NumberedLine
-one at line = onto_heard at line []
+one at line = prepend_line at line []
 
-onto-one : (at : ℕ) (line : Line) (more : List NumberedLine) → onto_heard at line more ≡ one at line ++ more
-onto-one at Passed more = refl
+onto-one : (at : ℕ) (line : Line) (more : List NumberedLine) → prepend_line at line more ≡ one at line ++ more
+onto-one at Skipped more = refl
 onto-one at line more = refl
 
 -- Another value adds a header line at the end.
-headers-more : (key : ℕ) (values : List ℕ) (value : ℕ) → header_says key (values ++ value ∷ []) ≡ header_says key values ++ Header (key + length values) value ∷ []
+headers-more : (key : ℕ) (values : List ℕ) (value : ℕ) → parsed_header key (values ++ value ∷ []) ≡ parsed_header key values ++ Header (key + length values) value ∷ []
 headers-more key [] value = grind arith
 headers-more key (v ∷ more) value =
     let e : key + 1 + length more ≡ key + length (v ∷ more) = omega arith in
-    cc (headers-more (key + 1) more value ∙ ap (λ (k : ℕ). header_says (key + 1) more ++ Header k value ∷ []) e)
+    cc (headers-more (key + 1) more value ∙ ap (λ (k : ℕ). parsed_header (key + 1) more ++ Header k value ∷ []) e)
 
 concat-more : (xs : List (List ℕ)) (x : List ℕ) → concat (xs ++ x ∷ []) ≡ concat xs ++ x
 concat-more [] x = append-nil x
 concat-more (y ∷ xs) x = cc (concat-more xs x, append_assoc y (concat xs) x)
 
-abbrev element : (at fxy : ℕ) → DraftValue → Element
-element at fxy form = record { at = at; fxy = fxy; form = form }
+abbrev item_line : Draft → NumberedLine
+item_line d = numbered_line d.line (ItemLine d.fxy d.form)
 
--- the line of an item, and its entry
-abbrev item_line : Element → NumberedLine
-item_line i = numbered_line i.at (ItemLine i.fxy i.form)
-
-abbrev item_entry : Element → DraftEntry
-item_entry i = Holds (draft i.at i.fxy i.form)
-
-abbrev with_item : SubsetHeard → Element → SubsetHeard
+abbrev with_item : NumberedSubset → Draft → NumberedSubset
 with_item part i = record { at = part.at; items = part.items ++ i ∷ [] }
 
-abbrev bare_subset : ℕ → SubsetHeard
+abbrev bare_subset : ℕ → NumberedSubset
 bare_subset at = record { at = at; items = [] }
 
-item-more : (k : ℕ) (done : List SubsetHeard) (last : SubsetHeard) (i : Element) → subsets_heard k (done ++ with_item last i ∷ []) ≡ subsets_heard k (done ++ last ∷ []) ++ item_line i ∷ []
+item-more : (k : ℕ) (done : List NumberedSubset) (last : NumberedSubset) (i : Draft) → lines_of_subsets k (done ++ with_item last i ∷ []) ≡ lines_of_subsets k (done ++ last ∷ []) ++ item_line i ∷ []
 item-more k [] last i = search (rules, map-append)
 item-more k (part ∷ done) last i =
-    ap (λ (t : List NumberedLine). numbered_line part.at (Begins k) ∷ t) (ap (λ (t : List NumberedLine). map item_line part.items ++ t) (item-more (k + 1) done last i)
-    ∙ sym (append_assoc (map item_line part.items) (subsets_heard (k + 1) (done ++ last ∷ [])) (item_line i ∷ [])))
+    ap (λ (t : List NumberedLine). numbered_line part.at (SubsetLine k) ∷ t) (ap (λ (t : List NumberedLine). map item_line part.items ++ t) (item-more (k + 1) done last i)
+    ∙ sym (append_assoc (map item_line part.items) (lines_of_subsets (k + 1) (done ++ last ∷ [])) (item_line i ∷ [])))
 
-part-more : (k : ℕ) (done : List SubsetHeard) (at : ℕ) → subsets_heard k (done ++ bare_subset at ∷ []) ≡ subsets_heard k done ++ numbered_line at (Begins (k + length done)) ∷ []
+part-more : (k : ℕ) (done : List NumberedSubset) (at : ℕ) → lines_of_subsets k (done ++ bare_subset at ∷ []) ≡ lines_of_subsets k done ++ numbered_line at (SubsetLine (k + length done)) ∷ []
 part-more k [] at = grind arith
 part-more k (part ∷ done) at =
     let e : k + 1 + length done ≡ k + length (part ∷ done) = omega arith in
-    ap (λ (t : List NumberedLine). numbered_line part.at (Begins k) ∷ t)
-    (ap (λ (t : List NumberedLine). map item_line part.items ++ t) (part-more (k + 1) done at ∙ ap (λ (n : ℕ). subsets_heard (k + 1) done ++ numbered_line at (Begins n) ∷ []) e)
-    ∙ sym (append_assoc (map item_line part.items) (subsets_heard (k + 1) done) (numbered_line at (Begins (k + length (part ∷ done))) ∷ [])))
+    ap (λ (t : List NumberedLine). numbered_line part.at (SubsetLine k) ∷ t)
+    (ap (λ (t : List NumberedLine). map item_line part.items ++ t) (part-more (k + 1) done at ∙ ap (λ (n : ℕ). lines_of_subsets (k + 1) done ++ numbered_line at (SubsetLine n) ∷ []) e)
+    ∙ sym (append_assoc (map item_line part.items) (lines_of_subsets (k + 1) done) (numbered_line at (SubsetLine (k + length (part ∷ done))) ∷ [])))
 
-first-more : (done : List SubsetHeard) (last : SubsetHeard) (end : ℕ) → first_at (done ++ last ∷ []) end ≡ first_at done last.at
+first-more : (done : List NumberedSubset) (last : NumberedSubset) (end : ℕ) → first_at (done ++ last ∷ []) end ≡ first_at done last.at
 first-more [] last end = refl
 first-more (part ∷ done) last end = refl
 
-entries-more : (done : List SubsetHeard) (last : SubsetHeard) (end : ℕ) → entries_heard (done ++ last ∷ []) end ≡ (entries_heard done last.at ++ map item_entry last.items) ++ Ends end ∷ []
+entries-more : (done : List NumberedSubset) (last : NumberedSubset) (end : ℕ) → entries_of_subsets (done ++ last ∷ []) end ≡ (entries_of_subsets done last.at ++ map Holds last.items) ++ Ends end ∷ []
 entries-more [] last end = refl
 entries-more (part ∷ done) last end = grind (arith, entries-more done last end, append_assoc)
 
@@ -79,9 +72,9 @@ record IsBegun (d : Document) (own : List NumberedLine) : Type 0 where
   local1 : List (List ℕ)
   section2 : List (List ℕ)
   descriptors : List (List ℕ)
-  are : own ≡ (numbered_line d.line Opens ∷ header) ++ written
-  in_order : says header ≡ header_says 0 d.header
-  parts : says written ≡ map Local1 local1 ++ (map Section2 section2 ++ map Descriptors descriptors)
+  are : own ≡ (numbered_line d.line MessageLine ∷ header) ++ written
+  in_order : without_numbers header ≡ parsed_header 0 d.header
+  parts : without_numbers written ≡ map Local1 local1 ++ (map Section2 section2 ++ map Descriptors descriptors)
   local1_is : d.local1 ≡ concat local1
   section2_is : d.section2 ≡ concat section2
   descriptors_are : d.descriptors ≡ concat descriptors
@@ -90,8 +83,8 @@ record IsBegun (d : Document) (own : List NumberedLine) : Type 0 where
 -- These lines are `message` and header lines in order. The document has no other content.
 record IsHeading (d : Document) (own : List NumberedLine) : Type 0 where
   header : List NumberedLine
-  are : own ≡ numbered_line d.line Opens ∷ header
-  in_order : says header ≡ header_says 0 d.header
+  are : own ≡ numbered_line d.line MessageLine ∷ header
+  in_order : without_numbers header ≡ parsed_header 0 d.header
   bare : IsBare d
 
 -- The lines before the subsets, up to this group of lines. Later groups have no lines yet, and the
@@ -107,11 +100,11 @@ record IsBeforeSubsets (part : LineGroup) (d : Document) (own : List NumberedLin
 record IsFilling (subset : ℕ) (d : Document) (own : List NumberedLine) : Type 0 where
   prefix : List NumberedLine
   with_open_group : IsBegun d prefix
-  done : List SubsetHeard
-  last : SubsetHeard
-  are : own ≡ prefix ++ subsets_heard 1 (done ++ last ∷ [])
+  done : List NumberedSubset
+  last : NumberedSubset
+  are : own ≡ prefix ++ lines_of_subsets 1 (done ++ last ∷ [])
   counted : subset ≡ length done + 1
-  entries : d.entries ≡ entries_heard done last.at ++ map item_entry last.items
+  entries : d.entries ≡ entries_of_subsets done last.at ++ map Holds last.items
 
 -- These lines of the current document lead to this state of the parser.
 abbrev IsOpen : Parsing → List NumberedLine → Type 0
@@ -144,8 +137,8 @@ passed : (parsing : Parsing) (own : List NumberedLine) → IsOpen parsing own �
 passed parsing own is = rw (append-nil own) is
 
 -- The header lines are still in order after a line with the next key.
-in-order : (d : Document) (at key value : ℕ) (header : List NumberedLine) → key ≡ length d.header → says header ≡ header_says 0 d.header
-    → says (header ++ numbered_line at (Header key value) ∷ []) ≡ header_says 0 (d.header ++ value ∷ [])
+in-order : (d : Document) (at key value : ℕ) (header : List NumberedLine) → key ≡ length d.header → without_numbers header ≡ parsed_header 0 d.header
+    → without_numbers (header ++ numbered_line at (Header key value) ∷ []) ≡ parsed_header 0 (d.header ++ value ∷ [])
 in-order d at key value header h1 h2 = grind (arith, map-append, headers-more)
 
 heading-open : (at key value : ℕ) (d : Document) (own : List NumberedLine) → IsHeading d own → IsOpenAfter (heading d (Header key value)) (own ++ numbered_line at (Header key value) ∷ [])
@@ -166,7 +159,7 @@ heading-open at key value d own is =
         section2 = [];
         descriptors = [];
         are = ap (λ (t : List NumberedLine). t ++ numbered_line at (Header key value) ∷ []) is.are
-            ∙ sym (append-nil (numbered_line d.line Opens ∷ is.header ++ numbered_line at (Header key value) ∷ []));
+            ∙ sym (append-nil (numbered_line d.line MessageLine ∷ is.header ++ numbered_line at (Header key value) ∷ []));
         in_order = in-order d at key value is.header same is.in_order;
         parts = refl;
         local1_is = is.bare.local1;
@@ -186,18 +179,18 @@ heading-open at key value d own is =
     }
 
 -- Another line before the subsets is appended to `written`.
-written-more : (d : Document) (own : List NumberedLine) (b : IsBegun d own) (x : NumberedLine) → own ++ x ∷ [] ≡ (numbered_line d.line Opens ∷ b.header) ++ (b.written ++ x ∷ [])
+written-more : (d : Document) (own : List NumberedLine) (b : IsBegun d own) (x : NumberedLine) → own ++ x ∷ [] ≡ (numbered_line d.line MessageLine ∷ b.header) ++ (b.written ++ x ∷ [])
 written-more d own b x = rw (b.are, append_assoc)
 
-says-more : (written : List NumberedLine) (x : NumberedLine) (lines : List Line) → says written ≡ lines → says (written ++ x ∷ []) ≡ lines ++ x.says ∷ []
-says-more written x lines is = rw (map-append, is)
+without_numbers-more : (written : List NumberedLine) (x : NumberedLine) (lines : List Line) → without_numbers written ≡ lines → without_numbers (written ++ x ∷ []) ≡ lines ++ x.line ∷ []
+without_numbers-more written x lines is = rw (map-append, is)
 
 local1-open : (at : ℕ) (d : Document) (octets : List ℕ) (own : List NumberedLine) → IsBeforeSubsets group.Local1 d own
     → IsBeforeSubsets group.Local1 (with_local1 d octets) (own ++ numbered_line at (Local1 octets) ∷ [])
 local1-open at d octets own is =
     let b = is.with_open_group in
     let none3 = is.before_descriptors (λ e. cc) in
-    let before : says b.written ≡ map Local1 b.local1 = grind (arith, common_steps) in
+    let before : without_numbers b.written ≡ map Local1 b.local1 = grind (arith, common_steps) in
     record {
       with_open_group = record {
         header = b.header;
@@ -207,7 +200,7 @@ local1-open at d octets own is =
         descriptors = [];
         are = written-more d own b (numbered_line at (Local1 octets));
         in_order = b.in_order;
-        parts = says-more b.written (numbered_line at (Local1 octets)) (map Local1 b.local1) before ∙ sym (map-append Local1 b.local1 (octets ∷ []))
+        parts = without_numbers-more b.written (numbered_line at (Local1 octets)) (map Local1 b.local1) before ∙ sym (map-append Local1 b.local1 (octets ∷ []))
             ∙ sym (append-nil (map Local1 (b.local1 ++ octets ∷ [])));
         local1_is = ap (λ (t : List ℕ). t ++ octets) b.local1_is ∙ sym (concat-more b.local1 octets);
         section2_is = b.section2_is ∙ ap (λ (t : List (List ℕ)). concat t) (is.before_section2 refl);
@@ -225,7 +218,7 @@ section2-open at part d octets own early flag is =
     let b = is.with_open_group in
     let none3 = is.before_descriptors early in
     let first = map Local1 b.local1 in
-    let before : says b.written ≡ first ++ map Section2 b.section2 =
+    let before : without_numbers b.written ≡ first ++ map Section2 b.section2 =
     b.parts ∙ ap (λ (t : List (List ℕ)). first ++ (map Section2 b.section2 ++ map Descriptors t)) none3 ∙ ap (λ (t : List Line). first ++ t) (append-nil (map Section2 b.section2)) in
     record {
       with_open_group = record {
@@ -236,7 +229,7 @@ section2-open at part d octets own early flag is =
         descriptors = [];
         are = written-more d own b (numbered_line at (Section2 octets));
         in_order = b.in_order;
-        parts = says-more b.written (numbered_line at (Section2 octets)) (first ++ map Section2 b.section2) before ∙ append_assoc first (map Section2 b.section2) (Section2 octets ∷ [])
+        parts = without_numbers-more b.written (numbered_line at (Section2 octets)) (first ++ map Section2 b.section2) before ∙ append_assoc first (map Section2 b.section2) (Section2 octets ∷ [])
             ∙ ap (λ (t : List Line). first ++ t) (sym (map-append Section2 b.section2 (octets ∷ [])) ∙ sym (append-nil (map Section2 (b.section2 ++ octets ∷ []))));
         local1_is = b.local1_is;
         section2_is = ap (λ (t : List ℕ). t ++ octets) b.section2_is ∙ sym (concat-more b.section2 octets);
@@ -263,7 +256,7 @@ descriptors-open at part d words own is =
         descriptors = b.descriptors ++ words ∷ [];
         are = written-more d own b (numbered_line at (Descriptors words));
         in_order = b.in_order;
-        parts = says-more b.written (numbered_line at (Descriptors words)) (first ++ (second ++ map Descriptors b.descriptors)) b.parts
+        parts = without_numbers-more b.written (numbered_line at (Descriptors words)) (first ++ (second ++ map Descriptors b.descriptors)) b.parts
             ∙ append_assoc first (second ++ map Descriptors b.descriptors) (Descriptors words ∷ [])
             ∙ ap (λ (t : List Line). first ++ t) (append_assoc second (map Descriptors b.descriptors) (Descriptors words ∷ [])
             ∙ ap (λ (t : List Line). second ++ t) (sym (map-append Descriptors b.descriptors (words ∷ []))));
@@ -282,23 +275,23 @@ is-next : (subset read most : ℕ) → ((subset == read + 1) && nat_le subset mo
 is-next subset read most e = equal subset (read + 1) (and_first (subset == read + 1) (nat_le subset most) e)
 
 first-open : (at subset : ℕ) (part : LineGroup) (d : Document) (own : List NumberedLine) → IsBeforeSubsets part d own
-    → IsOpenAfter (beginning 0 d subset, d) (own ++ numbered_line at (Begins subset) ∷ [])
+    → IsOpenAfter (beginning 0 d subset, d) (own ++ numbered_line at (SubsetLine subset) ∷ [])
 first-open at subset part d own is =
-    if-effect (own ++ numbered_line at (Begins subset) ∷ []) ((subset == 0 + 1) && nat_le subset (header_in d).subsets) (Continues (Filling subset)) (Refuses SubsetCount) d (λ e.
+    if-effect (own ++ numbered_line at (SubsetLine subset) ∷ []) ((subset == 0 + 1) && nat_le subset (header_in d).subsets) (Continues (Filling subset)) (Refuses SubsetCount) d (λ e.
     let number : subset ≡ 1 = is-next subset 0 (header_in d).subsets e in record {
       prefix = own;
       with_open_group = is.with_open_group;
       done = [];
       last = bare_subset at;
-      are = ap (λ (n : ℕ). own ++ numbered_line at (Begins n) ∷ []) number;
+      are = ap (λ (n : ℕ). own ++ numbered_line at (SubsetLine n) ∷ []) number;
       counted = number;
       entries = is.none;
     }) (λ e. tt)
 
-none-open : (at : ℕ) (part : LineGroup) (d : Document) (own : List NumberedLine) → IsBeforeSubsets part d own → IsOpenAfter (closing 0 d, d) (own ++ numbered_line at Closes ∷ [])
+none-open : (at : ℕ) (part : LineGroup) (d : Document) (own : List NumberedLine) → IsBeforeSubsets part d own → IsOpenAfter (closing 0 d, d) (own ++ numbered_line at EndLine ∷ [])
 none-open at part d own is =
     let b = is.with_open_group in
-    if-effect (own ++ numbered_line at Closes ∷ []) (0 == (header_in d).subsets) Completes (Refuses SubsetCount) d (λ e. record {
+    if-effect (own ++ numbered_line at EndLine ∷ []) (0 == (header_in d).subsets) Completes (Refuses SubsetCount) d (λ e. record {
       header = b.header;
       local1 = b.local1;
       section2 = b.section2;
@@ -306,7 +299,7 @@ none-open at part d own is =
       written = b.written;
       subsets = [];
       end = at;
-      are = written-more d own b (numbered_line at Closes);
+      are = written-more d own b (numbered_line at EndLine);
       in_order = b.in_order;
       parts = b.parts;
       local1_is = b.local1_is;
@@ -321,43 +314,44 @@ begun-still : (d : Document) (entry : DraftEntry) (own : List NumberedLine) → 
 begun-still d entry own h1 = grind arith
 
 -- If the last subset ends at this line, the entries are those of all subsets.
-ended-entries : (at subset : ℕ) (d : Document) (own : List NumberedLine) (is : IsFilling subset d own) → d.entries ++ Ends at ∷ [] ≡ entries_heard (is.done ++ is.last ∷ []) at
+ended-entries : (at subset : ℕ) (d : Document) (own : List NumberedLine) (is : IsFilling subset d own) → d.entries ++ Ends at ∷ [] ≡ entries_of_subsets (is.done ++ is.last ∷ []) at
 ended-entries at subset d own is = rw (is.entries, entries-more)
 
 next-open : (at subset next : ℕ) (d : Document) (own : List NumberedLine) → IsFilling subset d own
-    → IsOpenAfter (beginning subset d next, with_entry d (Ends at)) (own ++ numbered_line at (Begins next) ∷ [])
+    → IsOpenAfter (beginning subset d next, with_entry d (Ends at)) (own ++ numbered_line at (SubsetLine next) ∷ [])
 next-open at subset next d own is =
     let parts = is.done ++ is.last ∷ [] in
-    if-effect (own ++ numbered_line at (Begins next) ∷ []) ((next == subset + 1) && nat_le next (header_in d).subsets) (Continues (Filling next)) (Refuses SubsetCount) (with_entry d (Ends at)) (λ e.
+    if-effect (own ++ numbered_line at (SubsetLine next) ∷ []) ((next == subset + 1) && nat_le next (header_in d).subsets) (Continues (Filling next)) (Refuses SubsetCount) (with_entry d (Ends at))
+    (λ e.
     let number : next ≡ 1 + length parts = omega (arith, is-next next subset (header_in d).subsets e, is.counted, length-append is.done (is.last ∷ [])) in record {
       prefix = is.prefix;
       with_open_group = begun-still d (Ends at) is.prefix is.with_open_group;
       done = parts;
       last = bare_subset at;
-      are = ap (λ (t : List NumberedLine). t ++ numbered_line at (Begins next) ∷ []) is.are ∙ append_assoc is.prefix (subsets_heard 1 parts) (numbered_line at (Begins next) ∷ [])
-          ∙ ap (λ (t : List NumberedLine). is.prefix ++ t) (ap (λ (n : ℕ). subsets_heard 1 parts ++ numbered_line at (Begins n) ∷ []) number ∙ sym (part-more 1 parts at));
+      are = ap (λ (t : List NumberedLine). t ++ numbered_line at (SubsetLine next) ∷ []) is.are ∙ append_assoc is.prefix (lines_of_subsets 1 parts) (numbered_line at (SubsetLine next) ∷ [])
+          ∙ ap (λ (t : List NumberedLine). is.prefix ++ t) (ap (λ (n : ℕ). lines_of_subsets 1 parts ++ numbered_line at (SubsetLine n) ∷ []) number ∙ sym (part-more 1 parts at));
       counted = omega (arith, number);
-      entries = ended-entries at subset d own is ∙ sym (append-nil (entries_heard parts at));
+      entries = ended-entries at subset d own is ∙ sym (append-nil (entries_of_subsets parts at));
     }) (λ e. tt)
 
-item-open : (at subset : ℕ) (d : Document) (own : List NumberedLine) (i : Element) → i.at ≡ at → IsFilling subset d own → IsFilling subset (with_entry d (item_entry i)) (own ++ item_line i ∷ [])
+item-open : (at subset : ℕ) (d : Document) (own : List NumberedLine) (i : Draft) → i.line ≡ at → IsFilling subset d own → IsFilling subset (with_entry d (Holds i)) (own ++ item_line i ∷ [])
 item-open at subset d own i here is = record {
   prefix = is.prefix;
-  with_open_group = begun-still d (item_entry i) is.prefix is.with_open_group;
+  with_open_group = begun-still d (Holds i) is.prefix is.with_open_group;
   done = is.done;
   last = with_item is.last i;
-  are = ap (λ (t : List NumberedLine). t ++ item_line i ∷ []) is.are ∙ append_assoc is.prefix (subsets_heard 1 (is.done ++ is.last ∷ [])) (item_line i ∷ [])
+  are = ap (λ (t : List NumberedLine). t ++ item_line i ∷ []) is.are ∙ append_assoc is.prefix (lines_of_subsets 1 (is.done ++ is.last ∷ [])) (item_line i ∷ [])
       ∙ ap (λ (t : List NumberedLine). is.prefix ++ t) (sym (item-more 1 is.done is.last i));
   counted = is.counted;
-  entries = ap (λ (t : List DraftEntry). t ++ item_entry i ∷ []) is.entries ∙ append_assoc (entries_heard is.done is.last.at) (map item_entry is.last.items) (item_entry i ∷ [])
-      ∙ ap (λ (t : List DraftEntry). entries_heard is.done is.last.at ++ t) (sym (map-append item_entry is.last.items (i ∷ [])));
+  entries = ap (λ (t : List DraftEntry). t ++ Holds i ∷ []) is.entries ∙ append_assoc (entries_of_subsets is.done is.last.at) (map Holds is.last.items) (Holds i ∷ [])
+      ∙ ap (λ (t : List DraftEntry). entries_of_subsets is.done is.last.at ++ t) (sym (map-append Holds is.last.items (i ∷ [])));
 }
 
-end-open : (at subset : ℕ) (d : Document) (own : List NumberedLine) → IsFilling subset d own → IsOpenAfter (closing subset d, with_entry d (Ends at)) (own ++ numbered_line at Closes ∷ [])
+end-open : (at subset : ℕ) (d : Document) (own : List NumberedLine) → IsFilling subset d own → IsOpenAfter (closing subset d, with_entry d (Ends at)) (own ++ numbered_line at EndLine ∷ [])
 end-open at subset d own is =
     let b = is.with_open_group in
     let parts = is.done ++ is.last ∷ [] in
-    if-effect (own ++ numbered_line at Closes ∷ []) (subset == (header_in d).subsets) Completes (Refuses SubsetCount) (with_entry d (Ends at)) (λ e. record {
+    if-effect (own ++ numbered_line at EndLine ∷ []) (subset == (header_in d).subsets) Completes (Refuses SubsetCount) (with_entry d (Ends at)) (λ e. record {
       header = b.header;
       local1 = b.local1;
       section2 = b.section2;
@@ -365,10 +359,10 @@ end-open at subset d own is =
       written = b.written;
       subsets = parts;
       end = at;
-      are = ap (λ (t : List NumberedLine). t ++ numbered_line at Closes ∷ [])
-          (is.are ∙ ap (λ (t : List NumberedLine). t ++ subsets_heard 1 parts) b.are ∙ append_assoc (numbered_line d.line Opens ∷ b.header) b.written (subsets_heard 1 parts))
-          ∙ append_assoc (numbered_line d.line Opens ∷ b.header) (b.written ++ subsets_heard 1 parts) (numbered_line at Closes ∷ [])
-          ∙ ap (λ (t : List NumberedLine). (numbered_line d.line Opens ∷ b.header) ++ t) (append_assoc b.written (subsets_heard 1 parts) (numbered_line at Closes ∷ []));
+      are = ap (λ (t : List NumberedLine). t ++ numbered_line at EndLine ∷ [])
+          (is.are ∙ ap (λ (t : List NumberedLine). t ++ lines_of_subsets 1 parts) b.are ∙ append_assoc (numbered_line d.line MessageLine ∷ b.header) b.written (lines_of_subsets 1 parts))
+          ∙ append_assoc (numbered_line d.line MessageLine ∷ b.header) (b.written ++ lines_of_subsets 1 parts) (numbered_line at EndLine ∷ [])
+          ∙ ap (λ (t : List NumberedLine). (numbered_line d.line MessageLine ∷ b.header) ++ t) (append_assoc b.written (lines_of_subsets 1 parts) (numbered_line at EndLine ∷ []));
       in_order = b.in_order;
       parts = b.parts;
       local1_is = b.local1_is;
@@ -400,25 +394,25 @@ section2-after at group.Descriptors d octets own is = tt
 -- After any line, the lines of the current document lead to the new state.
 line_step-opens : (at : ℕ) (parsing : Parsing) (line : Line) (own : List NumberedLine) → IsOpen parsing own → IsOpenAfter (line_step at parsing line) (own ++ one at line)
 unfolding line_step
-line_step-opens at (Between, d) Passed own is = passed (Between, d) own is
-line_step-opens at (Between, d) Opens own is = record {
+line_step-opens at (Between, d) Skipped own is = passed (Between, d) own is
+line_step-opens at (Between, d) MessageLine own is = record {
   header = [];
-  are = ap (λ (t : List NumberedLine). t ++ numbered_line at Opens ∷ []) is;
+  are = ap (λ (t : List NumberedLine). t ++ numbered_line at MessageLine ∷ []) is;
   in_order = refl;
   bare = record { local1 = refl; section2 = refl; descriptors = refl; entries = refl };
 }
-line_step-opens at (Heading, d) Passed own is = passed (Heading, d) own is
+line_step-opens at (Heading, d) Skipped own is = passed (Heading, d) own is
 line_step-opens at (Heading, d) (Header key value) own is = heading-open at key value d own is
-line_step-opens at (BeforeSubsets part, d) Passed own is = passed (BeforeSubsets part, d) own is
+line_step-opens at (BeforeSubsets part, d) Skipped own is = passed (BeforeSubsets part, d) own is
 line_step-opens at (BeforeSubsets part, d) (Local1 octets) own is = by-part at part d octets own is
 line_step-opens at (BeforeSubsets part, d) (Section2 octets) own is = section2-after at part d octets own is
 line_step-opens at (BeforeSubsets part, d) (Descriptors words) own is = descriptors-open at part d words own is
-line_step-opens at (BeforeSubsets part, d) (Begins subset) own is = first-open at subset part d own is
-line_step-opens at (BeforeSubsets part, d) Closes own is = none-open at part d own is
-line_step-opens at (Filling subset, d) Passed own is = passed (Filling subset, d) own is
-line_step-opens at (Filling subset, d) (Begins next) own is = next-open at subset next d own is
-line_step-opens at (Filling subset, d) (ItemLine fxy form) own is = item-open at subset d own (element at fxy form) refl is
-line_step-opens at (Filling subset, d) Closes own is = end-open at subset d own is
+line_step-opens at (BeforeSubsets part, d) (SubsetLine subset) own is = first-open at subset part d own is
+line_step-opens at (BeforeSubsets part, d) EndLine own is = none-open at part d own is
+line_step-opens at (Filling subset, d) Skipped own is = passed (Filling subset, d) own is
+line_step-opens at (Filling subset, d) (SubsetLine next) own is = next-open at subset next d own is
+line_step-opens at (Filling subset, d) (ItemLine fxy form) own is = item-open at subset d own (draft at fxy form) refl is
+line_step-opens at (Filling subset, d) EndLine own is = end-open at subset d own is
 line_step-opens at (Stopped, d) line own is = absurd is
 line_step-opens at parsing line own is = tt
 

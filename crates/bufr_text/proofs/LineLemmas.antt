@@ -7,7 +7,7 @@ use Rattle.bufr_tables.specs.Prelude.{fxy_of, fxy_text, f_of, x_of, y_of, f_in, 
 use Rattle.std.specs.Fmt.{decimal}
 use Rattle.std.proofs.lemmas.Fmt.{decimal_is_IsNumeral_wide, length-decimal-le_wide}
 use Rattle.bufr_bits.proofs.DecimalLemmas.{own, and_first, and_second, all_digits-take, all_digits-drop, zeros_digits}
-use Rattle.bufr_text.specs.Prelude.{hex_digit, upper_value, either_value, pair_value, hex_pair, hex_text, hex_read, fxy_read, descriptors_text, descriptors_read, number_read, is_unescaped, escaped, quoted, quoted_read, is_number_octet, without_prefix, is_hashed, is_passed_after, runs_after, IsOctet, IsDescriptorWord, local1_line, section2_line, descriptors_line, subset_line, comment_text, dump_value_of, form_text, item_text, IsValue, IsComment, IsItem, text_of_lines, Opens, Header, Local1, Section2, Descriptors, Begins, ItemLine, Closes, keys, number_value, value_read, worded, line_of, Line, lines_of, split_of, Split, onto_split, Wrong}
+use Rattle.bufr_text.specs.Prelude.{hex_digit, upper_value, either_value, pair_value, hex_pair, hex_text, hex_read, fxy_read, descriptors_text, descriptors_read, number_read, is_unescaped, escaped, quoted, quoted_read, is_number_octet, without_prefix, is_hashed, is_end_or_comment, runs_after, IsOctet, IsDescriptorWord, local1_line, section2_line, descriptors_line, subset_line, comment_text, dump_value_of, form_text, item_text, IsValue, IsComment, IsItem, text_of_lines, MessageLine, Header, Local1, Section2, Descriptors, SubsetLine, ItemLine, EndLine, keys, number_value, value_read, worded, line_of, Line, lines_of, split_of, Split, onto_split, Invalid}
 use Rattle.std.proofs.lemmas.List.{length-replicate, take-append-drop}
 use Rattle.std.proofs.lemmas.List.Folds.{list_all-append}
 use Rattle.bufr_bits.specs.Prelude.{decimal_text_of, unsigned_text, pointed}
@@ -209,21 +209,21 @@ unfolding line_of worded without_prefix descriptors_text
 descriptors-says [] all some few = absurd (omega arith)
 descriptors-says (w ∷ ws) all some few = simp (descriptors_back, in_bounds)
 
-pub subset-says : (n : ℕ) → n < 65536 → line_of (subset_line n) ≡ Begins n
+pub subset-says : (n : ℕ) → n < 65536 → line_of (subset_line n) ≡ SubsetLine n
 unfolding line_of worded without_prefix
 subset-says n h = rw (number_back n h) refl
 
-pub message-says : line_of (codes "message") ≡ Opens
+pub message-says : line_of (codes "message") ≡ MessageLine
 unfolding line_of worded
 message-says = refl
 
-pub end-says : line_of (codes "end") ≡ Closes
+pub end-says : line_of (codes "end") ≡ EndLine
 unfolding line_of worded
 end-says = refl
 
 -- ---- Header lines.
 
-pub key-says : (k : ℕ) (rest : List ℕ) → k < 20 → line_of (get_or keys k [] ++ 32 ∷ rest) ≡ unwrap_or (number_read rest >>= λ value. Some (Header k value)) Wrong
+pub key-says : (k : ℕ) (rest : List ℕ) → k < 20 → line_of (get_or keys k [] ++ 32 ∷ rest) ≡ unwrap_or (number_read rest >>= λ value. Some (Header k value)) Invalid
 unfolding line_of worded without_prefix keys
 key-says k rest h1 = grind arith
 
@@ -240,7 +240,7 @@ value_there k word line rest None few is there read = tt
 value_there k word line rest (Some v) few is there read =
     let name : List ℕ = get_or keys k [] in
     let whole : line ≡ name ++ 32 ∷ rest = suffix_is word line rest (sym there) ∙ ap (λ w. w ++ rest) is ∙ append_assoc name (32 ∷ []) rest in
-    ap line_of whole ∙ key-says k rest few ∙ ap (λ o. unwrap_or (o >>= λ value. Some (Header k value)) Wrong) (sym read)
+    ap line_of whole ∙ key-says k rest few ∙ ap (λ o. unwrap_or (o >>= λ value. Some (Header k value)) Invalid) (sym read)
 
 -- ---- Items.
 
@@ -268,12 +268,12 @@ first-digit w h = grind arith
 no-hash : (w : ℕ) → w < 65536 → (48 + f_of w == 35) ≡ false
 no-hash w h = grind arith
 
-pub item-of : (fxy : ℕ) (text rest : List ℕ) (form : DraftValue) → fxy < 65536 → value_read text ≡ Some (form, rest) → is_passed_after rest ≡ true
+pub item-of : (fxy : ℕ) (text rest : List ℕ) (form : DraftValue) → fxy < 65536 → value_read text ≡ Some (form, rest) → is_end_or_comment rest ≡ true
     → line_of (fxy_text fxy ++ 32 ∷ text) ≡ ItemLine fxy form
 unfolding line_of without_prefix
 item-of fxy text rest form h read passed = rw (no-hash fxy h, first-digit fxy h, fxy_read_back fxy (32 ∷ text) h, read, passed) refl
 
-pub comment-passed : (comment : Option Row) → is_passed_after (comment_text comment) ≡ true
+pub comment-passed : (comment : Option Row) → is_end_or_comment (comment_text comment) ≡ true
 unfolding is_hashed
 comment-passed None = refl
 comment-passed (Some comment) = refl
@@ -286,7 +286,7 @@ pub reference-value : (token rest : List ℕ) (most : ℕ) → IsToken token mos
 reference-value [] rest most token s = absurd (omega (arith, token.some))
 reference-value (c ∷ more) rest most token s = number-there reference_token c more rest token.octets s
 
-pub reference-of : (fxy : ℕ) (text rest : List ℕ) (form : DraftValue) → fxy < 65536 → number_value reference_token text ≡ Some (form, rest) → is_passed_after rest ≡ true
+pub reference-of : (fxy : ℕ) (text rest : List ℕ) (form : DraftValue) → fxy < 65536 → number_value reference_token text ≡ Some (form, rest) → is_end_or_comment rest ≡ true
     → line_of (codes "R " ++ fxy_text fxy ++ 32 ∷ text) ≡ ItemLine fxy form
 unfolding line_of worded without_prefix
 reference-of fxy text rest form h read passed = rw (fxy_read_back fxy (32 ∷ text) h, read, passed) refl
@@ -384,10 +384,10 @@ comment-clean comment h1 = grind (arith, common_steps, name-clean)
 
 -- ---- Whole lines.
 
-pub message-line : IsLineOf (codes "message") Opens
+pub message-line : IsLineOf (codes "message") MessageLine
 message-line = record { says = message-says; clean = refl; short = omega arith }
 
-pub end-line : IsLineOf (codes "end") Closes
+pub end-line : IsLineOf (codes "end") EndLine
 end-line = record { says = end-says; clean = refl; short = omega arith }
 
 line-from : (line : List ℕ) (meaning : Line) (most : ℕ) → line_of line ≡ meaning → IsClean line most → most ≤ 4096 → IsLineOf line meaning
@@ -402,8 +402,8 @@ section2-line xs all some few = grind (arith, line-from, section2-says, hex-clea
 pub descriptors-line : (ws : List ℕ) → AllByRecursion IsDescriptorWord ws → 0 < length ws → length ws ≤ 8 → IsLineOf (descriptors_line ws) (Descriptors ws)
 descriptors-line ws all some few = search (rules, line-from, descriptors-says, joined-two, literal, descriptors-clean)
 
-pub subset-line : (n : ℕ) → n < 65536 → IsLineOf (subset_line n) (Begins n)
-subset-line n h = line-from (subset_line n) (Begins n) 12 (subset-says n (omega arith))
+pub subset-line : (n : ℕ) → n < 65536 → IsLineOf (subset_line n) (SubsetLine n)
+subset-line n h = line-from (subset_line n) (SubsetLine n) 12 (subset-says n (omega arith))
     (joined-two (codes "subset ") (decimal n) 7 5 12 (literal (codes "subset ") 7 refl (omega arith)) (decimal-clean n 5 (omega arith) (omega arith) (omega arith)) (omega arith)) (omega arith)
 
 -- ---- The names of keys.
@@ -428,7 +428,7 @@ key-clean k h1 = grind arith
 pub header-line : (k v : ℕ) → k < 20 → v < 65536 → IsLineOf (get_or keys k [] ++ 32 ∷ decimal v) (Header k v)
 header-line k v h n =
     let name = key-clean (get_or keys k []) (key-passes-at keys k keys-pass (omega (arith, keys-length))) in
-    line-from (get_or keys k [] ++ 32 ∷ decimal v) (Header k v) 22 (key-says k (decimal v) h ∙ ap (λ o. unwrap_or (o >>= λ value. Some (Header k value)) Wrong) (number_back v (omega arith)))
+    line-from (get_or keys k [] ++ 32 ∷ decimal v) (Header k v) 22 (key-says k (decimal v) h ∙ ap (λ o. unwrap_or (o >>= λ value. Some (Header k value)) Invalid) (number_back v (omega arith)))
     (joined-two (get_or keys k []) (32 ∷ decimal v) 16 6 22 name (one-more 32 (decimal v) 5 6 (omega arith) (decimal-clean v 5 (omega arith) (omega arith) (omega arith)) (omega arith)) (omega arith))
     (omega arith)
 

@@ -7,7 +7,7 @@ use Rattle.bufr_tables.specs.Prelude.{tree_of, IsLegal, tables_of, Record, Row, 
 use Rattle.bufr_tables.proofs.SoundLemmas.{tree_fine}
 use Rattle.bufr_frame.specs.Prelude.{with_even_length, message_octets, message_size, max_octets, sections_from, MessageParts, parts_of}
 use Rattle.bufr_walk.specs.Prelude.{Content, FieldSpec, next_item, Course, Values, Item, plain, after, data_of, view_of, View, each_subset}
-use Rattle.bufr_fill.specs.Prelude.{Subset, subsets_of, Draft, AreSaid, IsSaid, AreDrafts, content_of, HasReading}
+use Rattle.bufr_fill.specs.Prelude.{Subset, subsets_of, Draft, AreSpecified, IsSpecified, AreDrafts, content_of, HasReading}
 use Rattle.bufr_fill.specs.declared.fault.DraftFault.{DraftFault}
 use Rattle.bufr_fill.proofs.BackLaws.{read_back}
 use Rattle.bufr_text.specs.Prelude.{header_in, mosts, Form, Document, Complete, documents_of, section2_in, ◌>>=◌, map_err, data_bits, octets_of_bits, parts_as, compressed_as, message_of, encoding_in, DocumentFault, encoding_of, header_lines, local1_line, section2_line, descriptors_line, head_lines, item_text, subset_lines, text_of_lines, dump_text_of, lines_before, document_of, IsProper, header_as, normal_head, normal_line, draft_answer, line_and, normal_items, normal_subsets, normal, AreValuesOf, IsReadAs, runs_of, items_shown, dump_items, document_fault}
@@ -27,7 +27,7 @@ use Rattle.std.specs.Int.{from_bool}
 
 -- ---- The message that a document is encoded to is accepted, and has the content of the document.
 
-pub said_length : (subsets : List (List (Item Content))) (drafts : List Subset) → AreSaid subsets drafts → length subsets ≡ length drafts
+pub said_length : (subsets : List (List (Item Content))) (drafts : List Subset) → AreSpecified subsets drafts → length subsets ≡ length drafts
 said_length [] [] h = refl
 said_length (items ∷ subsets) (s ∷ ss) h = ap suc (said_length subsets ss h.1)
 said_length subsets ss h = absurd h
@@ -99,7 +99,7 @@ module _ (form : Form) (records : List Record) (table : List Row) (sequences : L
 line_is : (table : List Row) (spec : FieldSpec) (d : Draft) (c : Content) → content_of spec d ≡ Ok c → normal_line table spec d ≡ item_text (view_of table spec c)
 line_is table spec d c h1 = grind (arith, said_fxy, normal_dumped, same_form)
 
-items_are : (table : List Row) (course : Course) (items : List (reading.Item Content)) (ds : List Draft) → Follows course items → AreDrafts IsSaid items ds
+items_are : (table : List Row) (course : Course) (items : List (reading.Item Content)) (ds : List Draft) → Follows course items → AreDrafts IsSpecified items ds
     → normal_items table course ds ≡ map item_text (items_shown table items)
 items_are table course [] [] f said = refl
 items_are table course (i ∷ items) (d ∷ ds) f said =
@@ -109,7 +109,7 @@ items_are table course (i ∷ items) (d ∷ ds) f said =
     ∙ ap (λ xs. item_text (view_of table i.spec i.content) ∷ xs) (items_are table (after plain course i) items ds f.3 said.1)
 items_are table course items ds f said = absurd said
 
-pub subsets_are : (table : List Row) (course : Course) (n : ℕ) (subsets : List (List (reading.Item Content))) (drafts : List Subset) → AllFollow course subsets → AreSaid subsets drafts
+pub subsets_are : (table : List Row) (course : Course) (n : ℕ) (subsets : List (List (reading.Item Content))) (drafts : List Subset) → AllFollow course subsets → AreSpecified subsets drafts
     → normal_subsets table course n drafts ≡ subset_lines n (map (items_shown table) subsets)
 unfolding subset_lines
 subsets_are table course n [] [] f said = refl
@@ -211,7 +211,7 @@ module _ (form : Form) (records : List Record) (table : List Row) (sequences : L
   follow : AllFollow course (each_subset h.sections.subsets h.values)
   follow = follows table h.template (table_read records table rows) legal (data_of h.sections) h.values h.used h.accepted.read
 
-  says : (values : Values) (drafts : List Subset) → length drafts ≡ h.sections.subsets → AreValuesOf values drafts → AreSaid (each_subset h.sections.subsets values) drafts
+  says : (values : Values) (drafts : List Subset) → length drafts ≡ h.sections.subsets → AreValuesOf values drafts → AreSpecified (each_subset h.sections.subsets values) drafts
   says values drafts count said = grind arith
 
   lines_of_items : (drafts : List Subset) → length drafts ≡ h.sections.subsets → AreValuesOf h.values drafts → subset_lines 1 shown_items ≡ normal_subsets table course 1 drafts
@@ -230,7 +230,7 @@ module _ (form : Form) (records : List Record) (table : List Row) (sequences : L
     drafts_again = subsets_of again.entries
 
     -- The drafts of the dump have the content of the reading.
-    again_said : AreSaid (each_subset h.sections.subsets h.values) drafts_again
+    again_said : AreSpecified (each_subset h.sections.subsets h.values) drafts_again
     again_said = subsets_said course (each_subset h.sections.subsets h.values) drafts_again follow (all_dumped table (at + lines_before h.sections) h.sections.subsets h.values)
 
     again_count : length drafts_again ≡ h.sections.subsets
@@ -240,7 +240,7 @@ module _ (form : Form) (records : List Record) (table : List Row) (sequences : L
     -- The normal text of this document is the dump text itself.
     pub normal_again : normal AsWritten table h.template again ≡ dump_text_of h.sections shown_items
     normal_again = sym (ap (λ ls. text_of_lines (head_lines h.sections ++ (ls ++ codes "end" ∷ [])))
-        (lines_of_items drafts_again again_count (subst (λ n. AreSaid (each_subset n h.values) drafts_again) (sym again_count) again_said)))
+        (lines_of_items drafts_again again_count (subst (λ n. AreSpecified (each_subset n h.values) drafts_again) (sym again_count) again_said)))
 
     -- the message with these data bits, or the first fault
     abbrev message_with : (line : ℕ) → Head → (List ℕ → MessageParts) → Result (List Bool) DraftFault → Result (List ℕ) DocumentFault

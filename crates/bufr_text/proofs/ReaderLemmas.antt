@@ -3,7 +3,7 @@ use Rattle.bufr_text.proofs.LineLemmas.{both, lines-cons, lines-none}
 use Rattle.std.proofs.Common.{◌≡◌, ℕ, ◌+◌, ◌<◌, ◌≤◌, ◌==◌, nat_lt, not, Bool, true, false, List, [], ◌∷◌, ◌++◌, length, refl, sym, ap, ◌∙◌, arith, append_assoc, append-nil, length-append, subst, if◌then◌else◌, ◌⊎◌, inl, inr, zero, suc, ◌&&◌, take, drop, Option, Some, None, ◌-◌, length-drop, Result, Ok, Err, OnErr, slice_index}
 use Rattle.std.proofs.lemmas.Bool.Decides.{nat_tests}
 use Rattle.bufr_bits.proofs.DecimalLemmas.{and_first, and_second}
-use Rattle.bufr_text.specs.Prelude.{blank, Line, Passed, ItemLine, Closes, Wrong, line_of, ParserState, Between, Heading, BeforeSubsets, Filling, Stopped, LineEffect, Continues, Completes, Refuses, Parsing, LineStep, between, ParseResult, Refused, NotAllowed, line_step, read_line, parse_lines, parsing_after, reported_at, reported_at_end, lines_of, Split, onto_split, split_of, parse_open_lines, documents_of, open_documents_of, Document, with_entry, has_no_feed, ReaderPosition, parse, parse_open, ContinuesParse, ReaderModel, KeepsUnread, IsMissingFeed, ReadsLines, TakesWholeLines, position_of, parsing_of, IsParsing, IsLineStep, position_with, TakesLines, IsTaking, WantsAt, adds, ends_by_feed, IsProgress, IsReader, ParsesHeldLines, WantsHere, stopped, text_of_lines, ReadFault}
+use Rattle.bufr_text.specs.Prelude.{blank, Line, Skipped, ItemLine, EndLine, Invalid, line_of, ParserState, Between, Heading, BeforeSubsets, Filling, Stopped, LineEffect, Continues, Completes, Refuses, Parsing, LineStep, between, ParseResult, Refused, NotAllowed, line_step, read_line, parse_lines, parsing_after, reported_at, reported_at_end, lines_of, Split, onto_split, split_of, parse_open_lines, documents_of, open_documents_of, Document, with_entry, has_no_feed, ReaderPosition, parse, parse_open, ContinuesParse, ReaderModel, KeepsUnread, IsMissingFeed, ReadsLines, TakesWholeLines, position_of, parsing_of, IsParsing, IsLineStep, position_with, TakesLines, IsTaking, WantsAt, adds, ends_by_feed, IsProgress, IsReader, ParsesHeldLines, WantsHere, stopped, text_of_lines, ReadFault}
 use Rattle.std.proofs.lemmas.Bool.{true≢false}
 use Rattle.memchr.specs.Find.{IsFirstByte, is_byte}
 use Rattle.std.proofs.lemmas.List.{take_at, drop-drop}
@@ -32,7 +32,7 @@ HandlesEnd old new result = ⊥
 -- After a fault, nothing is reported.
 stays-stopped : (at : ℕ) (d : Document) (meaning : Line) → line_step at (Stopped, d) meaning ≡ (Continues Stopped, d)
 unfolding line_step
-stays-stopped at d Passed = refl
+stays-stopped at d Skipped = refl
 stays-stopped at d meaning = refl
 
 pub stopped-reports : (at : ℕ) (d : Document) (lines : List (List ℕ)) → parse_lines at (Stopped, d) lines ≡ []
@@ -44,8 +44,8 @@ pub stopped-reports-openly : (at : ℕ) (d : Document) (lines : List (List ℕ))
 unfolding parse_open_lines
 stopped-reports-openly at d [] rest = by-length (nat_lt 4096 (length rest))
   where
-    by-length : (b : Bool) → (if b then reported_at at (line_step at (Stopped, d) Wrong) else []) ≡ []
-    by-length true = ap (reported_at at) (stays-stopped at d Wrong)
+    by-length : (b : Bool) → (if b then reported_at at (line_step at (Stopped, d) Invalid) else []) ≡ []
+    by-length true = ap (reported_at at) (stays-stopped at d Invalid)
     by-length false = refl
 stopped-reports-openly at d (line ∷ lines) rest = rw (stays-stopped at d (read_line line)) (stopped-reports-openly (at + 1) d lines rest)
 
@@ -114,7 +114,7 @@ abbrev pub Reads : ParserState → Type 0
 Reads Stopped = ⊥
 Reads other = Unit {0}
 
-pub wrong-faults : (at : ℕ) (parsing : Parsing) → Reads parsing.0 → line_step at parsing Wrong ≡ (Refuses NotAllowed, parsing.1)
+pub wrong-faults : (at : ℕ) (parsing : Parsing) → Reads parsing.0 → line_step at parsing Invalid ≡ (Refuses NotAllowed, parsing.1)
 unfolding line_step
 wrong-faults at (Stopped, d) r = absurd r
 wrong-faults at parsing r = refl
@@ -357,14 +357,14 @@ keeps-same old s new bs (taken, same) held ended = grind arith
 -- If the line completes a document, it is an `end` line.
 abbrev IsByEnd : Line → LineStep → Type 0
 IsByEnd line (Continues state, d) = Unit {0}
-IsByEnd line (Completes, d) = line ≡ Closes
+IsByEnd line (Completes, d) = line ≡ EndLine
 IsByEnd line (Refuses fault, d) = Unit {0}
 
 line_step-end : (at : ℕ) (parsing : Parsing) (line : Line) → IsByEnd line (line_step at parsing line)
 unfolding line_step
 line_step-end at parsing line = grind arith
 
-completes-end : (at : ℕ) (parsing : Parsing) (line : Line) (effect : LineEffect) (d : Document) → effect ≡ Completes → (effect, d) ≡ line_step at parsing line → line ≡ Closes
+completes-end : (at : ℕ) (parsing : Parsing) (line : Line) (effect : LineEffect) (d : Document) → effect ≡ Completes → (effect, d) ≡ line_step at parsing line → line ≡ EndLine
 completes-end at parsing line effect d is e = subst (IsByEnd line) (sym e ∙ ap (λ (x : LineEffect). (x, d)) is) (line_step-end at parsing line)
 
 -- ---- The lines that are taken, line by line.

@@ -11,7 +11,7 @@ use Rattle.bufr_fill.specs.Prelude.{number_token, text_form, missing_form, refer
 use Rattle.bufr_fill.specs.declared.fault.ItemFault.TheVariants as wrong
 use Rattle.bufr_text.specs.declared.document.LineGroup.TheVariants as group
 use Rattle.bufr_text.specs.declared.fault.DocumentFault.TheVariants as fault
-use Rattle.bufr_text.specs.Prelude.{leasts, mosts, in_range, without_prefix, hex_read, hex_text, fxy_read, descriptors_read, descriptors_text, quoted_read, is_hashed, Line, Header, Local1, Section2, Descriptors, Begins, ItemLine, Wrong, keys, value_read, worded, line_of, read_line, ParseResult, Refused, NotAllowed, SubsetCount, HeaderRange, line_step, parse_lines, lines_of, documents_of, Document, blank, Heading, BeforeSubsets, open_documents_of, split_of, parse_open_lines, text_of_lines, DocumentFault, encoding_of, encoding_in, message_of}
+use Rattle.bufr_text.specs.Prelude.{leasts, mosts, in_range, without_prefix, hex_read, hex_text, fxy_read, descriptors_read, descriptors_text, quoted_read, is_hashed, Line, Header, Local1, Section2, Descriptors, SubsetLine, ItemLine, Invalid, keys, value_read, worded, line_of, read_line, ParseResult, Refused, NotAllowed, SubsetCount, HeaderRange, line_step, parse_lines, lines_of, documents_of, Document, blank, Heading, BeforeSubsets, open_documents_of, split_of, parse_open_lines, text_of_lines, DocumentFault, encoding_of, encoding_in, message_of}
 use Rattle.bufr_text.proofs.EncodingExamples.{listed, table, document, number}
 
 -- ---- The meaning of one line, with octets on both sides of each range.
@@ -24,18 +24,18 @@ said lines = map read_line lines
 -- rule: reading-hexadecimal
 hexadecimal_digits :
     (said (map (λ c. codes "local1 0" ++ c ∷ []) (47 ∷ 48 ∷ 57 ∷ 58 ∷ 64 ∷ 65 ∷ 70 ∷ 71 ∷ 96 ∷ 97 ∷ 102 ∷ 103 ∷ []))
-    ≡ Wrong ∷ Local1 (0 ∷ []) ∷ Local1 (9 ∷ []) ∷ Wrong ∷ Wrong ∷ Local1 (10 ∷ []) ∷ Local1 (15 ∷ []) ∷ Wrong ∷ Wrong ∷ Local1 (10 ∷ []) ∷ Local1 (15 ∷ []) ∷ Wrong ∷ [])
+    ≡ Invalid ∷ Local1 (0 ∷ []) ∷ Local1 (9 ∷ []) ∷ Invalid ∷ Invalid ∷ Local1 (10 ∷ []) ∷ Local1 (15 ∷ []) ∷ Invalid ∷ Invalid ∷ Local1 (10 ∷ []) ∷ Local1 (15 ∷ []) ∷ Invalid ∷ [])
     × (said (map (λ c. codes "section2 " ++ c ∷ 48 ∷ []) (47 ∷ 48 ∷ 57 ∷ 58 ∷ 64 ∷ 65 ∷ 70 ∷ 71 ∷ 96 ∷ 97 ∷ 102 ∷ 103 ∷ []))
-    ≡ Wrong ∷ Section2 (0 ∷ []) ∷ Section2 (144 ∷ []) ∷ Wrong ∷ Wrong ∷ Section2 (160 ∷ []) ∷ Section2 (240 ∷ []) ∷ Wrong ∷ Wrong ∷ Section2 (160 ∷ []) ∷ Section2 (240 ∷ []) ∷ Wrong ∷ [])
+    ≡ Invalid ∷ Section2 (0 ∷ []) ∷ Section2 (144 ∷ []) ∷ Invalid ∷ Invalid ∷ Section2 (160 ∷ []) ∷ Section2 (240 ∷ []) ∷ Invalid ∷ Invalid ∷ Section2 (160 ∷ []) ∷ Section2 (240 ∷ []) ∷ Invalid ∷ [])
 unfolding said
 hexadecimal_digits = (refl, refl)
 
 -- A line of octets has 1 to 32 of them, and a line of descriptors 1 to 8.
 -- rule: reading-long-lists, reading-hexadecimal
 most_of_a_line :
-    (said (map (λ n. codes "local1 " ++ hex_text (replicate n 1)) (0 ∷ 1 ∷ 32 ∷ 33 ∷ [])) ≡ Wrong ∷ Local1 (1 ∷ []) ∷ Local1 (replicate 32 1) ∷ Wrong ∷ [])
-    × (said (map (λ n. codes "section2 " ++ hex_text (replicate n 1)) (0 ∷ 1 ∷ 32 ∷ 33 ∷ [])) ≡ Wrong ∷ Section2 (1 ∷ []) ∷ Section2 (replicate 32 1) ∷ Wrong ∷ [])
-    × (said (map (λ n. codes "descriptors" ++ descriptors_text (replicate n 257)) (0 ∷ 1 ∷ 8 ∷ 9 ∷ [])) ≡ Wrong ∷ Descriptors (257 ∷ []) ∷ Descriptors (replicate 8 257) ∷ Wrong ∷ [])
+    (said (map (λ n. codes "local1 " ++ hex_text (replicate n 1)) (0 ∷ 1 ∷ 32 ∷ 33 ∷ [])) ≡ Invalid ∷ Local1 (1 ∷ []) ∷ Local1 (replicate 32 1) ∷ Invalid ∷ [])
+    × (said (map (λ n. codes "section2 " ++ hex_text (replicate n 1)) (0 ∷ 1 ∷ 32 ∷ 33 ∷ [])) ≡ Invalid ∷ Section2 (1 ∷ []) ∷ Section2 (replicate 32 1) ∷ Invalid ∷ [])
+    × (said (map (λ n. codes "descriptors" ++ descriptors_text (replicate n 257)) (0 ∷ 1 ∷ 8 ∷ 9 ∷ [])) ≡ Invalid ∷ Descriptors (257 ∷ []) ∷ Descriptors (replicate 8 257) ∷ Invalid ∷ [])
 unfolding said hex_text descriptors_text
 most_of_a_line = (refl, refl, refl)
 
@@ -43,8 +43,8 @@ most_of_a_line = (refl, refl, refl)
 -- backslash.
 -- rule: reading-quoted
 octets_of_a_text : said (map (λ c. codes "205001 " ++ 34 ∷ c ∷ 34 ∷ []) (31 ∷ 32 ∷ 33 ∷ 34 ∷ 35 ∷ 91 ∷ 92 ∷ 93 ∷ 126 ∷ 127 ∷ 255 ∷ []))
-    ≡ Wrong ∷ ItemLine 0x8501 (text_form (32 ∷ [])) ∷ ItemLine 0x8501 (text_form (33 ∷ [])) ∷ Wrong ∷ ItemLine 0x8501 (text_form (35 ∷ [])) ∷ ItemLine 0x8501 (text_form (91 ∷ []))
-    ∷ Wrong ∷ ItemLine 0x8501 (text_form (93 ∷ [])) ∷ ItemLine 0x8501 (text_form (126 ∷ [])) ∷ Wrong ∷ Wrong ∷ []
+    ≡ Invalid ∷ ItemLine 0x8501 (text_form (32 ∷ [])) ∷ ItemLine 0x8501 (text_form (33 ∷ [])) ∷ Invalid ∷ ItemLine 0x8501 (text_form (35 ∷ [])) ∷ ItemLine 0x8501 (text_form (91 ∷ []))
+    ∷ Invalid ∷ ItemLine 0x8501 (text_form (93 ∷ [])) ∷ ItemLine 0x8501 (text_form (126 ∷ [])) ∷ Invalid ∷ Invalid ∷ []
 unfolding said
 octets_of_a_text = refl
 
@@ -53,10 +53,11 @@ octets_of_a_text = refl
 -- rule: reading-quoted
 escapes_of_a_text :
     (said (map (λ c. codes "205001 " ++ 34 ∷ 92 ∷ codes "x0" ++ c ∷ 34 ∷ []) (47 ∷ 48 ∷ 57 ∷ 58 ∷ 64 ∷ 65 ∷ 70 ∷ 71 ∷ 97 ∷ 102 ∷ []))
-    ≡ Wrong ∷ ItemLine 0x8501 (text_form (0 ∷ [])) ∷ ItemLine 0x8501 (text_form (9 ∷ [])) ∷ Wrong ∷ Wrong ∷ ItemLine 0x8501 (text_form (10 ∷ [])) ∷ ItemLine 0x8501 (text_form (15 ∷ [])) ∷ Wrong
-    ∷ Wrong ∷ Wrong ∷ [])
+    ≡ Invalid ∷ ItemLine 0x8501 (text_form (0 ∷ [])) ∷ ItemLine 0x8501 (text_form (9 ∷ [])) ∷ Invalid ∷ Invalid ∷ ItemLine 0x8501 (text_form (10 ∷ [])) ∷ ItemLine 0x8501 (text_form (15 ∷ []))
+    ∷ Invalid
+    ∷ Invalid ∷ Invalid ∷ [])
     × (said (map (λ octets. codes "205001 " ++ 34 ∷ 92 ∷ octets ++ 34 ∷ []) ((34 ∷ []) ∷ (92 ∷ []) ∷ codes "X41" ∷ codes "x4" ∷ codes "x" ∷ codes "y41" ∷ []))
-    ≡ ItemLine 0x8501 (text_form (34 ∷ [])) ∷ ItemLine 0x8501 (text_form (92 ∷ [])) ∷ Wrong ∷ Wrong ∷ Wrong ∷ Wrong ∷ [])
+    ≡ ItemLine 0x8501 (text_form (34 ∷ [])) ∷ ItemLine 0x8501 (text_form (92 ∷ [])) ∷ Invalid ∷ Invalid ∷ Invalid ∷ Invalid ∷ [])
 unfolding said
 escapes_of_a_text = (refl, refl)
 
@@ -64,10 +65,11 @@ escapes_of_a_text = (refl, refl)
 -- rule: reading-number
 octets_of_a_number :
     (said (map (λ c. codes "001001 " ++ c ∷ []) (44 ∷ 45 ∷ 46 ∷ 47 ∷ 48 ∷ 57 ∷ 58 ∷ []))
-    ≡ Wrong ∷ ItemLine 257 (number_token (45 ∷ [])) ∷ ItemLine 257 (number_token (46 ∷ [])) ∷ Wrong ∷ ItemLine 257 (number_token (48 ∷ [])) ∷ ItemLine 257 (number_token (57 ∷ [])) ∷ Wrong ∷ [])
+    ≡ Invalid ∷ ItemLine 257 (number_token (45 ∷ [])) ∷ ItemLine 257 (number_token (46 ∷ [])) ∷ Invalid ∷ ItemLine 257 (number_token (48 ∷ [])) ∷ ItemLine 257 (number_token (57 ∷ [])) ∷ Invalid ∷ [])
     × (said (map (λ c. codes "001001 1" ++ c ∷ []) (44 ∷ 45 ∷ 46 ∷ 47 ∷ 48 ∷ 57 ∷ 58 ∷ []))
-    ≡ Wrong ∷ ItemLine 257 (number_token (49 ∷ 45 ∷ [])) ∷ ItemLine 257 (number_token (49 ∷ 46 ∷ [])) ∷ Wrong ∷ ItemLine 257 (number_token (49 ∷ 48 ∷ [])) ∷ ItemLine 257 (number_token (49 ∷ 57 ∷ []))
-    ∷ Wrong ∷ [])
+    ≡ Invalid ∷ ItemLine 257 (number_token (49 ∷ 45 ∷ [])) ∷ ItemLine 257 (number_token (49 ∷ 46 ∷ [])) ∷ Invalid ∷ ItemLine 257 (number_token (49 ∷ 48 ∷ []))
+    ∷ ItemLine 257 (number_token (49 ∷ 57 ∷ []))
+    ∷ Invalid ∷ [])
 unfolding said
 octets_of_a_number = (refl, refl)
 
@@ -75,7 +77,7 @@ octets_of_a_number = (refl, refl)
 -- rule: reading-reference, reading-after-a-value
 lines_of_references : said (codes "R 012101 -400" ∷ codes "R 012101 -400  # x" ∷ codes "R 012101 MISSING" ∷ (codes "R 012101 " ++ 34 ∷ 65 ∷ 34 ∷ []) ∷ codes "R 012101 -400 x" ∷ codes "R  012101 -400"
     ∷ codes "R 012101  -400" ∷ codes "R 01210 1" ∷ codes "R" ∷ codes "R 012101 " ∷ [])
-    ≡ ItemLine 3173 (reference_token (codes "-400")) ∷ ItemLine 3173 (reference_token (codes "-400")) ∷ replicate 8 Wrong
+    ≡ ItemLine 3173 (reference_token (codes "-400")) ∷ ItemLine 3173 (reference_token (codes "-400")) ∷ replicate 8 Invalid
 unfolding said
 lines_of_references = refl
 
@@ -85,8 +87,8 @@ lines_of_references = refl
 after_a_value :
     (said (codes "001001 MISSING # x" ∷ codes "001001 MISSING#" ∷ codes "001001 MISSING " ∷ codes "001001 MISSINGS" ∷ codes "001001 MISSIN" ∷ codes "001001 missing"
     ∷ (codes "205001 " ++ 34 ∷ 65 ∷ 34 ∷ codes " #") ∷ (codes "205001 " ++ 34 ∷ 65 ∷ 34 ∷ codes "#") ∷ [])
-    ≡ ItemLine 257 missing_form ∷ Wrong ∷ Wrong ∷ Wrong ∷ Wrong ∷ Wrong ∷ ItemLine 0x8501 (text_form (65 ∷ [])) ∷ Wrong ∷ [])
-    × (said (codes "R 012101 1 #" ∷ codes "R 012101 1#" ∷ codes "R 012101 1 " ∷ []) ≡ ItemLine 3173 (reference_token (codes "1")) ∷ Wrong ∷ Wrong ∷ [])
+    ≡ ItemLine 257 missing_form ∷ Invalid ∷ Invalid ∷ Invalid ∷ Invalid ∷ Invalid ∷ ItemLine 0x8501 (text_form (65 ∷ [])) ∷ Invalid ∷ [])
+    × (said (codes "R 012101 1 #" ∷ codes "R 012101 1#" ∷ codes "R 012101 1 " ∷ []) ≡ ItemLine 3173 (reference_token (codes "1")) ∷ Invalid ∷ Invalid ∷ [])
 unfolding said
 after_a_value = (refl, refl)
 
@@ -94,10 +96,10 @@ after_a_value = (refl, refl)
 -- space. All numbers above 65,535 are read as 65,536.
 -- rule: reading-header-number
 numbers_of_the_header :
-    (said (map (λ c. codes "year " ++ c ∷ []) (47 ∷ 48 ∷ 57 ∷ 58 ∷ [])) ≡ Wrong ∷ Header 10 0 ∷ Header 10 9 ∷ Wrong ∷ [])
-    × (said (codes "year" ∷ codes "year " ∷ codes "year  1" ∷ codes "year 1 " ∷ codes "year -1" ∷ codes "year 1.0" ∷ codes "Year 1" ∷ codes "year 1 # x" ∷ []) ≡ replicate 8 Wrong)
+    (said (map (λ c. codes "year " ++ c ∷ []) (47 ∷ 48 ∷ 57 ∷ 58 ∷ [])) ≡ Invalid ∷ Header 10 0 ∷ Header 10 9 ∷ Invalid ∷ [])
+    × (said (codes "year" ∷ codes "year " ∷ codes "year  1" ∷ codes "year 1 " ∷ codes "year -1" ∷ codes "year 1.0" ∷ codes "Year 1" ∷ codes "year 1 # x" ∷ []) ≡ replicate 8 Invalid)
     × (said (codes "year 0002024" ∷ codes "year 65535" ∷ codes "year 65536" ∷ codes "year 65537" ∷ []) ≡ Header 10 2024 ∷ Header 10 65535 ∷ Header 10 65536 ∷ Header 10 65536 ∷ [])
-    × (said (map (λ c. codes "subset " ++ c ∷ []) (47 ∷ 48 ∷ 57 ∷ 58 ∷ [])) ≡ Wrong ∷ Begins 0 ∷ Begins 9 ∷ Wrong ∷ [])
+    × (said (map (λ c. codes "subset " ++ c ∷ []) (47 ∷ 48 ∷ 57 ∷ 58 ∷ [])) ≡ Invalid ∷ SubsetLine 0 ∷ SubsetLine 9 ∷ Invalid ∷ [])
 unfolding said
 numbers_of_the_header = (refl, refl, refl, refl)
 

@@ -3,7 +3,7 @@
 use Rattle.std.specs.Prelude.{ℕ, List, [], slice_index, ◌+◌, ◌==◌, nat_le, nat_lt, Bool, true, false, not, ◌&&◌, if◌then◌else◌, ◌∷◌, ◌++◌, length, ◌≡◌, ◌^◌, Option, Some, None}
 use Rattle.bufr_fill.specs.Prelude.{DraftEntry, draft, Holds, Ends}
 use Rattle.bufr_frame.specs.Prelude.{head_by}
-use Rattle.bufr_text.specs.Line.{Line, Passed, Opens, Header, Local1, Section2, Descriptors, Begins, ItemLine, Closes, Wrong, leasts, mosts, line_of}
+use Rattle.bufr_text.specs.Line.{Line, Skipped, MessageLine, Header, Local1, Section2, Descriptors, SubsetLine, ItemLine, EndLine, Invalid, leasts, mosts, line_of}
 use Rattle.bufr_frame.specs.declared.section1.Head.{Head}
 use Rattle.bufr_text.specs.declared.fault.TextLineFault.{TextLineFault}
 use Rattle.bufr_text.specs.declared.fault.TextLineFault.TheVariants.{NotAllowed, SubsetCount, HeaderRange}
@@ -122,8 +122,8 @@ before_subsets d (Descriptors words) _ = (
   Continues (BeforeSubsets group.Descriptors),
   record d { descriptors = d.descriptors ++ words },
 )
-before_subsets d (Begins subset) _ = (beginning 0 d subset, d)
-before_subsets d Closes _ = (closing 0 d, d)
+before_subsets d (SubsetLine subset) _ = (beginning 0 d subset, d)
+before_subsets d EndLine _ = (closing 0 d, d)
 before_subsets d _ _ = (Refuses NotAllowed, d)
 
 -- the effect of a line within a subset; `at` is the line number
@@ -131,16 +131,16 @@ before_subsets d _ _ = (Refuses NotAllowed, d)
 abbrev pub in_subset : (at subset : ℕ) → Document → Line → LineStep
 in_subset at subset d (ItemLine fxy form) =
     (Continues (Filling subset), with_entry d (Holds (draft at fxy form)))
-in_subset at subset d (Begins next) = (beginning subset d next, with_entry d (Ends at))
-in_subset at subset d Closes = (closing subset d, with_entry d (Ends at))
+in_subset at subset d (SubsetLine next) = (beginning subset d next, with_entry d (Ends at))
+in_subset at subset d EndLine = (closing subset d, with_entry d (Ends at))
 in_subset at subset d line = (Refuses NotAllowed, d)
 
 -- The effect of a line on the document; `at` is the line number. Empty lines, comments, and lines
 -- after an invalid line have no effect. Between documents, only `message` lines are allowed.
 -- rule: reading-empty-lines, reading-between-documents, fault-50
 unfoldable pub line_step : (at : ℕ) → Parsing → Line → LineStep
-line_step at (state, d) Passed = (Continues state, d)
-line_step at (Between, d) Opens = (Continues Heading, blank at)
+line_step at (state, d) Skipped = (Continues state, d)
+line_step at (Between, d) MessageLine = (Continues Heading, blank at)
 line_step at (Between, d) line = (Refuses NotAllowed, d)
 line_step at (Heading, d) line = heading d line
 line_step at (BeforeSubsets previous, d) line = before_subsets d line previous
@@ -153,18 +153,18 @@ adds (BeforeSubsets part) (Local1 octets) = true
 adds (BeforeSubsets part) (Section2 octets) = true
 adds (BeforeSubsets part) (Descriptors words) = true
 adds (Filling subset) (ItemLine fxy form) = true
-adds (Filling subset) (Begins next) = true
-adds (Filling subset) Closes = true
+adds (Filling subset) (SubsetLine next) = true
+adds (Filling subset) EndLine = true
 adds state line = false
 
 -- the maximum number of octets in a line, not counting the line feed
 abbrev pub max_line : ℕ
 max_line = 4096
 
--- the parsed line, or `Wrong` if the line has more than 4,096 octets
+-- the parsed line, or `Invalid` if the line has more than 4,096 octets
 -- rule: reading-longest-line
 abbrev pub read_line : List ℕ → Line
-read_line line = if nat_lt max_line (length line) then Wrong else line_of line
+read_line line = if nat_lt max_line (length line) then Invalid else line_of line
 
 abbrev pub parsing_after : LineStep → Parsing
 parsing_after (Continues state, d) = (state, d)
@@ -225,7 +225,7 @@ documents_of text = parse_lines 1 between (lines_of text)
 unfoldable pub parse_open_lines : (at : ℕ) → Parsing → List (List ℕ) → (rest : List ℕ)
     → List ParseResult
 parse_open_lines at p [] rest =
-    if nat_lt max_line (length rest) then reported_at at (line_step at p Wrong) else []
+    if nat_lt max_line (length rest) then reported_at at (line_step at p Invalid) else []
 parse_open_lines at p (line ∷ more) rest =
     let here = line_step at p (read_line line) in reported_at at here
     ++ parse_open_lines (at + 1) (parsing_after here) more rest

@@ -158,26 +158,25 @@ is_hashed (c ∷ more) = if c == 32 then is_hashed more else (c == 35)
 
 -- whether the text after a value is empty or consists of one or more spaces and a comment
 -- rule: reading-after-a-value
-abbrev pub is_passed_after : List ℕ → Bool
-is_passed_after [] = true
-is_passed_after (c ∷ more) = (c == 32) && is_hashed more
+abbrev pub is_end_or_comment : List ℕ → Bool
+is_end_or_comment [] = true
+is_end_or_comment (c ∷ more) = (c == 32) && is_hashed more
 
 -- ---- Lines, parsed without regard to their position.
 
--- A parsed line of a dump. `Passed` is an empty line or a comment. `Opens` is a `message` line,
--- `Begins` is a `subset` line, and `Closes` is an `end` line. `Header` contains the index of the
--- line's key in `keys`. `Wrong` is any invalid line.
+-- A parsed line of a dump. `Skipped` is an empty line or a comment, and `Invalid` is any invalid
+-- line. `Header` contains the index of the line's key in `keys`.
 pub data Line : Type 0 where
-  Passed : Line
-  Opens : Line
+  Skipped : Line
+  MessageLine : Line
   Header : (key value : ℕ) → Line
   Local1 : (octets : List ℕ) → Line
   Section2 : (octets : List ℕ) → Line
   Descriptors : (words : List ℕ) → Line
-  Begins : (subset : ℕ) → Line
+  SubsetLine : (subset : ℕ) → Line
   ItemLine : (fxy : ℕ) (form : DraftValue) → Line
-  Closes : Line
-  Wrong : Line
+  EndLine : Line
+  Invalid : Line
 
 -- the keys of the header lines, in order; `optional` is 1 if section 2 is present
 -- rule: text-header
@@ -221,7 +220,7 @@ value_read (c ∷ more) =
 
 -- an item line, or `None` if anything other than a comment follows the value
 abbrev pub item_if_comment : (fxy : ℕ) → DraftValue × List ℕ → Option Line
-item_if_comment fxy (form, rest) = only_if (is_passed_after rest) (ItemLine fxy form)
+item_if_comment fxy (form, rest) = only_if (is_end_or_comment rest) (ItemLine fxy form)
 
 -- the item line in the text, or `None`; a descriptor, a space and a value must come first, and only
 -- a comment may follow; `read` parses the value
@@ -237,7 +236,7 @@ item_line read text = do
 -- rule: reading-reference
 unfoldable pub worded : (word rest : List ℕ) → Option Line
 worded word rest =
-    if bytes_eq word (codes "message") then only_if (length rest == 0) Opens
+    if bytes_eq word (codes "message") then only_if (length rest == 0) MessageLine
     else if bytes_eq word (codes "local1")
     then without_space rest >>= hex_read >>= with_one_to 32 Local1
     else if bytes_eq word (codes "section2")
@@ -245,26 +244,26 @@ worded word rest =
     else if bytes_eq word (codes "descriptors")
     then descriptors_read rest >>= with_one_to 8 Descriptors
     else if bytes_eq word (codes "subset")
-    then option_map Begins (without_space rest >>= number_read)
+    then option_map SubsetLine (without_space rest >>= number_read)
     else if bytes_eq word (codes "R")
     then without_space rest >>= item_line (number_value reference_token)
-    else if bytes_eq word (codes "end") then only_if (length rest == 0) Closes
+    else if bytes_eq word (codes "end") then only_if (length rest == 0) EndLine
     else do
       key ← position_from (bytes_eq word) 0 keys
       value ← without_space rest >>= number_read
       Some (Header key value)
 
--- The line that the octets represent, or `Wrong` if the line is not valid. A line that begins with
+-- The line that the octets represent, or `Invalid` if the line is not valid. A line that begins with
 -- `#` is a comment, and a line that begins with a digit is an item line. Any other line begins with
 -- a word, which ends before the first space.
 -- rule: reading-empty-lines, reading-carriage-return, reading-blanks
 unfoldable pub line_of : List ℕ → Line
-line_of [] = Passed
+line_of [] = Skipped
 line_of (c ∷ more) =
     let n = position_or_len (λ octet. octet == 32) (c ∷ more) in
-    if c == 35 then Passed
+    if c == 35 then Skipped
     else unwrap_or (if is_ascii_digit c then item_line value_read (c ∷ more)
-    else worded (take n (c ∷ more)) (drop n (c ∷ more))) Wrong
+    else worded (take n (c ∷ more)) (drop n (c ∷ more))) Invalid
 
 -- ---- The keys of the header, as the code stores them.
 

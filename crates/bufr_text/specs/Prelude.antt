@@ -1,5 +1,5 @@
 -- Re-exports the names that proofs and other crates use, and declares nothing.
-pub use Rattle.bufr_text.specs.Line.{runs_of, escaped, hex_pair, is_unescaped, without_space, is_number_octet, is_passed_after, onto_read, either_value, pair_value, QuotedToken, Closed, Octet, Nothing, upper_value, escape_of, quoting_of, quoted_on, number_read, hex_digit, Line, Passed, Opens, Header, Local1, Section2, Descriptors, Begins, ItemLine, Closes, lead_of, Wrong, Describes, Unhexes, Unquotes, number_value, with_one_to, item_line, item_if_comment, short_form, is_named}
+pub use Rattle.bufr_text.specs.Line.{runs_of, escaped, hex_pair, is_unescaped, without_space, is_number_octet, is_end_or_comment, onto_read, either_value, pair_value, QuotedToken, Closed, Octet, Nothing, upper_value, escape_of, quoting_of, quoted_on, number_read, hex_digit, Line, Skipped, MessageLine, Header, Local1, Section2, Descriptors, SubsetLine, ItemLine, EndLine, lead_of, Invalid, Describes, Unhexes, Unquotes, number_value, with_one_to, item_line, item_if_comment, short_form, is_named}
 unfoldable pub use Rattle.bufr_text.specs.Line.{runs_after, descriptors_text, hex_text, quoted, without_prefix, hex_read, fxy_read, descriptors_read, quoted_read, is_hashed, keys, value_read, worded, line_of}
 pub use Rattle.bufr_text.specs.Dump.{zero_padded, counts_texts, ls_line, source_texts, time_texts, local1_line, section2_line, descriptors_line, subset_line, item_text, dump_value_of, IsOctet, IsDescriptorWord, IsItem, header_of, head_lines, dump_lines, dump_text_of, document_of, lines_before, IsDumpable, items_shown, text_of_lines, dump_items, IsValue, IsComment, comment_text, form_text}
 unfoldable pub use Rattle.bufr_text.specs.Dump.{header_lines, subset_lines, item_entries, subset_entries}
@@ -9,7 +9,7 @@ pub use Rattle.bufr_text.specs.Alike.{item_lines, lines_between, PushesAlike, Is
 unfoldable pub use Rattle.bufr_text.specs.Line.{leasts, mosts}
 pub use Rattle.bufr_text.specs.Documents.{max_line, most_entries, Document, DocumentHeader, header_in, Parsing, between, LineStep, in_range, heading, beginning, closing, with_entry, read_line, parsing_after, reported_at, reported_at_end, documents_of, blank, Complete, ParseResult, Refused, open_documents_of, IsHeaded, section2_in, Split, onto_split, before_subsets, in_subset, are_in_range, adds}
 unfoldable pub use Rattle.bufr_text.specs.Documents.{line_step, parse_lines, lines_of, parse_open_lines, split_of}
-pub use Rattle.bufr_text.specs.Spelling.{NumberedLine, numbered_line, onto_heard, header_says, Element, SubsetHeard, subsets_heard, first_at, entries_heard, IsDocument, AreReported, IsProperlyReported, AreProper, IsProper, AreEnded, header_as, normal_head, normal_line, draft_answer, line_and, normal_items, normal_subsets, normal, IsWhole}
+pub use Rattle.bufr_text.specs.Spelling.{NumberedLine, numbered_line, prepend_line, parsed_header, NumberedSubset, lines_of_subsets, first_at, entries_of_subsets, IsDocument, AreReported, IsProperlyReported, AreProper, IsProper, AreEnded, header_as, normal_head, normal_line, draft_answer, line_and, normal_items, normal_subsets, normal, IsWhole}
 unfoldable pub use Rattle.bufr_text.specs.Spelling.{numbered_lines}
 pub use Rattle.bufr_text.specs.Taking.{IsBare, IsParsing, IsLineStep, parsing_of, ParsesHeldLines, ReadsMoreText, TakesHeldLines, FillsBuffer, text_input, stopped, position_with, TakesLines, IsTaking, WantsAt, ends_by_feed, IsProgress, IsReader, WantsHere, HasLineGroups, EntryHasOctets, HasSubsets, meaning}
 pub use Rattle.bufr_bits.specs.Prelude.{◌>>=◌, map_err}

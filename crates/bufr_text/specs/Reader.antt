@@ -9,7 +9,7 @@ use Rattle.bufr_text.specs.declared.fault.TextLineFault.{TextLineFault}
 use Rattle.bufr_text.specs.declared.fault.TextLineFault.TheVariants.{NotAllowed, SubsetCount, HeaderRange}
 use Rattle.bufr_text.specs.Documents.{max_line, Parsing, between, ParseResult, read_line, parse_lines, parse_open_lines, lines_of, split_of, Document, Complete, Refused, adds}
 use Rattle.bufr_text.specs.Dump.{text_of_lines}
-use Rattle.bufr_text.specs.Line.{Closes}
+use Rattle.bufr_text.specs.Line.{EndLine}
 use Rattle.std.specs.Io.KnownBytes.{Consumes, IsAtEnd}
 use Rattle.bufr_frame.specs.declared.fault.RunFault.TheVariants.{Read, Write, InputTooLong, Memory}
 
@@ -72,7 +72,7 @@ pub record TakesEndLine (at : ℕ) (held : List ℕ) (at' : ℕ) (rest : List �
   pub last : List ℕ
   pub prefix : TakesWholeLines at held line (last ++ 10 ∷ rest)
   pub single : has_no_feed last ≡ true
-  pub closes : read_line last ≡ Closes
+  pub closes : read_line last ≡ EndLine
   pub counted : at' ≡ line + 1
 
 -- the model of a document reader

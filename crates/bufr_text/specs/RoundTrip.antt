@@ -11,7 +11,7 @@ use Rattle.bufr_text.specs.Documents.{header_in, Document, section2_in}
 use Rattle.bufr_text.specs.Dump.{dump_items, IsOctet}
 use Rattle.bufr_text.specs.Encoding.{compressed_by, encoding_of, octets_of_bits, compressed_as}
 use Rattle.std.specs.Global.{Global}
-use Rattle.bufr_fill.specs.Prelude.{IsUnlike, AreSaid, HasReading, IsMinusZero, packing, Subset, subsets_of}
+use Rattle.bufr_fill.specs.Prelude.{IsUnlike, AreSpecified, HasReading, IsMinusZero, packing, Subset, subsets_of}
 use Rattle.bufr_text.specs.declared.fault.DocumentFault.{DocumentFault}
 use Rattle.bufr_text.specs.declared.fault.DocumentFault.TheVariants as document
 use Rattle.bufr_bits.specs.Prelude.{bits_of}
@@ -164,7 +164,7 @@ pub record IsCanonical (m : List ℕ) (s : Sections) (values : Values) (used : �
 
 -- The given values are those of the items in a document's subsets.
 abbrev pub AreValuesOf : Values → List Subset → Type 0
-AreValuesOf values drafts = AreSaid (each_subset (length drafts) values) drafts
+AreValuesOf values drafts = AreSpecified (each_subset (length drafts) values) drafts
 
 -- The octets form a single message, which is accepted and has the given form. The message has the
 -- content of the document and the values that the document's items specify.

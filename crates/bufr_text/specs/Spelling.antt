@@ -2,11 +2,11 @@
 -- is formatted like a dump (our choice).
 use Rattle.std.specs.Prelude.{slice_index, ◌≡◌, false, List, [], ◌∷◌, length, ◌≤◌, ◌⊎◌, ℕ, ◌+◌, ◌++◌, map, if◌then◌else◌, take, drop, codes, None, Result, Ok, Err}
 use Rattle.std.specs.List.{AllByRecursion, concat}
-use Rattle.bufr_fill.specs.Prelude.{AllHaveOctets, DraftEntry, Holds, Ends, subsets_of, DraftValue, draft, Draft, Subset, content_of, normal_form}
+use Rattle.bufr_fill.specs.Prelude.{AllHaveOctets, DraftEntry, Holds, Ends, subsets_of, Draft, Subset, content_of, normal_form}
 use Rattle.bufr_fill.specs.declared.fault.ItemFault.{ItemFault}
 use Rattle.bufr_text.specs.Documents.{header_in, Document, IsHeaded, ParseResult, Complete, Refused, most_entries, read_line}
 use Rattle.bufr_text.specs.Dump.{IsOctet, IsDescriptorWord, header_lines, local1_line, section2_line, descriptors_line, form_text, comment_text, subset_line, text_of_lines}
-use Rattle.bufr_text.specs.Line.{Line, Passed, Opens, Header, Local1, Section2, Descriptors, Begins, ItemLine, Closes, runs_of}
+use Rattle.bufr_text.specs.Line.{Line, Skipped, MessageLine, Header, Local1, Section2, Descriptors, SubsetLine, ItemLine, EndLine, runs_of}
 use Rattle.bufr_tables.specs.Prelude.{Row, entry_of, Tree}
 use Rattle.bufr_walk.specs.declared.spec.Taken.{Taken}
 use Rattle.bufr_walk.specs.Prelude.{FieldSpec, Content, answer_of, Course, Next, take_next, next_item}
@@ -54,57 +54,51 @@ AreProper results = AllByRecursion IsProperlyReported results
 -- a line that is neither empty nor a comment, with its line number
 pub record NumberedLine : Type 0 where
   pub at : ℕ
-  pub says : Line
+  pub line : Line
 
 abbrev pub numbered_line : ℕ → Line → NumberedLine
-numbered_line at says = record { at = at; says = says }
+numbered_line at line = record { at = at; line = line }
 
 -- the given lines with one more line prepended, unless that line is empty or a comment
-abbrev pub onto_heard : ℕ → Line → List NumberedLine → List NumberedLine
-onto_heard at Passed more = more
-onto_heard at line more = numbered_line at line ∷ more
+abbrev pub prepend_line : ℕ → Line → List NumberedLine → List NumberedLine
+prepend_line at Skipped more = more
+prepend_line at line more = numbered_line at line ∷ more
 
 unfoldable pub numbered_lines : (at : ℕ) → List (List ℕ) → List NumberedLine
 numbered_lines at [] = []
-numbered_lines at (line ∷ more) = onto_heard at (read_line line)
+numbered_lines at (line ∷ more) = prepend_line at (read_line line)
     (numbered_lines (at + 1) more)
 
 -- the parsed header lines for the given values of consecutive keys, starting with `key`
-abbrev pub header_says : (key : ℕ) → List ℕ → List Line
-header_says key [] = []
-header_says key (value ∷ more) = Header key value ∷ header_says (key + 1) more
-
--- an item of a subset, with its line number
-pub record Element : Type 0 where
-  pub at : ℕ
-  pub fxy : ℕ
-  pub form : DraftValue
+abbrev pub parsed_header : (key : ℕ) → List ℕ → List Line
+parsed_header key [] = []
+parsed_header key (value ∷ more) = Header key value ∷ parsed_header (key + 1) more
 
 -- the items of a subset, and the line number of its `subset` line
-pub record SubsetHeard : Type 0 where
+pub record NumberedSubset : Type 0 where
   pub at : ℕ
-  pub items : List Element
+  pub items : List Draft
 
 -- the `subset` line and the item lines of each given subset; the first subset has number `subset`
-abbrev pub subsets_heard : (subset : ℕ) → List SubsetHeard → List NumberedLine
-subsets_heard subset [] = []
-subsets_heard subset (part ∷ more) =
-    numbered_line part.at (Begins subset) ∷ map (λ i. numbered_line i.at (ItemLine i.fxy i.form))
-    part.items ++ subsets_heard (subset + 1) more
+abbrev pub lines_of_subsets : (subset : ℕ) → List NumberedSubset → List NumberedLine
+lines_of_subsets subset [] = []
+lines_of_subsets subset (part ∷ more) =
+    numbered_line part.at (SubsetLine subset)
+    ∷ map (λ (d : Draft). numbered_line d.line (ItemLine d.fxy d.form)) part.items
+    ++ lines_of_subsets (subset + 1) more
 
 -- the number of the line that ends the previous subset (the first line of the given subsets or, if
 -- there are none, line `end`)
-abbrev pub first_at : List SubsetHeard → (end : ℕ) → ℕ
+abbrev pub first_at : List NumberedSubset → (end : ℕ) → ℕ
 first_at [] end = end
 first_at (part ∷ more) end = part.at
 
 -- the entries of the given subsets; each subset ends at the first line of the next one, and the
 -- last subset ends at line `end`
-abbrev pub entries_heard : List SubsetHeard → (end : ℕ) → List DraftEntry
-entries_heard [] end = []
-entries_heard (part ∷ more) end =
-    map (λ i. Holds (draft i.at i.fxy i.form)) part.items ++ Ends (first_at more end)
-    ∷ entries_heard more end
+abbrev pub entries_of_subsets : List NumberedSubset → (end : ℕ) → List DraftEntry
+entries_of_subsets [] end = []
+entries_of_subsets (part ∷ more) end =
+    map Holds part.items ++ Ends (first_at more end) ∷ entries_of_subsets more end
 
 -- The given lines specify the content of document d. The lines are `message`, the header lines in
 -- order, the `local1`, `section2` and `descriptors` lines, the subsets with their items, and `end`.
@@ -114,19 +108,19 @@ pub record IsDocument (d : Document) (lines : List NumberedLine) : Type 0 where
   pub section2 : List (List ℕ)
   pub descriptors : List (List ℕ)
   pub written : List NumberedLine
-  pub subsets : List SubsetHeard
+  pub subsets : List NumberedSubset
   pub end : ℕ
-  pub are : lines ≡ numbered_line d.line Opens ∷ header
-      ++ (written ++ (subsets_heard 1 subsets ++ numbered_line end Closes ∷ []))
-  pub in_order : map (λ l. l.says) header ≡ header_says 0 d.header
-  pub parts : map (λ l. l.says) written
+  pub are : lines ≡ numbered_line d.line MessageLine ∷ header
+      ++ (written ++ (lines_of_subsets 1 subsets ++ numbered_line end EndLine ∷ []))
+  pub in_order : map (λ l. l.line) header ≡ parsed_header 0 d.header
+  pub parts : map (λ l. l.line) written
       ≡ map Local1 local1 ++ (map Section2 section2 ++ map Descriptors descriptors)
   pub local1_is : d.local1 ≡ concat local1
   pub section2_is : d.section2 ≡ concat section2
   pub descriptors_are : d.descriptors ≡ concat descriptors
   pub flagged : (section2 ≡ []) ⊎ (slice_index d.header 18 ≡ 1)
   pub counted : length subsets ≡ (header_in d).subsets
-  pub entries : d.entries ≡ entries_heard subsets end
+  pub entries : d.entries ≡ entries_of_subsets subsets end
 
 -- The results are the documents in the given lines, in order. If a line contains a fault, that
 -- fault is the last result.

@@ -22,8 +22,8 @@ use Rattle.bufr_text.specs.declared.fault.ReadFault.TheVariants.{Line, Run}
 use Rattle.bufr_text.specs.Line as line
 use Rattle.bufr_text.specs.declared.line.ParsedLine.TheVariants as said
 
-abbrev pub document_kept : Inside → Document
-document_kept d = record {
+abbrev pub document_model : Inside → Document
+document_model d = record {
   line = d.line;
   header = take d.known d.header;
   local1 = d.local1.items;
@@ -36,16 +36,16 @@ document_kept d = record {
 
 -- the model of a parsed line
 abbrev pub meaning : ParsedLine → line.Line
-meaning said.Passed = line.Passed
-meaning said.Opens = line.Opens
+meaning said.Skipped = line.Skipped
+meaning said.Message = line.MessageLine
 meaning (said.Header key value) = line.Header key value
 meaning (said.Local1 octets) = line.Local1 octets.now
 meaning (said.Section2 octets) = line.Section2 octets.now
 meaning (said.Descriptors words) = line.Descriptors words.now
-meaning (said.Begins subset) = line.Begins subset
+meaning (said.Subset subset) = line.SubsetLine subset
 meaning (said.Item fxy form) = line.ItemLine fxy (form_in form)
-meaning said.Closes = line.Closes
-meaning said.Wrong = line.Wrong
+meaning said.End = line.EndLine
+meaning said.Invalid = line.Invalid
 
 -- At most the header of the document has been read.
 pub record IsBare (d : Document) : Type 0 where

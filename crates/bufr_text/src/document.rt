@@ -37,9 +37,9 @@ impl Model for DocumentParts {
     ghost Value = { documents.Document };
 
     ghost use Rattle.std.specs.Prelude.{◌≡◌, ◌≤◌, length};
-    ghost use Rattle.bufr_text.specs.Taking.{document_kept};
+    ghost use Rattle.bufr_text.specs.Taking.{document_model};
 
-    ghost view = { document_kept };
+    ghost view = { document_model };
 
     ghost invariant = { λ d. (d.known ≤ 20) × (length d.header ≡ 20) };
 }
@@ -293,13 +293,13 @@ pub(crate) fn line_step(
         (λ effect. (effect, parts.new) ≡ line_step at (state, parts.old) (meaning said.entry)) }
     ensures wants { OnErr result (adds state (meaning said.entry) ≡ true) }
 {
-    if matches!(said, ParsedLine::Passed) {
+    if matches!(said, ParsedLine::Skipped) {
         return Ok(LineEffect::Continues(state));
     }
     let effect = match state {
         // The state is never `Stopped`, because no line is processed after an invalid line.
         ParserState::Between | ParserState::Stopped => match said {
-            ParsedLine::Opens => {
+            ParsedLine::Message => {
                 parts.line = at;
                 LineEffect::Continues(ParserState::Heading)
             }
@@ -339,8 +339,8 @@ pub(crate) fn line_step(
                 parts.descriptors.extend_from_slice(words)?;
                 LineEffect::Continues(ParserState::BeforeSubsets(LineGroup::Descriptors))
             }
-            ParsedLine::Begins(subset) => beginning(parts, 0, subset),
-            ParsedLine::Closes => closing(parts, 0),
+            ParsedLine::Subset(subset) => beginning(parts, 0, subset),
+            ParsedLine::End => closing(parts, 0),
             _ => LineEffect::Refuses(TextLineFault::NotAllowed),
         },
         ParserState::Filling(subset) => match said {
@@ -349,11 +349,11 @@ pub(crate) fn line_step(
                 parts.entries.push_item(DraftItem { line, fxy, form })?;
                 LineEffect::Continues(ParserState::Filling(subset))
             }
-            ParsedLine::Begins(next) => {
+            ParsedLine::Subset(next) => {
                 parts.entries.push_end(at)?;
                 beginning(parts, subset, next)
             }
-            ParsedLine::Closes => {
+            ParsedLine::End => {
                 parts.entries.push_end(at)?;
                 closing(parts, subset)
             }

@@ -347,7 +347,7 @@ pub fn write_dump_by<W: Sink>(
     {
         Ok(()) => {
             lines.push(b"end\n");
-            lines.hand_on();
+            lines.flush_buf();
             let outcome = lines.status();
             let _ = lines.into_sink();
             outcome

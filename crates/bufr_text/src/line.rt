@@ -3,7 +3,7 @@
 ghost use Rattle.std.specs.Prelude.{◌≡◌, ℕ, ◌<◌, ◌≤◌, ◌==◌, IfSome, List, length, take, drop, option_map, if◌then◌else◌, min, ◌+◌, ◌-◌, slice_index, Some, ◌*◌};
 ghost use Rattle.std.specs.List.{prefix_len};
 ghost use Rattle.std.specs.Option.{option_and_then, unwrap_or};
-ghost use Rattle.bufr_text.specs.Prelude.{max_line, read_line, without_space, hex_read, number_read, without_prefix, is_number_octet, is_hashed, is_passed_after, is_unescaped, upper_value, quoting_of, either_value, Line, with_one_to, worded, line_of, value_read, item_line, number_value, ItemLine, item_if_comment, short_form, Unquotes, Unhexes, meaning, Wrong};
+ghost use Rattle.bufr_text.specs.Prelude.{max_line, read_line, without_space, hex_read, number_read, without_prefix, is_number_octet, is_hashed, is_end_or_comment, is_unescaped, upper_value, quoting_of, either_value, Line, with_one_to, worded, line_of, value_read, item_line, number_value, ItemLine, item_if_comment, short_form, Unquotes, Unhexes, meaning, Invalid};
 ghost use Rattle.bufr_fill.specs.Prelude.{reference_token, form_in};
 
 use crate::header::{MOST_WORDS, describe, fxy_prefix, key_index, word_at};
@@ -19,16 +19,16 @@ pub(crate) const MAX_LINE: usize = 4096;
 /// A parsed line. Hexadecimal digits and quoted strings have already been decoded into octets.
 #[derive(Clone, Copy)]
 pub(crate) enum ParsedLine<'a> {
-    Passed,
-    Opens,
+    Skipped,
+    Message,
     Header { key: usize, value: u32 },
     Local1(&'a [u8]),
     Section2(&'a [u8]),
     Descriptors(&'a [u16]),
-    Begins(u32),
+    Subset(u32),
     Item { fxy: u16, form: DraftValue<'a> },
-    Closes,
-    Wrong,
+    End,
+    Invalid,
 }
 
 /// Decodes hexadecimal digits that follow a single space, and stores the octets in `scratch`. The
@@ -60,7 +60,7 @@ fn worded<'a>(
     ensures { option_map meaning result ≡ worded word.now rest.now }
 {
     if is(word, b"message") {
-        return rest.is_empty().then_some(ParsedLine::Opens);
+        return rest.is_empty().then_some(ParsedLine::Message);
     }
     if is(word, b"local1") {
         let octets = octets_after(rest, octets.as_mut_slice())?;
@@ -76,13 +76,13 @@ fn worded<'a>(
         return Some(ParsedLine::Descriptors(&words[..count]));
     }
     if is(word, b"subset") {
-        return Some(ParsedLine::Begins(number(without_space(rest)?)?));
+        return Some(ParsedLine::Subset(number(without_space(rest)?)?));
     }
     if is(word, b"R") {
         return reference(without_space(rest)?);
     }
     if is(word, b"end") {
-        return rest.is_empty().then_some(ParsedLine::Closes);
+        return rest.is_empty().then_some(ParsedLine::End);
     }
     let key = key_index(word)?;
     let value = number(without_space(rest)?)?;
@@ -92,24 +92,24 @@ fn worded<'a>(
 /// Parses a line of at most 4,096 octets. If the line begins with a word, the header key at index
 /// `next` is tried first, because it is the most likely word.
 #[tactic(auto, using(crate::proofs::ItemLemmas::read_steps))]
-fn line_said<'a>(
+fn line_of<'a>(
     line: &'a [u8],
     next: usize,
     octets: &'a mut [u8; MAX_LINE],
     words: &'a mut [u16; MOST_WORDS],
 ) -> Option<ParsedLine<'a>>
     requires { length line.now ≤ max_line }
-    ensures { unwrap_or (option_map meaning result) Wrong ≡ line_of line.now }
+    ensures { unwrap_or (option_map meaning result) Invalid ≡ line_of line.now }
 {
     let first = octet_at(line, 0);
     if first.is_ascii_digit() {
         return item(line, octets.as_mut_slice());
     }
     if line.is_empty() {
-        return Some(ParsedLine::Passed);
+        return Some(ParsedLine::Skipped);
     }
     if first == b'#' {
-        return Some(ParsedLine::Passed);
+        return Some(ParsedLine::Skipped);
     }
     if let Some(word) = word_at(next)
         && let Some(rest) = without_prefix(line, word)
@@ -132,11 +132,11 @@ pub(crate) fn read_line<'a>(
     ensures { meaning result ≡ read_line line.now }
 {
     if line.len() > MAX_LINE {
-        return ParsedLine::Wrong;
+        return ParsedLine::Invalid;
     }
-    match line_said(line, next, octets, words) {
+    match line_of(line, next, octets, words) {
         Some(said) => said,
-        None => ParsedLine::Wrong,
+        None => ParsedLine::Invalid,
     }
 }
 
@@ -217,8 +217,8 @@ fn is_hashed(text: &[u8]) -> bool
 /// comment.
 #[tactic(auto, using(crate::proofs::ItemLemmas::hash_steps))]
 // rule: reading-after-a-value
-fn is_passed_after(text: &[u8]) -> bool
-    ensures { result ≡ is_passed_after text.now }
+fn is_end_or_comment(text: &[u8]) -> bool
+    ensures { result ≡ is_end_or_comment text.now }
 {
     if let [b' ', b' ', b'#', ..] = text {
         return true;
@@ -231,8 +231,8 @@ fn is_passed_after(text: &[u8]) -> bool
 #[inline(always)]
 fn spaced_fxy(line: &[u8]) -> Option<Fxy>
     ensures within { IfSome result (λ _. 7 ≤ length line.now) }
-    ensures value { IfSome result (λ fxy. line_of line.now
-        ≡ unwrap_or (option_and_then (item_if_comment fxy) (value_read (drop 7 line.now))) Wrong) }
+    ensures value { IfSome result (λ fxy. line_of line.now ≡ unwrap_or
+        (option_and_then (item_if_comment fxy) (value_read (drop 7 line.now))) Invalid) }
 {
     let [a, b, c, d, e, f, space, _, ..] = line else {
         return None;
@@ -273,7 +273,7 @@ pub(crate) fn short_item(line: &[u8]) -> Option<(Fxy, Option<ShortDecimal>)>
     let text = suffix(line, 7);
     if octet_at(text, 0) == b'M' {
         let rest = without_prefix(text, b"MISSING")?;
-        if !is_passed_after(rest) {
+        if !is_end_or_comment(rest) {
             return None;
         }
         return Some((fxy, None));
@@ -283,7 +283,7 @@ pub(crate) fn short_item(line: &[u8]) -> Option<(Fxy, Option<ShortDecimal>)>
     if is_number_octet(octet_at(rest, 0)) {
         return None;
     }
-    if !is_passed_after(rest) {
+    if !is_end_or_comment(rest) {
         return None;
     }
     Some((fxy, Some(number)))
@@ -297,7 +297,7 @@ pub(crate) fn item<'a>(text: &'a [u8], scratch: &'a mut [u8]) -> Option<ParsedLi
     let (fxy, rest) = fxy_prefix(text)?;
     let text = without_space(rest)?;
     let (form, rest) = value(text, scratch)?;
-    if !is_passed_after(rest) {
+    if !is_end_or_comment(rest) {
         return None;
     }
     Some(ParsedLine::Item { fxy, form })
@@ -316,7 +316,7 @@ pub(crate) fn reference<'a>(text: &'a [u8]) -> Option<ParsedLine<'a>>
         return None;
     }
     let count = token(rest);
-    if !is_passed_after(suffix(rest, count)) {
+    if !is_end_or_comment(suffix(rest, count)) {
         return None;
     }
     let form = DraftValue::Reference(prefix(rest, count));

@@ -202,7 +202,7 @@ impl<'b, 'w, W: Sink> LineWriter<'b, 'w, W> {
         ensures none { self.new.held ≡ [] }
         ensures whole { self.new.whole_writes ≤ self.old.whole_writes + 2 }
     {
-        self.hand_on();
+        self.flush_buf();
         if self.status.is_ok() {
             self.status = write_all(octets, self.w);
         }
@@ -211,7 +211,7 @@ impl<'b, 'w, W: Sink> LineWriter<'b, 'w, W> {
     /// Writes the buffered octets to the sink. If a write fails, the octets that were not written
     /// are lost.
     #[inline(never)]
-    pub fn hand_on(&mut self)
+    pub fn flush_buf(&mut self)
         ensures pushes { PushesSomehow self.old [] self.new }
         ensures none { self.new.held ≡ [] }
         ensures whole { self.new.whole_writes ≤ self.old.whole_writes + 1 }
@@ -230,7 +230,7 @@ impl<'b, 'w, W: Sink> LineWriter<'b, 'w, W> {
         ensures page { 65536 ≤ length self.old.held → self.new.held ≡ [] }
     {
         if self.len >= PAGE {
-            self.hand_on();
+            self.flush_buf();
         }
     }
 
@@ -459,7 +459,7 @@ impl<'b, 'w, W: Sink> LineWriter<'b, 'w, W> {
         self.status
     }
 
-    /// Returns the sink. Any buffered octets are lost, so call [`LineWriter::hand_on`] first.
+    /// Returns the sink. Any buffered octets are lost, so call [`LineWriter::flush_buf`] first.
     pub fn into_sink(self) -> &'w mut W
         ensures taken { W.taken result.now ≡ self.entry.taken }
         ensures failures { W.failures result.now ≡ self.entry.failures }

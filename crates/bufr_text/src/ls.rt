@@ -106,7 +106,7 @@ pub fn write_ls<W: Sink>(offset: u64, message: &Message<'_>, w: &mut W) -> Resul
     line.push_array(flags);
     line.push_named(b" descriptors=", message.descriptors().len() as u64);
     line.push(b"\n");
-    line.hand_on();
+    line.flush_buf();
     let outcome = line.status();
     let _ = line.into_sink();
     outcome

@@ -11,7 +11,7 @@ use Rattle.std.proofs.lemmas.Bool.Decides.{Decides-int_eq}
 use Rattle.std.proofs.lemmas.Slice.Eq.{bytes_eq-Decides}
 use Rattle.bufr_bits.specs.Prelude.{number_of, are_all_ones, bits_of, bits_at, ◌>>=◌}
 use Rattle.bufr_bits.proofs.BitLemmas.{number_of-below, are_all_ones-number}
-use Rattle.bufr_walk.specs.Prelude.{start_of, numbers, texts, Coding, coding_of, coding_by, content_by, step_of, increased, all_there, contents_across, same, if_equal, are_valid, increments, ones, octets_in, packed_field, FieldSpec, IsSpec, HasRole, Content, number, text, missing, reference, content_in, answer_by_role, answer_first, FieldRead, found, is_reference, content_kept, contents_found, was_found, fits_at, Role, IndexedItem, content_at}
+use Rattle.bufr_walk.specs.Prelude.{start_of, numbers, texts, Coding, coding_of, coding_by, content_by, step_of, increased, all_there, contents_across, same, if_equal, are_valid, increments, ones, octets_in, packed_field, FieldSpec, IsSpec, HasRole, Content, number, text, missing, reference, content_in, answer_by_role, answer_first, FieldRead, found, is_reference, stored_content, contents_found, was_found, fits_at, Role, IndexedItem, content_at}
 use Rattle.bufr_bits.proofs.DecimalLemmas.{and_first, and_second}
 use Rattle.bufr_tables.specs.Prelude.{is_character, only_if}
 use Rattle.bufr_walk.proofs.PlainLemmas.{bits_length, ones_by_number, number_coding, text_coding}
@@ -335,7 +335,7 @@ step_small bits n e h = grind (arith, common_steps, kept_step, number_of-below, 
 
 -- If k is 0, the content of each subset is that of the base.
 pub base_content : (bits : List Bool) (n : ℕ) (e : IndexedItem) (j : ℕ) → fits_at bits n e ≡ true → e.step ≡ 0 → j < n
-    → content_kept bits n e j ≡ content_in e.spec (take e.spec.width (drop (start_of e) bits))
+    → stored_content bits n e j ≡ content_in e.spec (take e.spec.width (drop (start_of e) bits))
 base_content bits n e j h none below =
     let base = take e.spec.width (drop (start_of e) bits) in
     let suffix = drop (start_of e + (e.spec.width + 6)) bits in
@@ -352,7 +352,7 @@ module _ (bits : List Bool) (n : ℕ) (e : IndexedItem) (j : ℕ) (h : fits_at b
   -- The increment of this subset is inside the data and gives its content.
   coded : (c : Coding) → coding_of e.spec ≡ c
       → (increased c e.step (take e.spec.width (drop (start_of e) bits)) (take (step_of c e.step) (drop (j * step_of c e.step) (drop (start_of e + (e.spec.width + 6)) bits)))
-      ≡ Some (content_kept bits n e j))
+      ≡ Some (stored_content bits n e j))
       × (start_of e + (e.spec.width + 6) + (j + 1) * step_of c e.step ≤ length bits)
   coded c is =
       let p = kept_parts bits n e h in
@@ -366,7 +366,7 @@ module _ (bits : List Bool) (n : ℕ) (e : IndexedItem) (j : ℕ) (h : fits_at b
       by role.Element is = refl
       by role.Inserted is = refl
       by role.Factor is = refl
-      by role.Reference is = let t = coded (coding_by role.Reference e.spec.kind e.spec) (ap (λ r. coding_by r e.spec.kind e.spec) is) in absurd (none (content_kept bits n e j) t.0)
+      by role.Reference is = let t = coded (coding_by role.Reference e.spec.kind e.spec) (ap (λ r. coding_by r e.spec.kind e.spec) is) in absurd (none (stored_content bits n e j) t.0)
         where
           none : (c : Content) → ◌≡◌ {A = Option Content} None (Some c) → ⊥
           none c e = cc
@@ -374,7 +374,7 @@ module _ (bits : List Bool) (n : ℕ) (e : IndexedItem) (j : ℕ) (h : fits_at b
   -- the content of a number
   pub number_content : is_character e.spec.kind ≡ false
       → increased (numbers e.spec.width e.spec.may_be_missing) e.step (take e.spec.width (drop (start_of e) bits)) (take e.step (drop (j * e.step) (drop (start_of e + (e.spec.width + 6)) bits)))
-      ≡ Some (content_kept bits n e j)
+      ≡ Some (stored_content bits n e j)
   number_content c = (coded (numbers e.spec.width e.spec.may_be_missing) (number_coding e.spec c no_reference)).0
 
   pub number_within : is_character e.spec.kind ≡ false → start_of e + (e.spec.width + 6) + (j + 1) * e.step ≤ length bits
@@ -382,10 +382,10 @@ module _ (bits : List Bool) (n : ℕ) (e : IndexedItem) (j : ℕ) (h : fits_at b
 
   -- the content of a text
   pub text_content : is_character e.spec.kind ≡ true
-      → padded_text (e.spec.width / 8) e.step (take (8 * e.step) (drop (j * (8 * e.step)) (drop (start_of e + (e.spec.width + 6)) bits))) ≡ content_kept bits n e j
+      → padded_text (e.spec.width / 8) e.step (take (8 * e.step) (drop (j * (8 * e.step)) (drop (start_of e + (e.spec.width + 6)) bits))) ≡ stored_content bits n e j
   text_content c =
       there (nat_lt (e.spec.width / 8) e.step) (padded_text (e.spec.width / 8) e.step (take (8 * e.step) (drop (j * (8 * e.step)) (drop (start_of e + (e.spec.width + 6)) bits))))
-      (content_kept bits n e j)
+      (stored_content bits n e j)
       (coded (texts (e.spec.width / 8)) (text_coding e.spec c no_reference)).0
     where
       there : (past : Bool) (a b : Content) → (if past then None else Some a) ≡ Some b → a ≡ b
@@ -397,7 +397,7 @@ module _ (bits : List Bool) (n : ℕ) (e : IndexedItem) (j : ℕ) (h : fits_at b
       (there (nat_lt (e.spec.width / 8) e.step) (padded_text (e.spec.width / 8) e.step (take (8 * e.step) (drop (j * (8 * e.step)) (drop (start_of e + (e.spec.width + 6)) bits))))
       (coded (texts (e.spec.width / 8)) (text_coding e.spec c no_reference)).0)
     where
-      there : (past : Bool) (a : Content) → (if past then None else Some a) ≡ Some (content_kept bits n e j) → past ≡ false
+      there : (past : Bool) (a : Content) → (if past then None else Some a) ≡ Some (stored_content bits n e j) → past ≡ false
       there true a e = absurd cc
       there false a e = refl
 

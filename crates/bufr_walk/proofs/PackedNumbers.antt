@@ -3,7 +3,7 @@ use Rattle.std.proofs.lemmas.Grind.{common_steps}
 use Rattle.std.proofs.Common.{◌≡◌, ℕ, ◌+◌, ◌-◌, ◌*◌, ◌^◌, ◌<◌, ◌≤◌, false, Bool, List, length, drop, refl, sym, ◌∙◌, ap, arith, ◌&&◌, true, take, ◌==◌, ◌||◌, nat_lt, if◌then◌else◌, Option, Some, None, rules}
 use Rattle.std.proofs.lemmas.Bool.{eqb-true, ne_eqb}
 use Rattle.bufr_bits.specs.Prelude.{bits_of, number_of, are_all_ones, bits_at}
-use Rattle.bufr_walk.specs.Prelude.{start_of, numbers, increased, Content, number, missing, is_reference, ones, content_kept, fits_at, IndexedItem}
+use Rattle.bufr_walk.specs.Prelude.{start_of, numbers, increased, Content, number, missing, is_reference, ones, stored_content, fits_at, IndexedItem}
 use Rattle.bufr_tables.specs.Prelude.{is_character}
 use Rattle.std.proofs.lemmas.Bool.Decides.{nat_tests}
 use Rattle.bufr_walk.proofs.PackedLemmas.{base_content, kept_base, kept_ones, kept_parts, number_content, number_within, ones_same, some_same}
@@ -12,7 +12,7 @@ use Rattle.std.proofs.lemmas.List.{length-take-le, length-drop}
 
 -- Without increments, the content is the base, or missing.
 base_content_is : (octets : List ℕ) (n : ℕ) (e : IndexedItem) (j : ℕ) → fits_at (bits_of octets) n e ≡ true → e.step ≡ 0 → j < n → is_character e.spec.kind ≡ false → is_reference e.spec.role ≡ false
-    → (b : Bool) → (e.base == 2 ^ e.spec.width - 1) ≡ b → (if b && e.spec.may_be_missing then missing else number e.base) ≡ content_kept (bits_of octets) n e j
+    → (b : Bool) → (e.base == 2 ^ e.spec.width - 1) ≡ b → (if b && e.spec.may_be_missing then missing else number e.base) ≡ stored_content (bits_of octets) n e j
 base_content_is octets n e j h none below k r b is =
     let base = bits_at octets (start_of e) e.spec.width in
     ap (λ x. if x && e.spec.may_be_missing then missing else number e.base) (sym is ∙ kept_ones octets n e h k)
@@ -20,19 +20,19 @@ base_content_is octets n e j h none below k r b is =
     ∙ sym (number_said e.spec base k r) ∙ sym (base_content (bits_of octets) n e j h none below)
 
 pub base_missing : (octets : List ℕ) (n : ℕ) (e : IndexedItem) (j : ℕ) → fits_at (bits_of octets) n e ≡ true → e.step ≡ 0 → j < n → is_character e.spec.kind ≡ false → is_reference e.spec.role ≡ false
-    → e.spec.may_be_missing ≡ true → e.base ≡ 2 ^ e.spec.width - 1 → missing ≡ content_kept (bits_of octets) n e j
+    → e.spec.may_be_missing ≡ true → e.base ≡ 2 ^ e.spec.width - 1 → missing ≡ stored_content (bits_of octets) n e j
 base_missing octets n e j h none below k r m full =
     let is : (e.base == 2 ^ e.spec.width - 1) ≡ true = grind arith in
     cc (m, base_content_is octets n e j h none below k r true is)
 
 pub base_number : (octets : List ℕ) (n : ℕ) (e : IndexedItem) (j : ℕ) → fits_at (bits_of octets) n e ≡ true → e.step ≡ 0 → j < n → is_character e.spec.kind ≡ false → is_reference e.spec.role ≡ false
-    → (e.spec.may_be_missing ≡ true → e.base ≡ 2 ^ e.spec.width - 1 → ⊥) → number e.base ≡ content_kept (bits_of octets) n e j
+    → (e.spec.may_be_missing ≡ true → e.base ≡ 2 ^ e.spec.width - 1 → ⊥) → number e.base ≡ stored_content (bits_of octets) n e j
 base_number octets n e j h none below k r not = by e.spec.may_be_missing refl (e.base == 2 ^ e.spec.width - 1) refl
   where
-    whole : (b : Bool) → (e.base == 2 ^ e.spec.width - 1) ≡ b → (if b && e.spec.may_be_missing then missing else number e.base) ≡ content_kept (bits_of octets) n e j
+    whole : (b : Bool) → (e.base == 2 ^ e.spec.width - 1) ≡ b → (if b && e.spec.may_be_missing then missing else number e.base) ≡ stored_content (bits_of octets) n e j
     whole b is = base_content_is octets n e j h none below k r b is
 
-    by : (m : Bool) → e.spec.may_be_missing ≡ m → (b : Bool) → (e.base == 2 ^ e.spec.width - 1) ≡ b → number e.base ≡ content_kept (bits_of octets) n e j
+    by : (m : Bool) → e.spec.may_be_missing ≡ m → (b : Bool) → (e.base == 2 ^ e.spec.width - 1) ≡ b → number e.base ≡ stored_content (bits_of octets) n e j
     by true q true is = absurd (not q (eqb-true e.base (2 ^ e.spec.width - 1) is))
     by true q false is = whole false is
     by false q true is = sym (ap (λ x. if true && x then missing else number e.base) q) ∙ whole true is
@@ -116,18 +116,18 @@ module _ (octets : List ℕ) (n : ℕ) (e : IndexedItem) (j i : ℕ) (h : fits_a
       let one : (j + 1) * e.step ≡ j * e.step + e.step = omega arith in
       grind (arith, common_steps, room)
 
-  pub kept_last : e.spec.may_be_missing ≡ true → i ≡ ones e.step → missing ≡ content_kept (bits_of octets) n e j
-  kept_last = sum_last e.spec.width e.step e.base i e.spec.may_be_missing (bits_at octets (start_of e) e.spec.width) kept_incr (content_kept (bits_of octets) n e j)
+  pub kept_last : e.spec.may_be_missing ≡ true → i ≡ ones e.step → missing ≡ stored_content (bits_of octets) n e j
+  kept_last = sum_last e.spec.width e.step e.base i e.spec.may_be_missing (bits_at octets (start_of e) e.spec.width) kept_incr (stored_content (bits_of octets) n e j)
       (kept_base (bits_of octets) n e h c) more kept_wide kept_long (number_content (bits_of octets) n e j h some below c)
 
-  pub kept_whole : e.spec.may_be_missing ≡ true → ones e.spec.width ≤ e.base + i → missing ≡ content_kept (bits_of octets) n e j
-  kept_whole = sum_whole e.spec.width e.step e.base i e.spec.may_be_missing (bits_at octets (start_of e) e.spec.width) kept_incr (content_kept (bits_of octets) n e j)
+  pub kept_whole : e.spec.may_be_missing ≡ true → ones e.spec.width ≤ e.base + i → missing ≡ stored_content (bits_of octets) n e j
+  kept_whole = sum_whole e.spec.width e.step e.base i e.spec.may_be_missing (bits_at octets (start_of e) e.spec.width) kept_incr (stored_content (bits_of octets) n e j)
       (kept_base (bits_of octets) n e h c) more kept_wide kept_long (number_content (bits_of octets) n e j h some below c)
 
-  pub kept_never : e.spec.may_be_missing ≡ false → (number (e.base + i) ≡ content_kept (bits_of octets) n e j) × (e.base + i ≤ ones e.spec.width)
-  kept_never = sum_never e.spec.width e.step e.base i e.spec.may_be_missing (bits_at octets (start_of e) e.spec.width) kept_incr (content_kept (bits_of octets) n e j)
+  pub kept_never : e.spec.may_be_missing ≡ false → (number (e.base + i) ≡ stored_content (bits_of octets) n e j) × (e.base + i ≤ ones e.spec.width)
+  kept_never = sum_never e.spec.width e.step e.base i e.spec.may_be_missing (bits_at octets (start_of e) e.spec.width) kept_incr (stored_content (bits_of octets) n e j)
       (kept_base (bits_of octets) n e h c) more kept_wide kept_long (number_content (bits_of octets) n e j h some below c)
 
-  pub kept_some : (i ≡ ones e.step → ⊥) → e.base + i < ones e.spec.width → number (e.base + i) ≡ content_kept (bits_of octets) n e j
-  kept_some = sum_some e.spec.width e.step e.base i e.spec.may_be_missing (bits_at octets (start_of e) e.spec.width) kept_incr (content_kept (bits_of octets) n e j)
+  pub kept_some : (i ≡ ones e.step → ⊥) → e.base + i < ones e.spec.width → number (e.base + i) ≡ stored_content (bits_of octets) n e j
+  kept_some = sum_some e.spec.width e.step e.base i e.spec.may_be_missing (bits_at octets (start_of e) e.spec.width) kept_incr (stored_content (bits_of octets) n e j)
       (kept_base (bits_of octets) n e h c) more kept_wide kept_long (number_content (bits_of octets) n e j h some below c)

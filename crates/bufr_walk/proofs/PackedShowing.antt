@@ -4,7 +4,7 @@ use Rattle.std.proofs.Common.{◌≡◌, ℕ, ◌+◌, ◌-◌, ◌*◌, ◌<◌
 use Rattle.std.proofs.lemmas.List.{drop-drop, drop_all, get_or-take, take_all, append-nil, take_more_set, replicate-append-replicate}
 use Rattle.bufr_bits.specs.Prelude.{bits_of, are_all_ones}
 use Rattle.bufr_tables.specs.Prelude.{entry_of, is_character, Row}
-use Rattle.bufr_walk.specs.Prelude.{start_of, IndexedItem, PackedValues, packed_values, range_calls, packed_calls, IsPackedOf, content_at, item_at, item_call, view_of, octets_in, shown_text, shown_missing, shown, Content, FieldSpec, content_kept, call_kept, IsStoredReading, held_of, fits_at, items_at, ShowFault, Sofar, Call, Timed, timed, Shows, subset_call, Item, items_kept, Read, item_calls, turns_in, subset_calls, subsets_from, items_of_subset, without_turns, answers_in, answer_of}
+use Rattle.bufr_walk.specs.Prelude.{start_of, IndexedItem, PackedValues, packed_values, range_calls, packed_calls, IsPackedOf, content_at, item_at, item_call, view_of, octets_in, shown_text, shown_missing, shown, Content, FieldSpec, stored_content, stored_call, IsStoredReading, held_of, fits_at, items_at, ShowFault, Sofar, Call, Timed, timed, Shows, subset_call, Item, stored_count, Read, item_calls, turns_in, subset_calls, subsets_from, items_of_subset, without_turns, answers_in, answer_of}
 use Rattle.bufr_walk.proofs.PackedLemmas.{base_content, kept_parts, padded_text, text_content, text_within}
 use Rattle.bufr_walk.proofs.PlainLemmas.{bits_length, octets_prefix}
 use Rattle.std.specs.List.{list_all}
@@ -28,7 +28,7 @@ whole_text spec count k bits octets e is = grind (arith, octets_prefix)
 -- The text at this bit is the content of the subset.
 pub span_text : (bits : List Bool) (n : ℕ) (e : IndexedItem) (j place : ℕ) → fits_at bits n e ≡ true → 1 ≤ e.step → j < n → is_character e.spec.kind ≡ true
     → place ≡ start_of e + (e.spec.width + 6) + j * (8 * e.step)
-    → padded_text (e.spec.width / 8) e.step (take (8 * e.step) (drop place bits)) ≡ content_kept bits n e j
+    → padded_text (e.spec.width / 8) e.step (take (8 * e.step) (drop place bits)) ≡ stored_content bits n e j
 span_text bits n e j place h some below c is =
     ap (λ bs. padded_text (e.spec.width / 8) e.step (take (8 * e.step) bs)) (ap (λ p. drop p bits) is ∙ sym (drop-drop (j * (8 * e.step)) (start_of e + (e.spec.width + 6)) bits))
     ∙ text_content bits n e j h some below c
@@ -117,7 +117,7 @@ alike_entry bits n kept i j k fit h e none below =
       next_between items i (i + 1) (item_at bits n k) (omega arith) long (item_of_entry bits n kept i k h e),
       drop_all (i + 1) (take (i + 1) items) (omega (arith, length-take-le (i + 1) items long)),
     ) in
-    let same : content_kept bits n k j ≡ content_kept bits n k 0 = base_content bits n k j fits none below ∙ sym (base_content bits n k 0 fits none (omega (arith, below))) in
+    let same : stored_content bits n k j ≡ stored_content bits n k 0 = base_content bits n k j fits none below ∙ sym (base_content bits n k 0 fits none (omega (arith, below))) in
     cc (is, same)
 
 -- The row that is found for a descriptor has this descriptor.
@@ -169,7 +169,7 @@ module _ {S E : Type 0} (sees : S → Call → Result (Unit {0}) E → S → Typ
   Goes (Err f) q = Shows sees s (range_calls q j from to) 0 (Err (fault.Visitor f)) s2 0
 
   pub entry_goes : (r : Result (Unit {0}) E) → packed_values table bits n kept ≡ p → i < to → to ≤ length p.items → Sofar sees s (range_calls p j from to) s1 (range_calls p j i to)
-      → ((k : IndexedItem) → k ≡ get_or kept i k → sees s1 (call_kept table bits n k j) r s2) → Goes r p
+      → ((k : IndexedItem) → k ≡ get_or kept i k → sees s1 (stored_call table bits n k j) r s2) → Goes r p
   entry_goes r is below within so call = subst P is (λ w z. by r call w z) within so
     where
       P : PackedValues → Type 0
@@ -181,7 +181,7 @@ module _ {S E : Type 0} (sees : S → Call → Result (Unit {0}) E → S → Typ
       at : item_at bits n there.0 ≡ get_or (items_at bits n kept) i (item_at bits n there.0)
       at = item_of_entry bits n kept i there.0 (entry_there table bits n kept p i is (omega (arith, below, within))) there.1
 
-      by : (r : Result (Unit {0}) E) → ((k : IndexedItem) → k ≡ get_or kept i k → sees s1 (call_kept table bits n k j) r s2) → to ≤ length (items_at bits n kept)
+      by : (r : Result (Unit {0}) E) → ((k : IndexedItem) → k ≡ get_or kept i k → sees s1 (stored_call table bits n k j) r s2) → to ≤ length (items_at bits n kept)
           → Sofar sees s (range_calls (packed_values table bits n kept) j from to) s1 (range_calls (packed_values table bits n kept) j i to) → Goes r (packed_values table bits n kept)
       by (Ok x) call w z = items_go sees (packed_values table bits n kept) j to s s1 s2 from i (item_at bits n there.0) below w at z (call there.0 there.1)
       by (Err f) call w z = items_end sees (packed_values table bits n kept) j to s s1 s2 from i (item_at bits n there.0) f below w at z (call there.0 there.1)
@@ -233,5 +233,5 @@ pub packed_shown : {V E : Type 0} (sees : V → Call → Result (Unit {0}) E →
 packed_shown sees p r v v' result steps h are shows = grind (arith, no_turns_in, h.values)
 
 -- All items of compressed data are stored, and none of plain data.
-pub all_kept : (r : Read) (k : StoredItems) → IsStoredReading r k → held_of k ≡ items_kept (values_read r)
+pub all_kept : (r : Read) (k : StoredItems) → IsStoredReading r k → held_of k ≡ stored_count (values_read r)
 all_kept r k h = search (rules, length-items_at)

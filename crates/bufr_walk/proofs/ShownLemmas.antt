@@ -180,9 +180,9 @@ module _ {V E : Type 0} (sees : V → Call → Result (Unit {0}) E → V → Typ
     enough first xs s p m = omega (arith, m.at.pays)
 
     -- The step at a field reads the content of the remaining bits.
-    content_here : (first : S) (xs : List (Item Content)) (s : S) (p : Place) (spec : FieldSpec) (f : Step Place Content) → IsShownAt first xs s p → how.step spec p ≡ Ok f
+    item_content : (first : S) (xs : List (Item Content)) (s : S) (p : Place) (spec : FieldSpec) (f : Step Place Content) → IsShownAt first xs s p → how.step spec p ≡ Ok f
         → content_in spec (take spec.width (rest_of (on s).cursor)) ≡ f.content
-    content_here first xs s p spec f m h =
+    item_content first xs s p spec f m h =
         step_content spec (rest_of (on s).cursor) (length xs) f (sym (step_there (on first).cursor xs (on s).cursor spec p m.at) ∙ h)
 
     show_fails : (first : S) (xs : List (Item Content)) (s : S) (p : Place) (spec : FieldSpec) (e : ShowStop E) (s' : S) → IsShownAt first xs s p → took s spec (Err e) s'
@@ -205,7 +205,7 @@ module _ {V E : Type 0} (sees : V → Call → Result (Unit {0}) E → V → Typ
           (on s).visitor,
           m.made,
           subst (λ c. sees (on s).visitor (item_call (view_of table spec c)) (Err e) (on s').visitor)
-              (sym (content_is spec (rest_of (on s).cursor) (rest_of (past (on s).cursor spec)) h.is_taken.content h.is_taken.field) ∙ content_here first xs s p spec f m step)
+              (sym (content_is spec (rest_of (on s).cursor) (rest_of (past (on s).cursor spec)) h.is_taken.content h.is_taken.field) ∙ item_content first xs s p spec f m step)
               (subst (λ rows. sees (on s).visitor (item_call (view_of rows spec h.is_taken.content)) (Err e) (on s').visitor) m.rows h.call),
         ),
       ),
@@ -224,7 +224,7 @@ module _ {V E : Type 0} (sees : V → Call → Result (Unit {0}) E → V → Typ
         λ f step. (
           (on s).visitor,
           m.made,
-          (refl, subst (λ c. IsReferenceValue (shown spec c)) (content_here first xs s p spec f m step) (reference_kept spec (take spec.width (rest_of (on s).cursor)) h)),
+          (refl, subst (λ c. IsReferenceValue (shown spec c)) (item_content first xs s p spec f m step) (reference_kept spec (take spec.width (rest_of (on s).cursor)) h)),
         ),
       ),
     )

@@ -277,20 +277,20 @@ pub record IsSeen (bits : List Bool) (at n : ℕ) (spec : FieldSpec) (s : ItemBi
   pub least : at + 7 ≤ s.end
 
 -- The index has one entry for each item of compressed data, and each entry matches its item.
-abbrev pub AreKept : Data → List IndexedItem → List (Item (List Content)) → Type 0
-AreKept d entries items =
+abbrev pub AreStored : Data → List IndexedItem → List (Item (List Content)) → Type 0
+AreStored d entries items =
     (items_at d.bits d.subsets entries ≡ items)
     × (list_all (fits_at d.bits d.subsets) entries ≡ true)
 
 -- the content of a stored item in the given subset (counted from 0)
-abbrev pub content_kept : (bits : List Bool) (subsets : ℕ) → IndexedItem → (subset : ℕ) → Content
-content_kept bits n e j =
+abbrev pub stored_content : (bits : List Bool) (subsets : ℕ) → IndexedItem → (subset : ℕ) → Content
+stored_content bits n e j =
     content_at j (contents_found (packed_field n e.spec (drop (start_of e) bits)))
 
 -- the call that shows a stored item in the given subset (counted from 0)
-abbrev pub call_kept : List Row → (bits : List Bool) (subsets : ℕ) → IndexedItem → (subset : ℕ)
+abbrev pub stored_call : List Row → (bits : List Bool) (subsets : ℕ) → IndexedItem → (subset : ℕ)
     → Call
-call_kept table bits n e j = item_call (view_of table e.spec (content_kept bits n e j))
+stored_call table bits n e j = item_call (view_of table e.spec (stored_content bits n e j))
 
 -- the number of stored items
 abbrev pub held_of : StoredItems → ℕ
@@ -302,7 +302,7 @@ abbrev pub KeepsValues : StoredItems → Data → Values → Type 0
 KeepsValues stored.Apart d (apart subsets) = Unit {0}
 KeepsValues stored.Apart d (together items) = ⊥
 KeepsValues (stored.Together entries) d (apart subsets) = ⊥
-KeepsValues (stored.Together entries) d (together items) = AreKept d entries items
+KeepsValues (stored.Together entries) d (together items) = AreStored d entries items
 
 -- the total number of items in all subsets
 abbrev pub items_in : List (List (Item Content)) → ℕ

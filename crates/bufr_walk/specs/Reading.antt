@@ -98,9 +98,9 @@ each_subset n (together items) = subsets_from n 0 items
 
 -- the number of items that are stored when data are read (all items of compressed data, but none of
 -- plain data)
-abbrev pub items_kept : Values → ℕ
-items_kept (apart subsets) = 0
-items_kept (together items) = length items
+abbrev pub stored_count : Values → ℕ
+stored_count (apart subsets) = 0
+stored_count (together items) = length items
 
 -- The reason why reading stops. The walk refuses a step, a field cannot be read, or, in the code,
 -- memory runs out. A `TurnRefusal` or a `DataFault` becomes a `WalkStop`, and adding the location

@@ -3,7 +3,7 @@
 ghost use Rattle.std.specs.Prelude.{unwrap_or, option_map, ◌≡◌, ◌≤◌, ◌<◌, ◌+◌, ◌*◌, ◌^◌, false, true, length, IfSome, ◌-◌, ◌/◌, ◌++◌, drop, MatchResult, IfOk, ◌==◌, ◌&&◌, ◌||◌, not, nat_lt, take, get_or, replicate};
 ghost use Rattle.bufr_bits.specs.Prelude.{bits_at, number_of, bits_of, octets_of};
 ghost use Rattle.bufr_tables.specs.Prelude.{is_character};
-ghost use Rattle.bufr_walk.specs.Prelude.{ones, numbers, coding_of, step_of, increments, are_valid, IsSeen, IsUnseen, call_kept, content_kept, fits_at, IsFor, is_reference, missing, number, shown, seen_value, Shows, IndexedItem, new_packed_in, PackedTakes, refuses_packed, IsSameInAll, range_calls, packed_calls};
+ghost use Rattle.bufr_walk.specs.Prelude.{ones, numbers, coding_of, step_of, increments, are_valid, IsSeen, IsUnseen, stored_call, stored_content, fits_at, IsFor, is_reference, missing, number, shown, seen_value, Shows, IndexedItem, new_packed_in, PackedTakes, refuses_packed, IsSameInAll, range_calls, packed_calls};
 ghost use Rattle.std.specs.List.{list_all};
 ghost use Rattle.std.proofs.Common.{arith, ap};
 
@@ -286,7 +286,7 @@ fn number_of(pack: &PackedData<'_>, item: &IndexedItem, subset: u16) -> Option<u
     requires number { is_character item.now.spec.kind ≡ false }
     requires value { is_reference item.now.spec.role ≡ false }
     ensures value { unwrap_or (option_map number result) missing
-        ≡ content_kept (bits_of (octets_of pack.now.bits)) pack.now.subsets item.now subset }
+        ≡ stored_content (bits_of (octets_of pack.now.bits)) pack.now.subsets item.now subset }
     ensures below { IfSome result (λ raw. raw < 2 ^ item.now.spec.width) }
 {
     let width = item.spec.width();
@@ -336,7 +336,7 @@ fn value_of<'a: 't, 't>(
     requires fits { fits_at (bits_of (octets_of pack.now.bits)) pack.now.subsets item.now ≡ true }
     requires subset { subset < pack.now.subsets }
     ensures { seen_value result ≡ shown item.now.spec
-        (content_kept (bits_of (octets_of pack.now.bits)) pack.now.subsets item.now subset) }
+        (stored_content (bits_of (octets_of pack.now.bits)) pack.now.subsets item.now subset) }
 {
     if item.step == 0 {
         return value_at(&pack.bits, item.at(), &item.spec, text);
@@ -375,7 +375,7 @@ fn show_other<V: Visitor>(
         (drop index kept.now) ≡ true }
     requires subset { subset < pack.now.subsets }
     ensures { (item : IndexedItem) → item ≡ get_or kept.now index item → V.sees visitor.old
-        (call_kept pack.now.table.now (bits_of (octets_of pack.now.bits)) pack.now.subsets item
+        (stored_call pack.now.table.now (bits_of (octets_of pack.now.bits)) pack.now.subsets item
         subset) result visitor.new }
 {
     let item = kept.item(index);
@@ -398,7 +398,7 @@ fn show_item<V: Visitor>(
         (drop index kept.now) ≡ true }
     requires subset { subset < pack.now.subsets }
     ensures { (item : IndexedItem) → item ≡ get_or kept.now index item → V.sees visitor.old
-        (call_kept pack.now.table.now (bits_of (octets_of pack.now.bits)) pack.now.subsets item
+        (stored_call pack.now.table.now (bits_of (octets_of pack.now.bits)) pack.now.subsets item
         subset) result visitor.new }
 {
     let item = kept.item(index);

@@ -1,7 +1,7 @@
 //! Functions that read the data of a message and return a [`Reading`].
 ghost use Rattle.std.specs.Prelude.{◌≡◌, ◌≤◌, ◌+◌, ◌*◌, length, IfOk, IfErr, IfSome, is_some, false};
 ghost use Rattle.bufr_tables.specs.Prelude.{places};
-ghost use Rattle.bufr_walk.specs.Prelude.{bits_before, data_of, AnswersReading, calls_of, turns_shown, items_called, Shows, values_read, items_kept, max_values, IsPackedOf};
+ghost use Rattle.bufr_walk.specs.Prelude.{bits_before, data_of, AnswersReading, calls_of, turns_shown, items_called, Shows, values_read, stored_count, max_values, IsPackedOf};
 
 use crate::compressed::{PackedData, PackedIn, PackedItems};
 use crate::fault::{ShowFault, WalkFault, fault_at};
@@ -190,7 +190,7 @@ impl<'a> Reading<'a> {
     /// is counted once, not once per subset, and occupies at least seven bits.
     pub fn held(&self) -> u64
         ensures value { result ≡ self.now.held }
-        ensures items { result ≡ items_kept (values_read self.now) }
+        ensures items { result ≡ stored_count (values_read self.now) }
         ensures few { 7 * result ≤ self.now.bits }
         ensures none { self.now.source.compressed ≡ false → result ≡ 0 }
     {

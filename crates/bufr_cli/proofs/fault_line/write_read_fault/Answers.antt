@@ -5,4 +5,4 @@ use Rattle.bufr_cli.proofs.fault_line.write_read_fault.Goals as goal
 pub returns-clause-writes : goal.returns-clause-writes
 returns-clause-writes g c =
     let before = c.new-line.ensures in
-    all_written tt c.push_read_fault.ensures c.hand_on.ensures.pushes before.status before.held c.hand_on.ensures.none before.taken (search rules) c.status-outcome.ensures
+    all_written tt c.push_read_fault.ensures c.flush_buf.ensures.pushes before.status before.held c.flush_buf.ensures.none before.taken (search rules) c.status-outcome.ensures

@@ -1,5 +1,5 @@
 use Rattle.std.proofs.Common.{◌≡◌, List, refl, sym, subst}
-use Rattle.bufr_cli.specs.Prelude.{Writers, ByTables, CommandOutcome, InputName, Known, NoTables, Opens}
+use Rattle.bufr_cli.specs.Prelude.{Writers, ByTables, CommandOutcome, InputName, KnownInputs, NoTables, Opens}
 use Rattle.bufr_cli.specs.declared.job.Job.{Job}
 use Rattle.bufr_cli.specs.declared.job.Subcommand.{Subcommand}
 use Rattle.bufr_cli.specs.declared.outcome.Outcome.{Outcome}
@@ -7,7 +7,7 @@ use Rattle.bufr_cli.proofs.RunLemmas.{opens-then}
 use Rattle.bufr_cli.proofs.program.run_job.Goals as goal
 
 -- the outcome of the subcommand of a job
-job-runs : {Standard File : Type 0} (inputs : Known Standard File) (opens : List InputName → Type 0) (job : Job) (command : Subcommand) (before after : Writers) (outcome : Outcome)
+job-runs : {Standard File : Type 0} (inputs : KnownInputs Standard File) (opens : List InputName → Type 0) (job : Job) (command : Subcommand) (before after : Writers) (outcome : Outcome)
     → job.command ≡ command → CommandOutcome inputs opens command job.file before after outcome
     → CommandOutcome inputs opens job.command job.file before after outcome
 job-runs inputs opens job command before after outcome is comes = subst (λ command. CommandOutcome inputs opens command job.file before after outcome) (sym is) comes

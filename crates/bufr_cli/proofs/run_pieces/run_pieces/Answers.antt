@@ -22,16 +22,16 @@ loop-verdict-smaller-in-Piece g c =
     let few = tally-few _ _ _ _ _ _ _ c.loop-verdict.invariant.ran in
     omega (arith, few, c.count.ensures.one, c.write_next.ensures.unread)
 
-pub returns-in_err-hand_on_before_read-in-Read-clause-leaves : goal.returns-in_err-hand_on_before_read-in-Read-clause-leaves
-returns-in_err-hand_on_before_read-in-Read-clause-leaves g c =
-    let p = err_from_is_err_and c.from_residual-in_err-hand_on_before_read-in-Read.result c.from_residual-in_err-hand_on_before_read-in-Read.ensures.1 in
+pub returns-in_err-flush_before_read-in-Read-clause-leaves : goal.returns-in_err-flush_before_read-in-Read-clause-leaves
+returns-in_err-flush_before_read-in-Read-clause-leaves g c =
+    let p = err_from_is_err_and c.from_residual-in_err-flush_before_read-in-Read.result c.from_residual-in_err-flush_before_read-in-Read.ensures.1 in
     let before = c.loop-verdict.invariant in
     let needs = read-needed _ _ _ _ _ _ _ before.ran _ (g.P.PieceWriter.reaches c.write_next.new.self) _ c.write_next.result (rw before.same at c.write_next.ensures.next)
     (c.in_ok-verdict.was ∙ ap Ok c.in-Read.is) in
     leaves-held _ _ _ _ _ _ _ needs.0 _ _ before.counts
     (rw c.write_next.ensures.output_flushes before.rare.0, rw c.write_next.ensures.errors_flushes before.rare.1)
-    _ _ _ c.hand_on_before_read.result _ c.from_residual-in_err-hand_on_before_read-in-Read.result needs.1 c.hand_on_before_read.ensures
-    c.in_err-hand_on_before_read-in-Read.was (p.1 ∙ ap Err p.2)
+    _ _ _ c.flush_before_read.result _ c.from_residual-in_err-flush_before_read-in-Read.result needs.1 c.flush_before_read.ensures
+    c.in_err-flush_before_read-in-Read.was (p.1 ∙ ap Err p.2)
 
 pub returns-in_err-read_more-in-Read-clause-leaves : goal.returns-in_err-read_more-in-Read-clause-leaves
 returns-in_err-read_more-in-Read-clause-leaves g c =
@@ -42,9 +42,9 @@ returns-in_err-read_more-in-Read-clause-leaves g c =
     let read = c.read_more.ensures in
     leaves-unread _ _ _ _ _ _ _ needs.0 _ _ (adds-same _ _ _ _ _ before.counts c.write_next.ensures.unread)
     (rw c.write_next.ensures.unread (rw c.write_next.ensures.output_flushes before.rare.0, rw c.write_next.ensures.errors_flushes before.rare.1))
-    (g.P.PieceWriter.reaches c.read_more.new.self) _ _ _ _ c.hand_on_before_read.result
+    (g.P.PieceWriter.reaches c.read_more.new.self) _ _ _ _ c.flush_before_read.result
     c.read_more.result _ _
-    c.from_residual-in_err-read_more-in-Read.result needs.1 c.hand_on_before_read.ensures c.in_ok-hand_on_before_read-in-Read.was read.reads_on read.counts read.made read.failed read.sure
+    c.from_residual-in_err-read_more-in-Read.result needs.1 c.flush_before_read.ensures c.in_ok-flush_before_read-in-Read.was read.reads_on read.counts read.made read.failed read.sure
     c.in_err-read_more-in-Read.was (p.1 ∙ ap Err p.2)
 
 pub returns-in_err-read_more-in-Read-clause-reads : goal.returns-in_err-read_more-in-Read-clause-reads
@@ -55,15 +55,15 @@ returns-in_err-read_more-in-Read-clause-reads g c =
     run-reads-unread _ _ _ _ _ _ c.read_more.result _ c.from_residual-in_err-read_more-in-Read.result (adds-same _ _ _ _ _ before.counts c.write_next.ensures.unread) read.counts read.made
     c.in_err-read_more-in-Read.was (p.1 ∙ ap Err p.2)
 
-pub returns-in_err-hand_on-clause-leaves : goal.returns-in_err-hand_on-clause-leaves
-returns-in_err-hand_on-clause-leaves g c =
-    let p = err_from_is_err_and c.from_residual-in_err-hand_on.result c.from_residual-in_err-hand_on.ensures.1 in
+pub returns-in_err-flush_both-clause-leaves : goal.returns-in_err-flush_both-clause-leaves
+returns-in_err-flush_both-clause-leaves g c =
+    let p = err_from_is_err_and c.from_residual-in_err-flush_both.result c.from_residual-in_err-flush_both.ensures.1 in
     let before = c.loop-verdict.invariant in
     let end = nothing-left _ _ _ _ _ _ _ before.ran _ (g.P.PieceWriter.reaches c.write_next.new.self) _ c.write_next.result (rw before.same at c.write_next.ensures.next)
     (c.in_ok-verdict.was ∙ ap Ok c.in-End.is) in
     leaves-done-held _ _ _ _ _ _ _ end.0 _ _ before.counts
     (rw c.write_next.ensures.output_flushes before.rare.0, rw c.write_next.ensures.errors_flushes before.rare.1)
-    end.1 _ c.hand_on.result c.hand_on.ensures.handed _ c.from_residual-in_err-hand_on.result c.in_err-hand_on.was (p.1 ∙ ap Err p.2)
+    end.1 _ c.flush_both.result c.flush_both.ensures.flushed _ c.from_residual-in_err-flush_both.result c.in_err-flush_both.was (p.1 ∙ ap Err p.2)
 
 pub returns-clause-leaves : goal.returns-clause-leaves
 returns-clause-leaves g c =
@@ -72,4 +72,4 @@ returns-clause-leaves g c =
     (c.in_ok-verdict.was ∙ ap Ok c.in-End.is) in
     leaves-done _ _ _ _ _ _ _ end.0 _ _ before.counts
     (rw c.write_next.ensures.output_flushes before.rare.0, rw c.write_next.ensures.errors_flushes before.rare.1)
-    end.1 _ c.hand_on.result c.hand_on.ensures.handed c.in_ok-hand_on.was
+    end.1 _ c.flush_both.result c.flush_both.ensures.flushed c.in_ok-flush_both.was

@@ -1,6 +1,6 @@
 use Rattle.std.proofs.Common.{◌≡◌, ◌∙◌, ℕ, ◌-◌, ◌<◌, ◌≤◌, ◌^◌, take, List, length, drop, arith, ap, sym, subst, lit≤}
 use Rattle.std.proofs.lemmas.List.{take_rest}
-use Rattle.bufr_frame.specs.Prelude.{IsIncomplete, IsStatedLength, length_here, stated_length, StartsWithBufr}
+use Rattle.bufr_frame.specs.Prelude.{IsIncomplete, IsStatedLength, stated_or_zero, stated_length, StartsWithBufr}
 use Rattle.bufr_frame.proofs.ScanLemmas.{none-so, none-stated, end-so, found-at-end, found-whole, holds-there, length-eight, open-so, short-here}
 use Rattle.bufr_frame.proofs.finder.find_event.Goals.{then-m-lt-SECTION_0, else-m-lt-SECTION_0, else-not-ended-via-then-not-ended+else-m-max, else-not-ended-via-else-not-ended}
 use Rattle.bufr_frame.proofs.finder.find_event.Goals as goal
@@ -24,7 +24,7 @@ pub returns-in_default : goal.returns-in_default
 returns-in_default c =
     let found = c.in_default.ensures in
     let K : ℕ → Type 0 = λ k. IsIncomplete c.args.rest.now (length c.args.rest.now - k) 0 in
-    let Z : ℕ → Type 0 = λ k. 0 ≡ length_here (drop (length c.args.rest.now - k) c.args.rest.now) in
+    let Z : ℕ → Type 0 = λ k. 0 ≡ stated_or_zero (drop (length c.args.rest.now - k) c.args.rest.now) in
     (c.if-ended.false, subst K (sym c.min.ensures) (none-so c.args.rest.now found), (subst Z (sym c.min.ensures) (none-stated c.args.rest.now), lit≤ tt))
 
 pub returns-then-m-max : goal.returns-then-m-max
@@ -45,7 +45,7 @@ returns c =
     ] in
     let same = take_rest c.args.rest.now c.in-Some.place in (
       elim c.else-not-ended.branch [
-        | else-not-ended-via-then-not-ended+else-m-max w ↦ found-whole _ _ _ _ _ _ c.in-Some.ensures (is.0 ∙ ap length_here (sym same)) (omega (arith, w.if-m-max.false, w.max.ensures))
+        | else-not-ended-via-then-not-ended+else-m-max w ↦ found-whole _ _ _ _ _ _ c.in-Some.ensures (is.0 ∙ ap stated_or_zero (sym same)) (omega (arith, w.if-m-max.false, w.max.ensures))
             (omega (arith, w.if-m-max.false, w.max.ensures)) same (sym c.classify.ensures)
         | else-not-ended-via-else-not-ended w ↦ found-at-end _ _ _ _ _ c.in-Some.ensures w.if-not-ended.false same (sym c.classify.ensures)
       ],

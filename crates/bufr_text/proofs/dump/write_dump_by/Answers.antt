@@ -13,7 +13,7 @@ pub returns-in-Ok : goal.returns-in-Ok
 returns-in-Ok g c =
     let before = c.new-lines.ensures in
     let left = left-whole c.args.message.now c.args.reading.now c.show.new.steps before.status before.held c.push_head_lines.ensures c.status-outcome.result c.in-Ok.ensures.shown c.push.ensures
-    c.hand_on.ensures.pushes c.hand_on.ensures.none c.status-outcome.ensures in
+    c.flush_buf.ensures.pushes c.flush_buf.ensures.none c.status-outcome.ensures in
     record {
       same = search rules;
       writes = all-written-of c.args.message.now c.args.reading.now c.status-outcome.result left.0 before.taken (search (rules, left.0.sink));

@@ -10,7 +10,7 @@ returns-then-octet_at-eq77 c =
     let text = c.suffix-text.result.now in
     let rest = c.in_ok-rest.rest.now in
     let said =
-    item-read text rest c.in_ok-fxy.fxy _ (value-missing text rest c.in_ok-rest.ensures.value) (sym c.is_passed_after.ensures ∙ c.if-not-is_passed_after.false) in
+    item-read text rest c.in_ok-fxy.fxy _ (value-missing text rest c.in_ok-rest.ensures.value) (sym c.is_end_or_comment.ensures ∙ c.if-not-is_end_or_comment.false) in
     c.in_ok-fxy.ensures.value ∙ (rw c.suffix-text.ensures at said)
 
 pub returns : goal.returns
@@ -22,5 +22,5 @@ returns c =
     ap is_number_octet (sym c.octet_at-3.ensures) ∙ sym c.is_number_octet.ensures ∙ c.if-is_number_octet.false in
     let value = value-decimal text _ c.in_ok-number.count found.some found.within found.text found.octets (rw c.suffix-rest.ensures at stop) in
     let said =
-    item-read text rest c.in_ok-fxy.fxy (number_token (short_text c.in_ok-number.number)) (rw c.suffix-rest.ensures value) (sym c.is_passed_after-2.ensures ∙ c.if-not-is_passed_after-2.false) in
+    item-read text rest c.in_ok-fxy.fxy (number_token (short_text c.in_ok-number.number)) (rw c.suffix-rest.ensures value) (sym c.is_end_or_comment-2.ensures ∙ c.if-not-is_end_or_comment-2.false) in
     c.in_ok-fxy.ensures.value ∙ (rw c.suffix-text.ensures at said)

@@ -16,4 +16,4 @@ returns-clause-writes g c =
       flag_digit c.compressed.result c.from-3.result c.from-3.ensures,
       flag_digit c.is_some.result c.from-4.result c.from-4.ensures,
     ) refl))))
-    c.hand_on.ensures.pushes before.status before.held c.hand_on.ensures.none before.taken (search rules) c.status-outcome.ensures
+    c.flush_buf.ensures.pushes before.status before.held c.flush_buf.ensures.none before.taken (search rules) c.status-outcome.ensures

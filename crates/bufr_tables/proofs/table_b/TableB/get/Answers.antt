@@ -1,5 +1,5 @@
 use Rattle.std.proofs.Common.{◌≡◌, ◌<◌, None, Some, arith, sym}
-use Rattle.bufr_tables.specs.Prelude.{place_of, rows_kept}
+use Rattle.bufr_tables.specs.Prelude.{place_of, stored_rows}
 use Rattle.bufr_tables.proofs.TableBLemmas.{element-key, entry-absent, entry-not_element, entry-row, fxys_of, found-limits}
 use Rattle.bufr_tables.proofs.table_b.TableB.get.Goals as goal
 
@@ -29,5 +29,5 @@ returns-clause-limits c =
     let small : c.args.fxy < 16384 = omega arith in
     let found : place_of (fxys_of stored) c.args.fxy ≡ Some c.in_ok-place.place =
     rw (← c.self.invariant.members_or_none) (sym (rw (c.key.ensures.value, element-key c.args.fxy small) at c.in_ok-place.ensures.value)) in
-    found-limits (rows_kept c.self.inside.octets.items stored) c.args.fxy _ c.self.invariant.limits
+    found-limits (stored_rows c.self.inside.octets.items stored) c.args.fxy _ c.self.invariant.limits
     (sym (rw c.as_slice-octets.ensures.value (entry-row c.self.inside.octets.items stored c.args.fxy c.in_ok-place.place c.index-stored.result.now found c.index-stored.ensures)))

@@ -1,7 +1,7 @@
 use Rattle.std.proofs.Common.{◌<◌, ap, refl}
 use Rattle.std.proofs.lemmas.List.{map-append}
-use Rattle.bufr_tables.proofs.TableBLemmas.{element-key, kept-grown, all-push, place-lacking, rows_kept-push, limits-grown, rows-push}
-use Rattle.bufr_tables.specs.Prelude.{row_parsed, rows_kept, Row}
+use Rattle.bufr_tables.proofs.TableBLemmas.{element-key, kept-grown, all-push, place-lacking, stored_rows-push, limits-grown, rows-push}
+use Rattle.bufr_tables.specs.Prelude.{row_parsed, stored_rows, Row}
 use Rattle.bufr_tables.proofs.table_b.TableB.push.Goals as goal
 
 pub add-requires-clause-absent : goal.add-requires-clause-absent
@@ -44,8 +44,8 @@ invariant_of-self-2 c =
     record {
       kept = rw items (all-push _ old.stored.items c.in_ok-stored.stored (kept-grown _ _ old.stored.items kept.kept made.grows) made.ok.kept);
       elements = rw items (all-push (λ s. s.fxy < 16384) old.stored.items c.in_ok-stored.stored kept.elements (rw (ap (λ (row : Row). row.fxy) made.ok.same) c.requires.element));
-      limits = rw (items, rows_kept-push old.octets.items _ old.stored.items c.in_ok-stored.stored c.args.row.now kept.kept made.grows made.ok)
-          (rows-push (rows_kept old.octets.items old.stored.items) (row_parsed c.args.row.now) kept.limits c.requires.limits);
+      limits = rw (items, stored_rows-push old.octets.items _ old.stored.items c.in_ok-stored.stored c.args.row.now kept.kept made.grows made.ok)
+          (rows-push (stored_rows old.octets.items old.stored.items) (row_parsed c.args.row.now) kept.limits c.requires.limits);
       members_or_none = rw (items, c.add.ensures, c.key.ensures.value, element-key c.args.row.now.fxy c.requires.element, kept.members_or_none)
           (rw (map-append, (ap (λ (row : Row). row.fxy) made.ok.same)) refl);
     }
@@ -54,4 +54,6 @@ pub returns : goal.returns
 returns c =
     let old = c.self.inside in
     let made = c.in_ok-stored.ensures in
-    rw (c.in_ok-push.ensures.items, ← c.self.view_is) (record { ok = rows_kept-push old.octets.items _ old.stored.items c.in_ok-stored.stored c.args.row.now c.self.invariant.kept made.grows made.ok })
+    rw (c.in_ok-push.ensures.items, ← c.self.view_is) (record {
+      ok = stored_rows-push old.octets.items _ old.stored.items c.in_ok-stored.stored c.args.row.now c.self.invariant.kept made.grows made.ok;
+    })

@@ -1,6 +1,6 @@
 use Rattle.std.proofs.Common.{◌≡◌, ◌∷◌, [], arith, length, length-append, refl}
 use Rattle.std.proofs.lemmas.List.{map-append}
-use Rattle.bufr_tables.proofs.TableDLemmas.{IsSequence, all-push, last-push, place-lacking, runs-more, sequences_kept-begun}
+use Rattle.bufr_tables.proofs.TableDLemmas.{IsSequence, all-push, last-push, place-lacking, runs-more, stored_sequences-begun}
 use Rattle.bufr_tables.proofs.table_d.TableD.begin.Goals as goal
 
 pub add-requires-clause-absent : goal.add-requires-clause-absent
@@ -32,4 +32,4 @@ returns c =
     let pushed = rw (c.unwrap.ensures, c.in_ok-reserve.ensures.items) at c.push-2.ensures.items in
     let start : c.len-start.result ≡ length old = omega arith in
     rw (c.in_ok-push.ensures.items, pushed, ← c.self.view_is)
-    (record { ok = sequences_kept-begun old c.args.member runs _ c.args.sequence c.self.invariant.inside (rw start refl) })
+    (record { ok = stored_sequences-begun old c.args.member runs _ c.args.sequence c.self.invariant.inside (rw start refl) })

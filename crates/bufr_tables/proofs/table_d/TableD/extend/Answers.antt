@@ -1,6 +1,6 @@
 use Rattle.std.proofs.Common.{◌≡◌, ◌+◌, ◌-◌, ◌∷◌, ◌<◌, [], ◌∙◌, arith, length, length-append, sym}
 use Rattle.bufr_tables.specs.Prelude.{IsMemberRange}
-use Rattle.bufr_tables.proofs.TableDLemmas.{IsSequence, all-at, all-set, keys-set, last-end, last-set, longer, runs-more, sequences_kept-extended, some-runs}
+use Rattle.bufr_tables.proofs.TableDLemmas.{IsSequence, all-at, all-set, keys-set, last-end, last-set, longer, runs-more, stored_sequences-extended, some-runs}
 use Rattle.bufr_tables.proofs.table_d.TableD.extend.Goals as goal
 
 pub invariant_of-self-2 : goal.invariant_of-self-2
@@ -30,4 +30,4 @@ returns c =
     let some : 0 < length runs = some-runs c.self.inside.members.items runs (rw c.self.view_is c.requires) in
     let last : c.len-last.result - 1 + 1 ≡ length runs = omega arith in
     rw (c.in_ok-push.ensures.items, ← c.self.view_is)
-    (record { ok = sequences_kept-extended c.self.inside.members.items c.args.member runs (c.len-last.result - 1) c.index_mut.result.now last c.index_mut.ensures.value kept.inside kept.last })
+    (record { ok = stored_sequences-extended c.self.inside.members.items c.args.member runs (c.len-last.result - 1) c.index_mut.result.now last c.index_mut.ensures.value kept.inside kept.last })

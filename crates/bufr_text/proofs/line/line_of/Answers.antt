@@ -1,9 +1,9 @@
 use Rattle.std.proofs.Common.{sym, ◌∙◌, rules, Some, ap}
 use Rattle.bufr_text.proofs.ItemLemmas.{line-word, word-at}
 use Rattle.bufr_text.proofs.LineLemmas.{value_there}
-use Rattle.bufr_text.proofs.line.line_said.Goals as goal
+use Rattle.bufr_text.proofs.line.line_of.Goals as goal
 use Rattle.std.specs.Option.{unwrap_or}
-use Rattle.bufr_text.specs.Prelude.{Wrong}
+use Rattle.bufr_text.specs.Prelude.{Invalid}
 
 pub returns : goal.returns
 returns c =
@@ -13,5 +13,5 @@ returns c =
 pub returns-2 : goal.returns-2
 returns-2 c =
     let word = word-at c.args.line.now c.memchr.result _ c.memchr.ensures c.unwrap_or-len.ensures in
-    ap (λ o. unwrap_or o Wrong) c.worded.ensures ∙ rw (c.prefix.ensures, c.suffix.ensures, word)
+    ap (λ o. unwrap_or o Invalid) c.worded.ensures ∙ rw (c.prefix.ensures, c.suffix.ensures, word)
     (sym (line-word c.args.line.now (search rules) (search rules) (search rules)))
