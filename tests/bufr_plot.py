@@ -163,7 +163,7 @@ def memory_of_points(python: str, folder: pathlib.Path) -> None:
         want(status == 0, f"a map of {messages} messages ends with {status}")
         sizes.append(usage.ru_maxrss)
     growth = (sizes[1] - sizes[0]) * 1000 / 50_000
-    print(f"pictures: a map takes {sizes[0] // 1000} MB, and {growth:.0f} bytes for each of 50,000 points")
+    print(f"bufr_plot: a map takes {sizes[0] // 1000} MB, and {growth:.0f} bytes for each of 50,000 points")
     want(sizes[0] <= 120_000 and growth <= 250, "a map takes more than 120 MB or 250 bytes for each point")
 
 
