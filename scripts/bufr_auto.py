@@ -349,6 +349,8 @@ class Run:
     FIRST: int
     PIECE: str
     SOURCE: Type[Union[Messages, Documents]]
+    # How the texts of faults begin if the header may be invalid, so that it says nothing about the tables.
+    HEADER_FAULTS: Tuple[bytes, ...]
 
     def __init__(self, tables: bufr_sets.TableSet) -> None:
         words = [self.COMMAND, "-B", tables.file("B.csv"), "-D", tables.file("D.csv")]
@@ -450,6 +452,7 @@ class Dump(Run):
     """A run of `bufr dump`. Its pieces are messages, which are located by their offsets."""
 
     COMMAND, PLACE, FIRST, PIECE, SOURCE = "dump", b"offset ", 0, "message", Messages
+    HEADER_FAULTS = (b"1",)  # 10 to 19: the sections are invalid
     size_of, words_of = staticmethod(len), staticmethod(bufr_sets.words_of)
     descriptors = staticmethod(bufr_sets.descriptors)
 
@@ -474,6 +477,7 @@ class Encode(Run):
     """A run of `bufr encode`. Its pieces are documents, which are located by their line numbers."""
 
     COMMAND, PLACE, FIRST, PIECE, SOURCE = "encode", b"line ", 1, "document", Documents
+    HEADER_FAULTS = (b"50 ", b"61 ")  # an invalid line, perhaps in the header, or a header value out of range
 
     @staticmethod
     def size_of(octets: Octets) -> int:
@@ -538,6 +542,9 @@ class Part:
         if not self.is_started:
             for run in self.runs.values():
                 run.start(output)
+
+    def stop(self) -> None:
+        bufr_guard.kill([run.process for run in self.runs.values()])
 
 
 class Notes:
@@ -690,7 +697,8 @@ class Work:
                 if feed.poll is not None and time.monotonic() >= self.next_notes:
                     self.report()
             if self.is_over:
-                bufr_guard.stop()
+                if part and is_copied:
+                    part.stop()
                 return
             if part and not is_copied:
                 part.start(self.target.descriptor)
@@ -827,16 +835,15 @@ class Work:
                 self.status = max(self.status, 1)
                 continue
             fault = one.fault(place, size)
-            if fault.partition(b": ")[2][:1] != b"1":  # a fault from 10 to 19 means that the piece is not a message
+            if not fault.partition(b": ")[2].startswith(one.HEADER_FAULTS):
                 for reason in notes:
                     reason.count += 1
                     reason.first = reason.first or f"{within}at {one.PLACE.decode()}{place}"
             if fault:
                 bufr_guard.say(prefix + fault)
                 self.is_over = one.COMMAND == "encode"
-                if fault == b"line 1: 50 line\n" and b"BUFR" in feed.begin:
-                    told = f"{bufr_guard.name()}: {feed.name} is BUFR, not a dump; to dump it, leave out --encode\n"
-                    self.last.append(os.fsencode(told))
+                if fault == b"line 1: 50 line\n":
+                    self.last.append(bufr_guard.no_dump(feed.name, feed.begin))
             else:
                 if self.has_places:
                     name = os.fsencode("-" if feed.file is None else feed.name)

@@ -38,7 +38,7 @@ if TYPE_CHECKING:
     import signal
     from functools import partial
     from types import FrameType, TracebackType
-    from typing import Any, BinaryIO, Callable, Dict, Iterator, List, NoReturn, Optional, Sequence, Type, Union
+    from typing import Any, BinaryIO, Callable, Dict, Iterable, Iterator, List, NoReturn, Optional, Sequence, Type, Union
 else:
     # The public modules import enum and collections, which takes longer than everything else here.
     import _signal as signal
@@ -203,7 +203,7 @@ def reason(error: BaseException) -> str:
         is_named = isinstance(error.filename, (str, bytes))
         if is_named:
             return f"{os.fsdecode(error.filename)}: {error.strerror}"
-        is_write = error.errno in (errno.EPIPE, errno.ENOSPC, errno.EFBIG)
+        is_write = error.errno in (errno.EPIPE, errno.ENOSPC, errno.EFBIG, errno.EDQUOT, errno.EBADF)
         return f"write failed: {error.strerror}" if is_write else error.strerror
     if isinstance(error, RuntimeError) and str(error) == "can't start new thread":
         return "cannot start a thread; free some memory, or raise the process limit (ulimit -u)"
@@ -289,14 +289,27 @@ def bare(file: Optional[str], begin: bytes, piece: str = "message") -> bytes:
 
     If possible, the note identifies the likely format of the file.
     """
-    head = begin.lstrip()
-    if head[:1] == b"<":
-        head = head.lower()
-    kind = next((kind for sign, kind in KINDS_OF_FILES.items() if head.startswith(sign)), None)
-    if kind is None and all(octet >= 32 or octet in b"\1\3\t\n\r" for octet in head):
+    kind = kind_of(begin)
+    if kind is None and all(octet >= 32 or octet in b"\1\3\t\n\r" for octet in begin.lstrip()):
         kind = "text"
     looks = ": it is empty" if not begin else f": it looks like {kind}" if kind else ""
     return f"{name()}: {shown(file or 'standard input')} contains no {piece}s{looks}\n".encode()
+
+
+def no_dump(named: str, begin: bytes) -> bytes:
+    """Returns the note for a file that is clearly not a dump, or an empty bytes object if the format is not known."""
+    if b"BUFR" in begin:
+        return os.fsencode(f"{name()}: {named} is BUFR, not a dump; to dump it, leave out --encode\n")
+    kind = kind_of(begin)
+    return os.fsencode(f"{name()}: {named} is not a dump: it looks like {kind}\n") if kind else b""
+
+
+def kind_of(begin: bytes) -> Optional[str]:
+    """Returns the format of a file that begins with these bytes, or None if it is not one of `KINDS_OF_FILES`."""
+    head = begin.lstrip()
+    if head[:1] == b"<":
+        head = head.lower()
+    return next((kind for sign, kind in KINDS_OF_FILES.items() if head.startswith(sign)), None)
 
 
 class Progress:
@@ -425,7 +438,11 @@ def checked(status: int, has_told: bool = True, what: str = "bufr") -> int:
 
 def stop() -> None:
     """Kills the programs that are still running."""
-    for process in sum(RUNNING, []):
+    kill(sum(RUNNING, []))
+
+
+def kill(processes: Iterable[int]) -> None:
+    for process in processes:
         try:
             os.kill(process, signal.SIGKILL)
         except OSError:

@@ -93,14 +93,16 @@ class Asked:
 
     def conditions(self) -> Optional[Conditions]:
         """Returns the conditions given with --where, or None if --where was not given."""
-        if not self.has("--where"):
-            return None
-        import bufr_conditions
+        return conditions_of(self.all("--where")) if self.has("--where") else None
 
-        try:
-            return bufr_conditions.Conditions(self.all("--where"))
-        except ValueError as error:
-            raise misused(str(error)) from None
+
+def conditions_of(words: Sequence[str]) -> Conditions:
+    import bufr_conditions
+
+    try:
+        return bufr_conditions.Conditions(words)
+    except ValueError as error:
+        raise misused(str(error)) from None
 
 
 def is_condition(word: str) -> bool:

@@ -209,7 +209,9 @@ ECCODES = "/usr/share/eccodes/definitions"
 WREPORT_HAS = {(14, 85, 0), (14, 85, 1), (13, 98, 1), (13, 98, 102), (16, 98, 1), (19, 254, 1)}
 ECCODES_HAS = {(39, 1), *((78, local) for local in range(1, 9)), (98, 1), (98, 2), (98, 3), (98, 4), (98, 101), (254, 1)}
 
-NEWER = "get newer tables from WMO (wmo-im/BUFR4 on GitHub), and convert them with tables/convert.py"
+INSTALLED_CONVERTER = os.path.join(os.path.dirname(os.path.realpath(__file__)), "tables/convert.py")
+CONVERTER = INSTALLED_CONVERTER if os.path.isfile(INSTALLED_CONVERTER) else "tables/convert.py"
+NEWER = f"get newer tables from WMO (wmo-im/BUFR4 on GitHub), and convert them with {CONVERTER}"
 
 
 def is_local(fxy: str) -> bool:

@@ -404,7 +404,8 @@ def write(messages: Iterable[Message], stream: IO[bytes]) -> None:
     """Writes messages as a dump. `read` followed by `write` reproduces the output of `bufr dump` exactly.
 
     `write` numbers the subsets itself, so you can add or remove subsets. Raises `TypeError` for a value that is not a
-    `Decimal`, bytes or `None` (a `float` is not an exact decimal), and `ValueError` for a `Decimal` that is not a number.
+    `Decimal`, bytes or `None` (a `float` is not an exact decimal), and `ValueError` for a `Decimal` that is not a number or
+    a header key that does not exist.
     """
     for message in messages:
         stream.write(b"".join(line + b"\n" for line in _lines_of(message)))
@@ -413,7 +414,11 @@ def write(messages: Iterable[Message], stream: IO[bytes]) -> None:
 def _lines_of(message: Message) -> Iterator[bytes]:
     yield b"message"
     header = {**message.header, "optional": int(message.section2 is not None), "subsets": len(message.subsets)}
-    for key in [*HEADER, "optional", "subsets"]:
+    keys = [*HEADER, "optional", "subsets"]
+    for key in header:
+        if key not in keys:
+            raise ValueError(f"the header has no key '{key}'; the keys are {', '.join(HEADER)}")
+    for key in keys:
         yield b"%s %d" % (key.encode(), header[key])
     for word, octets in ((b"local1", message.local1), (b"section2", message.section2 or b"")):
         for at in range(0, len(octets), 32):
@@ -1090,7 +1095,8 @@ def encode(
     """Converts messages to BUFR. Runs `bufr encode` with these two tables, or `bufr-auto --encode` if you do not pass tables.
 
     `form` is "plain" or "compressed". Without `form`, each message is encoded in the form that its header specifies.
-    Raises `RunError` with the fault line if a message is rejected.
+    Raises `RunError` with the fault line if a message is rejected. The fault line gives the number of a line in the dump that
+    `write` produces for these messages.
     """
     if form not in (None, "plain", "compressed"):
         raise ValueError(f"form must be 'plain' or 'compressed', not {form!r}")

@@ -237,6 +237,16 @@ class Trial:
             told = [line.partition(b": ")[2] for line in done.stderr.splitlines() if line.startswith(b"bufr-auto: ")]
             starts = [line.startswith(b"1 document, at line 1: " + reason) for line, reason in zip(told, reasons)]
             self.holds(f"notes on {descriptors}", starts == [True, True], done)
+        # An invalid header says nothing about the tables, so no note does.
+        text = (TOP / "examples/synop.txt").read_bytes()
+        for changed, number in (
+            (text.replace(b"\n", b"\r\n"), b"1: 50 line"),
+            (text.replace(b"masterversion 39", b"masterversion x"), b"10: 50 line"),
+            (text.replace(b"masterversion 39\n", b""), b"10: 50 line"),
+            (text.replace(b"masterversion 39", b"masterversion 999"), b"10: 61 header range"),
+        ):
+            done = self.auto("--encode", stream=changed)
+            self.same(f"{number}", (done.stdout, done.stderr, done.returncode), (b"", b"line %s\n" % number, 1))
         # A line may have 4,096 bytes, and a document begins behind a comment of that length.
         one = made(39, LISTS[1], b"\1\1\0")
         for length, wanted in ((4096, (one, b"", 0)), (4097, (b"", b"line 1: 50 line\n", 1))):
@@ -258,6 +268,9 @@ class Trial:
         for text, line in ((comments + b"\nmessage\nedition 4\nnonsense\n", 200004), (b"message\nnonsense\n" + comments, 2)):
             done = self.auto("--encode", stream=text)
             self.same("many comments", (done.stdout, done.stderr, done.returncode), (b"", b"line %d: 50 line\n" % line, 1))
+        note = b"line 1: 50 line\nbufr-auto: standard input is not a dump: it looks like gzip data (use zcat)\n"
+        done = self.auto("--encode", stream=b"\x1f\x8b\x08\0\n")
+        self.same("gzip data", (done.stdout, done.stderr, done.returncode), (b"", note, 1))
         # BUFR is refused before its end, and a note names the option to leave out.
         note = b"bufr-auto: standard input is BUFR, not a dump; to dump it, leave out --encode\n"
         for begin in (b"BUFR", b"\1\r\r\n001\r\r\nIUSK01 ENMI 010000\r\r\nBUFR"):

@@ -421,7 +421,7 @@ def refusals(_folder: pathlib.Path) -> None:
         (["--levels", "-c", "PRESSURE"], b"007004"),
         (["--levels", "--keep", "STATION NUMBER", "-c", "007004"], b"001002"),
         (["-c", "airTemperature"], keys),
-        (["-c", "01210"], keys),
+        (["-c", "01210"], b"unknown column '01210': a descriptor has six digits; write '001210'"),
         (["-c", "0121011"], keys),
         (["-c", "01210x"], keys),
         (["-c", "01210\u0661"], keys),
@@ -494,6 +494,14 @@ def failures(folder: pathlib.Path) -> None:
         path.write_text(f"#!/bin/sh\n{lines}\n")
         path.chmod(0o755)
         return str(path)
+
+    tables = folder / "invalid" / "wmo-39"
+    shutil.copytree(TOP / "tables/wmo-39", tables)
+    with (tables / "D.csv").open("a") as table:
+        table.write("no row\n")
+    done = run("-c", "001015", SYNOP, environment={"BUFR_TABLES": str(tables.parent)})
+    told = f"table D: 45 csv\nbufr-csv: cannot use {tables}/D.csv: 45 csv\n".encode()
+    holds("an invalid table", (done.returncode, done.stdout, done.stderr) == (2, b"message,subset,001015\n", told), done)
 
     killed = script("killed", "head -c 5000 > /dev/null; kill -9 $$")
     for words in ([], ["-c", "001015,file"], ["--json"]):

@@ -72,6 +72,8 @@ REFUSED = [
     (["time=2024-01-02T03:04:5"], "the value in 'time=2024-01-02T03:04:5' can never match"),
     (["time=18"], "the value in 'time=18' can never match; write the time in the form time=2023-03-14T18"),
     (["time!=2024,2024-01-02T3"], "the value in 'time!=2024,2024-01-02T3' can never match"),
+    (["Category=0", SYNOP], "unknown key 'Category' in 'Category=0'; the keys are offset length edition"),
+    (["subsets>2", SYNOP], "'subsets>2' is neither a condition nor a file; to compare numbers, use --awk 'value[\"subsets\"] > 2'"),
     (["category", SYNOP], "the key 'category' has no value; use category=VALUE"),
     ([SYNOP, "time"], "the key 'time' has no value; use time=VALUE"),
     (["--awk", "1)"], "awk rejected the --awk condition '1)' (see above)"),
@@ -84,7 +86,7 @@ REFUSED = [
     (["--all"], "unknown option --all"),
     (["one", "two"], "expected at most one file; to read several, use 'cat one two | bufr-extract ...'"),
     (["nosuch"], "cannot open nosuch"),
-    (["/"], "cannot read the input: Is a directory"),
+    (["/"], "cannot read /: Is a directory"),
 ]
 # Conditions of awk that do more than select lines.
 NO_CONDITIONS = [
@@ -112,7 +114,7 @@ def takes_what_is_asked(program: str, path: pathlib.Path) -> None:
     # a message of edition 2 and a stray word among them, and a message that is cut at the end
     refused = [messages[7][:7] + b"\x02" + messages[7][8:], b"BUFR\0\0\x40\x04" + bytes(60)]
     path.write_bytes(
-        b"".join(HEADING + message + refused[n % 2] * (n % 50 == 9) for n, message in enumerate(messages))
+        b"".join(HEADING + message + refused[n // 50 % 2] * (n % 50 == 9) for n, message in enumerate(messages))
         + messages[0][:30]
     )
     listed = subprocess.run([program, "ls", path], stdout=subprocess.PIPE, stderr=subprocess.PIPE)

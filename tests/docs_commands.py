@@ -68,7 +68,9 @@ def typed(told: list, folder: pathlib.Path, environment: dict, timeout: int = 30
             script.append(f'echo $? > "{kept}/{number}.status"')
         subprocess.run(["bash", "-c", "\n".join(script)], cwd=folder, env=environment, timeout=timeout)
         for number, words, wanted in told:
-            said = (kept / f"{number}.out").read_text(encoding="utf-8", errors="replace").splitlines()
+            said = (kept / f"{number}.out").read_text(encoding="utf-8", errors="replace")
+            # Installed scripts print the absolute path of convert.py.
+            said = re.sub(r"/\S*/tables/convert\.py", "tables/convert.py", said).splitlines()
             status = (kept / f"{number}.status").read_text().strip()
             said += [f"(status {status})"] * (status != "0")
             if status != "0" if wanted is None else not alike(wanted, said):

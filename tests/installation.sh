@@ -205,6 +205,10 @@ python3 -c "import sys; sys.path.insert(0, '$top/tests'); import lib
 sys.stdout.buffer.write(lib.asking(lib.message(b'', lib.words('048001')), 39, 1))" > local
 ! bufr-lacks local > output 2> errors && grep -q "run: $prefix/share/bufr/tables/convert.py " errors ||
     fail "bufr-lacks on a centre's tables: $(< errors)"
+python3 -c "import sys; sys.path.insert(0, '$top/tests'); import lib
+sys.stdout.buffer.write(lib.asking(lib.message(b'', lib.words('063255')), 45))" > later
+! bufr-auto later > output 2> errors && grep -q "convert them with $prefix/share/bufr/tables/convert.py$" errors ||
+    fail "bufr-auto on later tables: $(< errors)"
 "$prefix/share/bufr/tables/convert.py" copy "$prefix/share/bufr/tables/wmo-39" &&
     cmp copy/D.csv "$prefix/share/bufr/tables/wmo-39/D.csv" || fail "convert.py: another set"
 # Its scripts run no other program than its own.
