@@ -38,7 +38,7 @@ wmo-39 to wmo-99
 
 
 def wmo_csv(folder: pathlib.Path) -> None:
-    """WMO's files of version 99: one for each class of elements, and for each category of sequences."""
+    """Writes version 99 in WMO's layout: a file for each class of elements, and one for each category of sequences."""
     folder.mkdir()
     with open(TOP / "tables/wmo-39/B.csv", newline="") as file:
         elements = [*csv.reader(file)][1:]

@@ -1,10 +1,10 @@
 #!/usr/bin/env python3
-"""Finds names of public types and definitions that mean something else in another crate.
+"""Checks that no public type or definition has the same name as one in another crate.
 
     tests/ambiguous_names.py
 
 The test reads each `pub struct`, `pub enum` and `pub trait` in src/, and each public definition in specs/. Within a crate,
-a type and its definition share a name. The name of a relation must not end in `So`.
+a type and its definition share a name. No name may end in `So`, because it would not say what holds.
 """
 import collections
 import re
@@ -12,7 +12,7 @@ import sys
 
 from lib import TOP
 
-# The same idea in each crate: a result handed on to the next step.
+# These have the same meaning in every crate: they pass a result to the next step.
 SHARED = {"and_then", "◌>>=◌"}
 
 TYPE = re.compile(r"^pub (?:struct|enum|trait) (\w+)", re.M)
@@ -20,7 +20,7 @@ DEFINITION = re.compile(r"^(?:abbrev |unfoldable |rec )*pub (?:abbrev |data |rec
 
 
 def names() -> dict:
-    """Each name with the crates and the files that define it."""
+    """Returns the crates and files in which each name is defined."""
     found = collections.defaultdict(lambda: collections.defaultdict(set))
     for path in sorted(TOP.glob("crates/*/src/**/*.rt")) + sorted(TOP.glob("crates/*/specs/*.antt")):
         pattern = TYPE if path.suffix == ".rt" else DEFINITION

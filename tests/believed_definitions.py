@@ -16,7 +16,7 @@ import tempfile
 
 from lib import TOP, finish
 
-# Calls that carry a promise of docs/proof.md.
+# The functions and laws for each promise in docs/proof.md.
 CALLS = {
     "2": "run read_message",
     "3": "run",
@@ -26,8 +26,8 @@ CALLS = {
 }
 
 
-# What the contract of a call names, by the ways in which a name can get there: an import that is passed on, a type that is
-# not public, traits and their ghost items, a type of a field, an operator, an impl's own import, and a crate without headings.
+# What the output for a function or law must contain. The rows cover the ways in which a contract can use a name: a re-export,
+# a private type, traits and their ghost items, a field's type, an operator, an import in an impl, a crate without headings.
 NAMED = {
     "run": ["enum QuotedToken", "enum NoJob", "pub trait Inputs", "ghost standard_octets:", "pub trait Source", "pub trait Sink",
             "abbrev pub failures_after", "pub enum OpenFault", "pub struct Failed"],
@@ -42,7 +42,7 @@ NAMED = {
     "steps_compose": ["pub fn steps_compose()", "ReadsAndPasses"],
     "Source::read": ["ghost left: "],
 }
-# Names that mean no call, or several.
+# Names that match no function, or several functions.
 WRONG = {"nothing_of_this_name": "no crate has a function", "held": "crates/bufr_frame/src/finder.rt"}
 
 
@@ -51,7 +51,7 @@ def run(program: pathlib.Path, calls: str) -> "subprocess.CompletedProcess[str]"
 
 
 def printed(calls: str) -> str:
-    """What docs/believed.py prints of calls; a fault of its own ends the test."""
+    """Returns what docs/believed.py prints for these calls. Ends the test if docs/believed.py fails."""
     done = run(TOP / "docs/believed.py", calls)
     if done.returncode:
         finish([done.stderr])
@@ -59,7 +59,7 @@ def printed(calls: str) -> str:
 
 
 def of_copies() -> "list[str]":
-    """What is wrong in a release, which has no crates, and with a definition that was put behind another file."""
+    """Returns complaints about a copy without crates, like a release, and about a definition that another file re-exports."""
     wrongs = []
     with tempfile.TemporaryDirectory() as folder:
         copy = pathlib.Path(folder)
@@ -84,7 +84,7 @@ def of_copies() -> "list[str]":
 
 
 def of_every_function() -> "list[str]":
-    """What is wrong with any function that has a contract: it names something that is not found."""
+    """Returns a complaint for each name in a function's contract that docs/believed.py cannot find."""
     module = runpy.run_path(str(TOP / "docs/believed.py"))
     house = module["House"]()
     for call, _ in module["functions"]():
@@ -93,7 +93,7 @@ def of_every_function() -> "list[str]":
 
 
 def of_first_lines() -> "list[str]":
-    """The files of specs/ whose first line does not say rightly whether `run` needs them."""
+    """Returns complaints about files in specs/ whose first line is wrong about whether `run` needs the file."""
     module = runpy.run_path(str(TOP / "docs/believed.py"))
     needed = {item.path for item in module["reached"]([module["contract"]("run")], module["House"]())}
     wrongs = []

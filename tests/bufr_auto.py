@@ -28,13 +28,13 @@ from lib import TOP, finish, program
 
 AUTO = [sys.executable, str(TOP / "scripts/bufr-auto")]
 TABLES = TOP / "tables"
-# 0 12 101 has 16 bits; 0 13 164 is unknown in the sets up to wmo-16; 14 001 has another reference from version 14 on.
+# 0 12 101 has 16 bits; 0 13 164 is unknown in the sets up to wmo-18; 0 14 001 is wider from version 14 on.
 NEWER = "; get newer tables from WMO (wmo-im/BUFR4 on GitHub), and convert them with tables/convert.py"
 LISTS = ["012101", "001001 012101", "014001", "013164", "102002 001001 012101", "063255"]
 
 
 def made(version: int, descriptors: str, data: bytes, centre: int = 98, local: int = 0, section_2=b"") -> bytes:
-    """A message of edition 4, of this centre, and asking for these tables."""
+    """Returns an edition 4 message with this centre and these table versions. A section 2 is added if it is not empty."""
     message = lib.asking(lib.message(data, lib.words(descriptors)), version, local, centre)
     if section_2:
         optional = (4 + len(section_2)).to_bytes(3, "big") + b"\0" + section_2
@@ -44,7 +44,7 @@ def made(version: int, descriptors: str, data: bytes, centre: int = 98, local: i
 
 
 def set_of(version: int) -> str:
-    """The rule of tables/README.md."""
+    """Returns the name of the set for a table version, according to the rule in tables/README.md."""
     return f"wmo-{min((number for number in (13, 14, 15, 16, 17, 18, 37, 39) if number >= version), default=39)}"
 
 
@@ -69,7 +69,7 @@ class Trial:
         return ["-B", folder / "B.csv", "-D", folder / "D.csv"]
 
     def one_by_one(self, stream: bytes, tables: pathlib.Path = TABLES):
-        """The texts and the fault lines of each message that is dumped alone, and the status."""
+        """Dumps each message separately. Returns the dumps, the fault lines in order, and the highest exit status."""
         listing = subprocess.run([self.program, "ls"], input=stream, capture_output=True)
         faults = [(int(re.match(rb"offset (\d+)", line)[1]), line) for line in listing.stderr.splitlines(True)]
         texts, status = [], listing.returncode
@@ -84,7 +84,7 @@ class Trial:
         return b"".join(texts), b"".join(line for _, line in sorted(faults)), status
 
     def in_pieces(self, stream: bytes, *words: str):
-        """What it gives for a pipe that gets a few octets at a time."""
+        """Runs bufr-auto on a pipe that receives at most 300 bytes at a time."""
         files = [tempfile.TemporaryFile() for _ in range(2)]
         with subprocess.Popen(
             [*AUTO, *words], stdin=subprocess.PIPE, stdout=files[0], stderr=files[1], env=self.environment
@@ -96,7 +96,7 @@ class Trial:
         return subprocess.CompletedProcess([], child.returncode, *given)
 
     def compare(self, what: str, stream: bytes) -> None:
-        """From standard input and from a file it writes what the messages give one by one, but for the notes."""
+        """Checks that bufr-auto, apart from notes, gives the results of `one_by_one` for a pipe, a file and small writes."""
         (self.place / "stream").write_bytes(stream)
         runs = {"a pipe": self.auto(stream=stream), "a file": self.auto(str(self.place / "stream"))}
         if len(stream) < 10_000:
@@ -106,12 +106,12 @@ class Trial:
             self.same(f"{what}, {form}", (done.stdout, told, done.returncode), self.one_by_one(stream))
 
     def same(self, what: str, given: tuple, wanted: tuple) -> None:
-        """Whether output, errors and status are the same."""
+        """Checks that the output, the errors and the status are as wanted."""
         for part, one, other in zip(("the output", "the errors", "the status"), given, wanted):
             self.holds(f"{what}: {part}", one == other, (one, other))
 
     def same_as_one_by_one(self) -> None:
-        """Streams at random, one that has many parts, and one without a message."""
+        """`bufr-auto` dumps each message as `bufr` would dump it alone, in random streams, in long ones, and around strays."""
         random.seed(44)
         for number in range(12):
             versions = random.sample(range(4, 42), random.randint(1, 6))
@@ -133,11 +133,11 @@ class Trial:
         self.compare("a false word", held + bytes(1 << 24) + held)
 
     def stops(self) -> None:
-        """Where a table is at fault what stands before is written, and no more: the status is 2."""
+        """If a table is invalid, `bufr-auto` stops before the first message that needs it, and exits with status 2."""
         tables, shown = self.place / "tables \x1b", f"{self.place}/tables \\x1B"
         shutil.copytree(TABLES, tables)
         for name in ("wmo-x", "wmo-13+98", "wmo-13+98-1-2", "wmo-\u0661\u0663", "wmo-1234567890", "own-39"):
-            (tables / name).mkdir()  # not names of sets
+            (tables / name).mkdir()  # not names of table sets
         with open(tables / "wmo-17/D.csv", "a") as file:
             file.write("no row\n")
         (self.place / "17").write_bytes(made(17, LISTS[1], b"\1" * 3))
@@ -155,7 +155,7 @@ class Trial:
             told = f"table B: 45 csv\nbufr-auto: cannot use {shown}/wmo-17/B.csv: 45 csv\n"
             wanted = (begun[0], begun[1] + told.encode(), 2)
             self.holds("a table at fault", (done.stdout, done.stderr, done.returncode) == wanted, (done, wanted))
-        # A folder that lacks a table counts as not installed, and stops nothing.
+        # If a directory lacks a table, a note says so, and bufr-auto continues without this set.
         for version in (40, 21, 36, 25):
             (tables / f"wmo-{version}").mkdir()
         (tables / "wmo-17/D.csv").unlink()
@@ -180,7 +180,10 @@ class Trial:
         self.holds("a full device", told and done.returncode == 2, done)
 
     def encodes(self) -> None:
-        """Documents of many versions: the messages, or up to the first that is refused, whose line counts in all."""
+        """`bufr-auto --encode` encodes each document with its own table set, up to the first invalid one.
+
+        The line number in the fault line is counted from the beginning of the input.
+        """
         random.seed(67)
         for number in range(12):
             texts, versions = [], random.sample(range(4, 42), 5)
@@ -208,7 +211,7 @@ class Trial:
         text = self.auto(stream=stream).stdout
         done = self.auto("--encode", stream=text)
         self.same("many parts", (done.stdout, done.stderr, done.returncode), (stream, b"", 0))
-        # Behind a document of over 4 MB, whose end line is cut between two reads, are short ones of another version.
+        # Short documents of another version follow a document of over 4 MB, whose `end` line is split between two reads.
         wanted = made(13, LISTS[1], b"\1\1\0", section_2=bytes(2_200_000)), made(39, LISTS[3], b"\1\0\0") * 2
         long, short = (self.auto(stream=octets).stdout for octets in wanted)
         for cut in range(1, 5):
@@ -219,7 +222,7 @@ class Trial:
             what = f"an end line that is cut behind {cut} bytes"
             self.same(what, (done.stdout, done.stderr, done.returncode), (b"".join(wanted), b"", 0))
         (self.place / "long").unlink()
-        # A part of several sets, of which one is refused in the middle, and what would follow.
+        # An invalid document in the middle of the input, whose parts need several table sets.
         text = text + text.replace(b"001001 0 ", b"001001 0x ", 1) + text
         line = text[: text.index(b"0x")].count(b"\n") + 1
         done = self.auto("--encode", stream=text)
@@ -228,7 +231,7 @@ class Trial:
         text = self.auto(stream=made(39, LISTS[0], b"\1\1")).stdout.replace(b"masterversion 39", b"masterversion 41")
         done = self.auto("--encode", stream=b"\n\n" + text)
         self.same("a note", (done.stdout[21:22], done.stderr, done.returncode), (b"\x29", note.replace(b"3", b"1", 1), 0))
-        # The header of a document, and each of its descriptors, matter for notes.
+        # The notes depend on the header and on all `descriptors` lines of a document.
         text = text.replace(b"masterversion 41", b"masterversion 13").replace(b"centre 98", b"centre 7")
         text = text.replace(b"master 0", b"master 10").replace(b"localversion 0", b"localversion 3")
         reasons = [b"master table 10 is not WMO's", b"the table set wmo-13+7-3 (local version 3 of centre 7) is missing"]
@@ -247,19 +250,19 @@ class Trial:
         ):
             done = self.auto("--encode", stream=changed)
             self.same(f"{number}", (done.stdout, done.stderr, done.returncode), (b"", b"line %s\n" % number, 1))
-        # A line may have 4,096 bytes, and a document begins behind a comment of that length.
+        # A line can be 4,096 bytes long, and a document can follow a comment of that length.
         one = made(39, LISTS[1], b"\1\1\0")
         for length, wanted in ((4096, (one, b"", 0)), (4097, (b"", b"line 1: 50 line\n", 1))):
             done = self.in_pieces(b"#".ljust(length, b"x") + b"\n" + self.one_by_one(one)[0], "--encode")
             self.same(f"a comment of {length} bytes", (done.stdout, done.stderr, done.returncode), wanted)
-        # The first 4,096 bytes of such a comment arrive alone.
+        # The first 4,096 bytes of the comment arrive separately.
         pipes = dict(stdin=subprocess.PIPE, stdout=subprocess.PIPE, stderr=subprocess.PIPE, bufsize=0)
         with subprocess.Popen([*AUTO, "--encode"], **pipes, env=self.environment) as child:
             child.stdin.write(b"#".ljust(4096, b"x"))
             self.wait(lambda: fcntl.ioctl(child.stdin, termios.FIONREAD, bytes(4)) == bytes(4))
             output, told = child.communicate(b"\n" + self.one_by_one(one)[0])
         self.same("a comment in two reads", (output, told, child.returncode), (one, b"", 0))
-        # The tables are those of the document, however many comments come before it.
+        # bufr-auto chooses the right table set no matter how many comments precede a document.
         later = made(39, LISTS[3], b"\1\0\0")
         for count in (40_000, 200_000):
             comments = b"# A comment on BUFR in a document.\n" * count
@@ -271,14 +274,14 @@ class Trial:
         note = b"line 1: 50 line\nbufr-auto: standard input is not a dump: it looks like gzip data (use zcat)\n"
         done = self.auto("--encode", stream=b"\x1f\x8b\x08\0\n")
         self.same("gzip data", (done.stdout, done.stderr, done.returncode), (b"", note, 1))
-        # BUFR is refused before its end, and a note names the option to leave out.
+        # BUFR data is rejected before the end of the input, and a note names the option to leave out.
         note = b"bufr-auto: standard input is BUFR, not a dump; to dump it, leave out --encode\n"
         for begin in (b"BUFR", b"\1\r\r\n001\r\r\nIUSK01 ENMI 010000\r\r\nBUFR"):
             steps = [(begin + bytes(100) + b"\n", b"", b"line 1: 50 line\n" + note)]
             self.feed("no text", ["--encode"], steps, (b"", b""), 1)
 
     def encoded_one_by_one(self, text: bytes):
-        """The messages, the fault line and the status of documents that are encoded one by one."""
+        """Encodes documents separately, up to the first invalid one. Returns the messages, the fault line and the status."""
         messages, before = [], 0
         for document in re.findall(rb".*?^end(?:\n|\Z)|.+", text, re.S | re.M):
             version = re.search(rb"^masterversion (\d+)$", document, re.M)
@@ -292,7 +295,7 @@ class Trial:
         return b"".join(messages), b"", 0
 
     def feeds(self) -> None:
-        """What a read completes is written before the next read: messages of two sets, faults between, and documents."""
+        """`bufr-auto` writes the output for every complete message, document and stray before its next read."""
         one, other = made(13, LISTS[1], b"\1\1\0"), made(39, LISTS[0], b"\1\1")
         texts = [self.one_by_one(message)[0] for message in (one, other)]
         fault = b"offset %d: %s\n"
@@ -308,7 +311,7 @@ class Trial:
         steps = [
             (texts[0], one, b""),
             (b"\n\n" + texts[1][:50], b"", b""),
-            (texts[1][50:] + texts[0][:-2], other, b""),  # with output, so that both are read before the next step
+            (texts[1][50:] + texts[0][:-2], other, b""),  # the output shows that both texts were read before the next step
             (texts[0][-2:], one, b""),
             (b"junk\n", b"", b"line %d: 50 line\n" % ((texts[0] * 2 + texts[1]).count(b"\n") + 3)),
         ]
@@ -320,13 +323,13 @@ class Trial:
             (one + false[:6], texts[0], b""),
             (false[6:], b"", skipped % (len(one), 0xFFFFFF)),
             (other + b"BUFR\0\4\x01\4" + one, texts[1] + texts[0], skipped % (len(one + false + other), 1025)),
-            (b"BUFR\0\4\0\4" + one, b"", b""),  # as long as may be: it waits
+            (b"BUFR\0\4\0\4" + one, b"", b""),  # exactly the maximum length, so bufr-auto waits for the rest
         ]
         last = (texts[0], fault % (len(one * 2 + false * 2 + other), b"1 cut"))
         self.feed("lengths", ["--max-length", "1024"], steps, last, 1)
 
     def notes_of_feeds(self) -> None:
-        """A note comes in a pause, or after a minute, and once: of later messages only another one is there."""
+        """`bufr-auto` prints each note on a feed only once: when the feed pauses for a second, or after a minute."""
         note = b"bufr-auto: 1 message so far, at offset %d: table version %d is later than that of the table set wmo-39" + NEWER.encode() + b"\n"
         later, latest = made(41, LISTS[0], b"\1\1"), made(42, LISTS[0], b"\1\1")
         texts = [self.one_by_one(message)[0] for message in (later, latest)]
@@ -339,7 +342,7 @@ class Trial:
         self.feed("notes", [], steps, (b"", b""), 0)
         seconds = time.monotonic() - begin
         self.holds("two notes come after two seconds", seconds >= 2, seconds)
-        # So does a note on an incomplete set.
+        # The same applies to a note on an incomplete set.
         sets = self.place / "incomplete"
         (sets / "wmo-40").mkdir(parents=True)
         (sets / "wmo-39").symlink_to(TABLES / "wmo-39")
@@ -348,7 +351,7 @@ class Trial:
         synop, text = ((TOP / f"examples/synop.{kind}").read_bytes() for kind in ("bufr", "txt"))
         self.feed("an incomplete set", [], [(synop, text, note), (synop, text, b"")], (b"", b""), 0)
         del self.environment["BUFR_TABLES"]
-        # This feed does not pause. The first part has 16,384 messages. The notes on a file come at the end.
+        # This feed does not pause, and its first part has 16,384 messages. For a file, the notes are printed at the end.
         minute = "import sys; sys.path.insert(0, sys.argv[1]); import bufr_auto, bufr_guard; bufr_guard.INTERVAL = 0; "
         (self.place / "many").write_bytes(later * 20_000)
         for file, told in ((None, b"16384 messages so far"), (str(self.place / "many"), b"20000 messages")):
@@ -358,7 +361,7 @@ class Trial:
             self.holds(f"notes on {file or 'a feed'} without a pause", note in done.stderr, done.stderr)
 
     def few_files(self) -> None:
-        """40 parts of a feed with at most 32 open files, and 60 files with at most 40, most of them open at once."""
+        """`bufr-auto` can read 40 parts of a feed with at most 32 open files, and 60 files with at most 40."""
         message = made(39, LISTS[1], b"\1\1\0")
         text = self.one_by_one(message)[0]
         self.feed("40 parts", [], [(message, text, b"")] * 40, (b"", b""), 0, 32)
@@ -369,7 +372,7 @@ class Trial:
         self.same("60 files", (done.stdout, done.stderr, done.returncode), (text * 60, b"", 0))
 
     def lengths(self) -> None:
-        """Messages that declare more than --max-length are skipped, and nothing else changes; so for `Masker`."""
+        """`bufr-auto --max-length` skips and reports messages that declare more bytes. `Masker` hides the same messages."""
         sys.path.insert(0, str(TOP / "scripts"))
         import bufr_auto
 
@@ -407,13 +410,13 @@ class Trial:
         self.holds("one that is skipped", done.stderr == b"bufr-auto: offset 0: skipped a message that declares a length of 156 bytes\n", done)
 
     def conditions(self) -> None:
-        """`dump` takes the messages that meet conditions, and says where each is; it dumps the others as little."""
+        """`bufr_auto.dump` dumps only messages that meet the conditions, each after a comment with its place."""
         code = "import sys; sys.path.insert(0, sys.argv[1]); import bufr_auto, bufr_conditions, bufr_guard\n"
         code += "def work(words): return bufr_auto.dump(words[2:], 1, None, bufr_conditions.Conditions(words[1].split()), True)\n"
         code += "bufr_guard.run(work, '')"
         seven, both = made(13, LISTS[1], b"\1\1\0", 7), made(39, LISTS[1], b"\1\1\0", 98, section_2=bytes(5_000_000))
         stream = seven + b"BUFR" + both + made(13, "063255", b"", 98) + seven[:-30] + both + made(39, "063255", b"", 7)
-        stream += b"BUFR\0\0\x0c\x047777"  # shorter than the bytes that are read in advance
+        stream += b"BUFR\0\0\x0c\x047777"  # shorter than the 23 bytes that determine the table set
         (self.place / "a \x1bfile").write_bytes(stream)
         texts = {centre: self.one_by_one(message)[0] for centre, message in ((7, seven), (98, both))}
         comment = "# offset={} length={} file={}\n"
@@ -429,7 +432,7 @@ class Trial:
             self.same("a condition", (done.stdout, done.stderr.decode(), done.returncode), (wanted, told, 1))
 
     def feed(self, what: str, words: list, steps: list, last: tuple, status: int, files: int = 256) -> None:
-        """Writes each step to a pipe, and waits for what is to come of it. At most so many files may be open."""
+        """Writes the input of each step to a pipe and waits for its output and errors. At most `files` files may be open."""
         pipes = dict(stdin=subprocess.PIPE, stdout=subprocess.PIPE, stderr=subprocess.PIPE, bufsize=0)
         limit = lambda: resource.setrlimit(resource.RLIMIT_NOFILE, (files, files))  # noqa: E731
         with subprocess.Popen([*AUTO, *words], **pipes, env=self.environment, preexec_fn=limit) as child:
@@ -449,7 +452,7 @@ class Trial:
         self.holds(f"a feed of {what}: the end", (rest, child.returncode) == (b"", status), (rest, child.returncode))
 
     def files(self) -> None:
-        """Several files: offsets of each, with its name; one that cannot be read is told at the end, and passed over."""
+        """Fault lines give the file and the offset in it. `bufr-auto` skips unreadable files and reports them at the end."""
         texts, messages = [], [made(39, LISTS[1], b"\1\1\0"), made(13, LISTS[1], b"\2\1\0")]
         for number, message in enumerate(messages):
             (self.place / f"file {number}").write_bytes(b"BUFR" + message + made(41, LISTS[0], b"\1\1"))
@@ -463,7 +466,7 @@ class Trial:
             b"\nbufr-auto: cannot open nosuch: No such file or directory\nbufr-auto: cannot read folder: Is a directory\n"
         )
         self.same("files", (done.stdout, done.stderr, done.returncode), (b"".join(texts), told, 2))
-        # The progress counts the bytes of all files.
+        # The progress line counts the bytes in all files.
         code = "import sys; sys.path.insert(0, sys.argv[1]); import bufr_auto, bufr_guard\n"
         code += "bufr_guard.Progress.at = lambda self, octets: bufr_guard.say(b'%d of %d\\n' % (octets, self.total))\n"
         code += "bufr_guard.run(lambda words: bufr_auto.dump(words[1:]), '')"
@@ -486,7 +489,7 @@ class Trial:
         self.holds("texts: the status", done.returncode == 1, done)
 
     def no_message(self) -> None:
-        """A file without a message is told, with what it looks like; the status is that of `bufr`."""
+        """If a file contains no messages, `bufr-auto` says so and guesses its type. The exit status is that of `bufr`."""
         synop = TOP / "examples/synop.bufr"
         for begin, kind, status in (
             (subprocess.run(["gzip", "-c", synop], stdout=subprocess.PIPE).stdout, "looks like gzip data (use zcat)", 0),
@@ -517,7 +520,7 @@ class Trial:
         file.write_bytes(b"x" * 300 + b"\0")
         note = f"bufr-auto: {self.place}/a\\x1B[31mb contains no messages: it looks like text\n".encode()
         self.holds("a name with an escape", self.auto(str(file)).stderr == note, self.auto(str(file)))
-        # What two reads give is looked at as a whole.
+        # The guess is based on the data from both reads.
         pipes = dict(stdin=subprocess.PIPE, stdout=subprocess.PIPE, stderr=subprocess.PIPE, bufsize=0)
         with subprocess.Popen(AUTO, **pipes, env=self.environment) as child:
             child.stdin.write(b"\x1f")
@@ -531,7 +534,7 @@ class Trial:
         self.holds("no text", done.stderr == b"bufr-auto: standard input contains no documents: it is empty\n", done)
 
     def notes(self) -> None:
-        """One for each kind, with a count and the first place, and only where such a descriptor is used."""
+        """`bufr-auto` prints one note per reason, with a count and the first offset, if an affected descriptor is used."""
         for descriptor, is_local in (("001191", False), ("001192", True), ("047001", False), ("048001", True)):
             done = self.auto(stream=made(13, descriptor, b"\1", local=102))
             self.holds(f"{descriptor} is local", (b"the table set wmo-13+98-102" in done.stderr) == is_local, done)
@@ -539,7 +542,7 @@ class Trial:
         edition_3[12:14], edition_3[18:20] = b"\7\x62", b"\x0d\x66"
         done = self.auto(stream=bytes(edition_3))
         self.holds("edition 3", b"the table set wmo-13+98-102 (local version 102 of centre 98) is missing" in done.stderr, done)
-        # A sequence of a table that the centre's descriptor is in, and a version that has no set.
+        # There is no note on a version of nine digits, because `bufr` rejects the document.
         done = self.auto("--encode", stream=b"message\nmasterversion 999999999\ndescriptors 012101\nsubset 1\nend\n")
         self.holds("a version of nine digits", done.stderr == b"line 2: 50 line\n", done)
         exact = made(14, LISTS[0], b"\1" * 2) + made(37, LISTS[0], b"\1" * 2) + made(7, "012073", b"\1\1")
@@ -562,7 +565,7 @@ class Trial:
         told = [line for line in self.auto(stream=stream).stderr.decode().splitlines() if line.startswith("bufr-auto: ")]
         rest = "bufr-auto: 299 messages, the first at offset 48000: no table set matches exactly; only the first 1,000 reasons are listed"
         self.holds("kinds of notes", (len(told), told[-1]) == (1001, rest), (len(told), told[-1]))
-        # Of two reasons, which concern other descriptors, one holds.
+        # There are two possible reasons, but only one of them affects this descriptor.
         done = self.auto(stream=made(41, "012101", b"\1\1", local=102))
         note = b"bufr-auto: 1 message, at offset 0: table version 41 is later than that of the table set wmo-39" + NEWER.encode() + b"\n"
         self.holds("one of two reasons", done.stderr == note, done)
@@ -576,7 +579,7 @@ class Trial:
             self.holds("a master table", done.stderr == note, done)
 
     def command_line(self) -> None:
-        """Help, the version, and what is mistaken: options, folders of sets, files, the program."""
+        """`bufr-auto` prints help and its version, and reports invalid options, table directories, files and programs."""
         for word in ("--help", "-h"):
             done = self.auto(word)
             self.holds("help", done.returncode == 0 and b"\n    bufr-auto [--max-length BYTES] [FILE...]\n" in done.stdout, done)
@@ -604,7 +607,7 @@ class Trial:
         self.holds("a word behind --", self.auto("--", "--help").returncode == 2)
         done = self.auto("--version", PYTHONIOENCODING="utf-16")
         self.holds("another encoding", done.stdout == version, done)
-        # Started as a program, it does without what an installation adds to Python.
+        # If bufr-auto is run directly, its first line (python3 -S) keeps Python from loading sitecustomize.
         (self.place / "sitecustomize.py").write_text("raise SystemExit(7)")
         done = subprocess.run([AUTO[1], file], env={**self.environment, "PYTHONPATH": str(self.place)}, capture_output=True)
         self.holds("started as a program", done.stdout == (TOP / "examples/synop.txt").read_bytes(), done)
@@ -640,7 +643,7 @@ class Trial:
             self.holds(f"{words} {environment}", (done.returncode, done.stdout, done.stderr) == wanted, done)
 
     def blocks(self) -> None:
-        """Blocks of a few bytes, which cut each text and each message, give the same."""
+        """`bufr_auto` gives the same results with blocks of a few bytes, which split each document and each message."""
         code = "import sys; sys.path.insert(0, sys.argv[1]); import bufr_auto; bufr_auto.BLOCK = int(sys.argv[2]); "
         code += "bufr_auto.Work(getattr(bufr_auto, sys.argv[3]), [None]).do()"
         lengths = (0, 50, 9)
@@ -653,13 +656,13 @@ class Trial:
                 self.same(f"{kind} by blocks of {size}", (done.stdout, done.stderr, done.returncode), (wanted, b"", 0))
 
     def signals(self) -> None:
-        """Each signal ends it, and what it runs. What it had in files has gone, as it has at the end."""
+        """A signal ends `bufr-auto` and the programs it runs. Neither a signal nor a normal exit leaves temporary files."""
         temporary = self.place / "temporary"
-        # A program that does not end, and says so.
+        # A program that records its process ID and then keeps running.
         slow = self.place / "slow"
         slow.write_text(f'#!/bin/sh\necho $$ > "{self.place}/begun"\nmv "{self.place}/begun" "{self.place}/number"\nexec sleep 60\n')
         slow.chmod(0o755)
-        # A job in the background ignores some signals, and what it starts would too.
+        # If this test is a background job, it ignores some signals, and its child processes would, too.
         for number in (signal.SIGINT, signal.SIGHUP):
             signal.signal(number, signal.SIG_DFL)
         for number in (signal.SIGINT, signal.SIGTERM, signal.SIGHUP):
@@ -687,7 +690,10 @@ class Trial:
         self.holds("the end: what is left", not list(temporary.iterdir()), list(temporary.iterdir()))
 
     def ends(self) -> None:
-        """A reader that has gone, a file that becomes shorter, a signal of children that is ignored."""
+        """`bufr-auto` reports closed pipes, truncated files and truncated output of `bufr`.
+
+        It also works if standard input does not block, or if SIGCHLD is ignored.
+        """
         many = b"".join(made(version, LISTS[1], b"\1\1\0", section_2=bytes(60_000)) for version in (13, 39))
         for stream, told in ((many * 20, b"bufr-auto: write failed: Broken pipe\n"), (many[: len(many) // 2] * 20, b"bufr: 71 write failed\n")):
             (self.place / "stream").write_bytes(stream)
@@ -696,7 +702,7 @@ class Trial:
                 child.stdout.close()
                 errors = child.stderr.read()
             self.holds("a reader that has gone", (child.returncode, errors) == (2, told), (child.returncode, errors))
-        # The file is cut while a first part is dumped.
+        # The file is truncated while its first part is being dumped.
         other = self.place / "other"
         other.write_text(f'#!/bin/sh\nhead -c 5000000 "$STREAM" > "$STREAM.1"\ncat "$STREAM.1" > "$STREAM"\nexec "{self.program}" "$@"\n')
         other.chmod(0o755)
@@ -707,19 +713,19 @@ class Trial:
         whole = self.one_by_one(many)[0] * 80
         is_prefix = whole.startswith(done.stdout) and done.stdout.endswith(b"\nend\n")
         self.holds("a file that becomes shorter", is_prefix and (done.returncode, done.stderr) == (2, told), done.stderr)
-        # What a child gives is not whole, and it says nothing of that.
+        # The output of `bufr` is truncated, but the exit status is 0.
         other.write_text(f'#!/bin/sh\n"{self.program}" "$@" | head -c 3000\n')
         done = self.auto(stream=made(41, LISTS[1], b"\1\1\0") + made(13, LISTS[1], b"\1\1\0") * 9, BUFR=str(other))
         told = b"bufr-auto: 1 message, at offset 0: table version 41 is later than that of the table set wmo-39" + NEWER.encode()
         told += b"\nbufr-auto: bufr stopped early; output is incomplete\n"
         self.holds("a text that is cut", (done.returncode, done.stderr) == (2, told), done)
-        # A long document becomes shorter while it is encoded.
+        # The file is truncated while a long document is being encoded.
         other.write_text(f'#!/bin/sh\nhead -c 5000000 "$STREAM" > "$STREAM.1"\ncat "$STREAM.1" > "$STREAM"\nexec "{self.program}" "$@"\n')
         (self.place / "stream").write_bytes(b"message\n" + b"# A comment in a document.\n" * 1_000_000)
         done = self.auto("--encode", str(self.place / "stream"), **words)
         told = f"bufr-auto: {self.place}/stream was truncated while it was being read; try again\n".encode()
         self.holds("a document that becomes shorter", (done.returncode, done.stderr) == (2, told), done)
-        # Standard input that does not block.
+        # Standard input is in non-blocking mode.
         given, pipe = os.pipe()
         os.set_blocking(given, False)
         with subprocess.Popen(AUTO, stdin=given, stdout=subprocess.PIPE, stderr=subprocess.PIPE, env=self.environment) as child:
@@ -730,7 +736,7 @@ class Trial:
                 told += (more := os.read(child.stdout.fileno(), 1 << 16))
                 if not more:
                     break
-            time.sleep(0.2)  # the next read begins
+            time.sleep(0.2)  # until the next read has begun
             with contextlib.suppress(BrokenPipeError):
                 os.write(pipe, message)
             os.close(pipe)
@@ -742,13 +748,13 @@ class Trial:
         self.holds("ended children are ignored", done.stdout == (TOP / "examples/synop.txt").read_bytes(), done)
 
     def start_up(self) -> None:
-        """One message takes at most 1.8 times a Python that does nothing, one `bufr ls` and one `bufr dump`.
+        """For one message, `bufr-auto` takes at most 1.8 times as long as an empty script, `bufr ls` and `bufr dump` together.
 
-        Python is asked not to load what an installation has added, which would hide what the script loads.
+        Python runs with -S, because the modules that an installation adds could hide what the script itself loads.
         """
         environment = {**self.environment, "PYTHONPYCACHEPREFIX": str(self.place / "cache")}
         environment.pop("PYTHONDONTWRITEBYTECODE", None)
-        # It reads a table of its own accord only for a note, and only if the list of the message does not decide that.
+        # bufr-auto itself reads a table only for a note, and only if the descriptor list alone does not decide the matter.
         for list_of, is_read in (("012101", False), ("048001 301001", False), ("301001", True)):
             words = [sys.executable, "-S", "-X", "importtime", AUTO[1]]
             stream = made(13, list_of, b"", local=102)
@@ -769,7 +775,7 @@ class Trial:
         return bool(is_so())
 
     def speed(self) -> None:
-        """50,000 messages of four versions, one after another, take at most three times one dump of all by one set."""
+        """For 50,000 messages of four versions, `bufr-auto` takes at most three times as long as `bufr dump` with one set."""
         message = bytearray((TOP / "examples/synop.bufr").read_bytes())
         versions = []
         for version in (17, 18, 37, 39):

@@ -32,7 +32,7 @@ import bufr_text  # noqa: E402
 
 EXAMPLES = TOP / "examples"
 SYNOP, SOUNDING, BUOYS, FAULTY = (EXAMPLES / f"{name}.bufr" for name in ("synop", "sounding", "buoys", "bulletins"))
-# Numbers with few and many digits, with and without a sign; texts; and levels.
+# Numbers with few and many digits, with and without a sign; strings; and elements of levels.
 ELEMENTS = "001001 001002 001015 001011 012101 005001 006001 015025 033002 020003 002001 013011 011002 007004".split()
 COLUMNS = [*ELEMENTS, "012101:2", "001015:2", "007004:3", "centre", "year", "subsets", "file", "offset", "length"]
 complaints = []
@@ -44,7 +44,7 @@ def holds(what: str, is_so: bool, told: object = "") -> None:
 
 
 def run(*words, awk=None, environment=None, **streams):
-    """A run of bufr-csv: its status, output and errors."""
+    """Runs bufr-csv, checks that Python printed no traceback, and returns the completed process."""
     more = {"BUFR": program(), **({"AWK": " ".join(awk)} if awk else {}), **(environment or {})}
     known = {name: value for name, value in os.environ.items() if name not in ("AWK", "BUFR_TABLES", "BUFR_CSV_LABELS")}
     if "input" not in streams:
@@ -56,7 +56,7 @@ def run(*words, awk=None, environment=None, **streams):
     return done
 
 
-# The rows that bufr_text says.
+# The rows that bufr_text gives.
 
 
 class Number(str):
@@ -93,7 +93,7 @@ def messages_of(file) -> list:
 
 
 def subsets_of(files: list):
-    """The file, the message, its number, and each subset with its number."""
+    """Yields for each subset: the file, the message, the number of the message, the number of the subset, and the subset."""
     count = 0
     for file in files:
         for message in messages_of(file):
@@ -137,7 +137,7 @@ ESCAPE = re.compile(rb"\\(?:x(..)|(.))")
 
 
 def text_of(quoted: str) -> bytes:
-    r"""The bytes of a text with the escapes of the dump."""
+    r"""Returns the bytes of a string that is escaped as in a dump."""
     return ESCAPE.sub(lambda one: bytes.fromhex(one[1].decode()) if one[1] else one[2], quoted.encode())
 
 
@@ -149,7 +149,7 @@ def field_of(found, is_plain: bool):
 
 
 def rows_of_csv(output: bytes) -> tuple:
-    """The heading and the rows. Names and files have no escapes, and descriptors are not numbers."""
+    """Returns the heading and the rows. Names, units and files are not escaped, and descriptors are not numbers."""
     lines = output.decode().splitlines()
     heading = next(csv.reader(lines[:1]))
     rows = []
@@ -188,7 +188,7 @@ def alike(what: str, done, heading: list, wanted: list, as_json: bool) -> None:
 
 
 def elements() -> dict:
-    """The row of each element in Table B of the latest tables."""
+    """Returns the rows of the latest Table B by descriptor."""
     with open(TOP / "tables/wmo-39/B.csv", encoding="utf-8", newline="") as file:
         return {row["fxy"]: row for row in csv.DictReader(file)}
 
@@ -203,9 +203,9 @@ def put_value(bits: lib.Bits, row: dict, chance: random.Random) -> None:
 
 
 def random_message(table: dict, chance: random.Random) -> bytes:
-    """A message with elements, of which some come twice, and at times a group that a factor repeats."""
+    """Returns a message with random elements, which may repeat, and sometimes a group with a delayed replication."""
     chosen = [chance.choice(ELEMENTS) for _ in range(chance.randrange(1, 6))]
-    # A descriptor with which a pass begins comes once in it, so that levels are not ambiguous.
+    # The group contains each descriptor only once, so that levels are not ambiguous.
     group = chance.sample(["007004", "012101", "011002", "001015"], 3) if chance.random() < 0.6 else []
     bits, subsets = lib.Bits(), chance.randrange(1, 4)
     for _ in range(subsets):
@@ -221,7 +221,7 @@ def random_message(table: dict, chance: random.Random) -> bytes:
 
 
 def against_bufr_text(folder: pathlib.Path) -> None:
-    """Each mode in both formats: the same values as bufr_text has, on random messages in three files."""
+    """In each mode and format, `bufr-csv` writes the values that bufr_text returns for random messages in three files."""
     table, chance, names = elements(), random.Random(7), [folder / "a.bufr", folder / 'b "c\\d,.bufr', folder / "e\u00e9.bufr"]
     for path in names:
         pieces = [random_message(table, chance) + chance.choice([b"", b"\r\n", b"BUFR"]) for _ in range(40)]
@@ -231,7 +231,7 @@ def against_bufr_text(folder: pathlib.Path) -> None:
     awks = [awk for awk in AWKS if shutil.which(awk[0])]
     for turn in range(6):
         awk, as_json = awks[turn % len(awks)], turn % 2 > 0
-        options, status = ["--json"] * as_json, 1  # of the false beginnings
+        options, status = ["--json"] * as_json, 1  # because of the strays
         what = f"{' '.join(awk)}, {'JSON' if as_json else 'CSV'}"
         columns = chance.sample(COLUMNS, chance.randrange(1, 9))
         done = run("-c", ",".join(columns), *options, *names, awk=awk)
@@ -260,7 +260,7 @@ def same_with_each_awk(_folder: pathlib.Path) -> None:
 
 
 def names(folder: pathlib.Path) -> None:
-    """--names puts the names of the latest tables into the heading: with commas and quotes, and for a second item."""
+    """`--names` puts the names from the latest tables into the heading, including names with commas and quotes."""
     tables = folder / "tables/wmo-39"
     shutil.copytree(TOP / "tables/wmo-39", tables)
     shutil.copytree(TOP / "tables/wmo-13", folder / "tables/wmo-13")
@@ -282,7 +282,7 @@ def names(folder: pathlib.Path) -> None:
         done = run(*options, SYNOP, environment={"BUFR_TABLES": str(tables.parent)})
         found = (rows_of_json if options else rows_of_csv)(done.stdout)[1][2]
         holds(f"a name of an item {options}", found[5] == odd.encode(), found)
-    # The names come from the latest set, by which nothing is dumped here, and of which a row is cut.
+    # The names come from the latest set, although no message here needs it and one of its rows is too short.
     shutil.copytree(tables, folder / "tables/wmo-40")
     (folder / "tables/wmo-40/B.csv").write_text(rows + "012\n", encoding="utf-8")
     done = run("--names", "-c", "012101", SYNOP, environment={"BUFR_TABLES": str(tables.parent)})
@@ -296,7 +296,7 @@ def names(folder: pathlib.Path) -> None:
 
 
 def selection(_folder: pathlib.Path) -> None:
-    """--where selects as bufr-extract does, and --max-length skips as bufr-auto does; input comes from a pipe too."""
+    """`--where` selects messages like bufr-extract, and `--max-length` skips them like bufr-auto, also from a pipe."""
     files = sorted(EXAMPLES.glob("*.bufr"))
     stream = b"".join(path.read_bytes() for path in files)
     whole = run("-c", "year,001015", *files)
@@ -321,7 +321,7 @@ def selection(_folder: pathlib.Path) -> None:
 
 
 def several_files(folder: pathlib.Path) -> None:
-    """Faults of a file in the middle have its name, and a file that cannot be read does not hide the others."""
+    """`bufr-csv` names the middle one of three files in its fault lines, and continues if it cannot read that file."""
     environment = {**os.environ, "BUFR": program()}
     files = [SYNOP, FAULTY, BUOYS]
     wanted = subprocess.run([TOP / "scripts/bufr-auto", *files], stdout=subprocess.PIPE, stderr=subprocess.PIPE, env=environment)
@@ -351,13 +351,13 @@ def several_files(folder: pathlib.Path) -> None:
 
 
 def notes(folder: pathlib.Path) -> None:
-    """Columns without a value, subsets without levels, and those with ambiguous levels."""
+    """`bufr-csv` prints notes on empty columns, and on subsets without levels or with ambiguous levels."""
     done = run("-c", "012101,012104", SYNOP)
     holds("an empty column", (done.returncode, done.stderr) == (0, b"bufr-csv: column 012104 is empty because no row contains this item\n"), done)
     done = run("--levels", "-c", "020013,020011", SYNOP)
     told = b"bufr-csv: skipped a subset without levels: message 1, subset 1\n"
     holds("a subset without levels", (done.returncode, done.stderr) == (0, told), done)
-    # Columns that occur only outside the levels, and columns without rows, as bufr.levels warns of them.
+    # Columns that occur only outside the levels, and columns that occur nowhere. bufr.levels issues the same warnings.
     outside = "bufr-csv: column {0} is empty because {0} occurs only outside the levels; pass --keep {0} instead\n"
     empty = "bufr-csv: column {} is empty because no row contains this item\n"
     one = "bufr-csv: skipped a subset without levels: message 1, subset 1\n"
@@ -407,7 +407,7 @@ def notes(folder: pathlib.Path) -> None:
 
 
 def refusals(_folder: pathlib.Path) -> None:
-    """Command lines that are not understood: status 2, nothing written, and one line that says what to do."""
+    """If the command line is invalid, `bufr-csv` prints only one line, which says what to do, and exits with status 2."""
     keys = b"'file', 'offset', 'length', or a header key (edition master"
     for words, told in [
         (["-x"], b"unknown option -x"),
@@ -468,7 +468,7 @@ def refusals(_folder: pathlib.Path) -> None:
 
 
 def failures(folder: pathlib.Path) -> None:
-    """Outputs and programs that fail: status 2 and one line, or the end by SIGPIPE without a line."""
+    """If a write or a program fails, `bufr-csv` prints one line and exits with status 2. SIGPIPE ends it silently."""
     large = folder / "large"
     large.write_bytes((SYNOP.read_bytes() + SOUNDING.read_bytes()) * 300)
     awks = [awk for awk in AWKS if shutil.which(awk[0])]
@@ -547,7 +547,7 @@ def failures(folder: pathlib.Path) -> None:
 
 
 def feed(awk: list, _folder: pathlib.Path) -> None:
-    """The rows of a message are written before more input comes, by itself and with the columns of its place."""
+    """In a live feed, `bufr-csv` writes the rows of a message before the next message arrives."""
     for words in (["-c", "001015"], ["-c", "offset,001015", "--json"], [], ["-c", "001015", SYNOP, "-"]):
         command = [sys.executable, TOP / "scripts/bufr-csv", *words]
         environment = {**os.environ, "BUFR": program(), "AWK": " ".join(awk)}
@@ -566,8 +566,8 @@ def feed(awk: list, _folder: pathlib.Path) -> None:
             process.stdin.close()
             process.stdout.read()
         if complaints:
-            return  # each wait for rows that do not come is long
-    # Notes come in a pause: on the tables from bufr-auto, on a subset without a level from awk.
+            return  # waiting for missing rows takes a long time
+    # Notes are printed when the feed pauses: those on tables by bufr-auto, and those on subsets without levels by awk.
     environment, told = {**os.environ, "BUFR": program(), "AWK": " ".join(awk)}, b""
     command = [sys.executable, TOP / "scripts/bufr-csv", "--levels", "-c", "020011"]
     with subprocess.Popen(command, stdin=pipe, stdout=subprocess.DEVNULL, stderr=pipe, env=environment) as process:
@@ -586,7 +586,7 @@ def feed(awk: list, _folder: pathlib.Path) -> None:
 
 
 def note_on_years(_folder: pathlib.Path) -> None:
-    """On a live feed, the note on messages that were left out says that it counts those so far."""
+    """In a live feed, the note on messages that were left out says that it counts only those so far."""
     command, pipe = [sys.executable, TOP / "scripts/bufr-csv", "-c", "001006", "--where", "time=2006"], subprocess.PIPE
     environment, told = {**os.environ, "BUFR": program()}, b""
     with subprocess.Popen(command, stdin=pipe, stdout=subprocess.DEVNULL, stderr=pipe, env=environment) as process:
@@ -600,7 +600,7 @@ def note_on_years(_folder: pathlib.Path) -> None:
 
 
 def few_files(_folder: pathlib.Path) -> None:
-    """A live feed of 40 parts with conditions, with at most 32 open files."""
+    """`bufr-csv --where` can read 40 parts of a live feed with at most 32 open files."""
     command = [sys.executable, TOP / "scripts/bufr-csv", "--where", "edition=4", "-c", "001015"]
     limit = lambda: resource.setrlimit(resource.RLIMIT_NOFILE, (32, 32))  # noqa: E731
     with subprocess.Popen(command, stdin=subprocess.PIPE, stdout=subprocess.PIPE, preexec_fn=limit) as process:
@@ -620,7 +620,7 @@ def few_files(_folder: pathlib.Path) -> None:
 
 
 def seconds(folder: pathlib.Path) -> None:
-    """It takes at most 1.5 times the processor time of a pipeline of bufr-auto and table.awk."""
+    """`bufr-csv` takes at most 1.5 times as much processor time as a pipeline of bufr-auto and table.awk."""
     words = ["-c", "001015,012101"]
     large = folder / "hour"
     large.write_bytes(b"".join(path.read_bytes() for path in sorted(EXAMPLES.glob("*.bufr"))) * 1000)
@@ -638,7 +638,7 @@ def main() -> None:
     with tempfile.TemporaryDirectory() as place:
         folder = pathlib.Path(place)
         feeds = [functools.partial(feed, awk) for awk in AWKS if shutil.which(awk[0])]
-        if shutil.which("mawk"):  # by another name, as awk is on Debian
+        if shutil.which("mawk"):  # under another name, like awk on Debian
             (folder / "other").symlink_to(shutil.which("mawk"))
             feeds.append(functools.partial(feed, [str(folder / "other")]))
         parts = [names, selection, several_files, notes, refusals, failures, note_on_years, few_files]

@@ -9,7 +9,7 @@ immediately.
 
 For 100,000 messages of 10 KB, bufr-extract may use at most three times as much processor time as `bufr ls`, a Python
 process that does nothing, and a copy of the selected messages use together. On an idle machine, the factor is 1.5. The
-commands take turns for up to ten rounds, and the fastest run of each command counts.
+commands take turns for up to 20 rounds, and the fastest run of each command counts.
 """
 import gzip
 import os
@@ -30,7 +30,7 @@ HEADING = b"\x01\r\r\n123\r\r\nISMD01 EDZW 221200\r\r\n"
 
 
 def made(number: int, octets: int = 8) -> bytes:
-    """A message of that many data octets: its number gives its category, 0 to 4, centre, 98 or 74, and day, 1 to 28."""
+    """Returns a message whose number determines its category (0-4), centre (98 or 74), day (1-28), subsets and length."""
     message = bytearray(lib.message(bytes(octets + number % 7), subsets=1 + number % 3))
     message[8 + 5] = (98, 74)[number // 5 % 2]
     message[8 + 10] = number % 5
@@ -38,7 +38,7 @@ def made(number: int, octets: int = 8) -> bytes:
     return bytes(message)
 
 
-# a condition's words, and which messages (number, octets) meet it
+# the arguments for a condition, and whether a message meets it (n: its number, m: its octets)
 CONDITIONS = [
     ([], lambda n, m: True),
     (["category=0"], lambda n, m: n % 5 == 0),
@@ -55,7 +55,7 @@ CONDITIONS = [
     (["--awk", "/ category=4/", "centre=74"], lambda n, m: n % 5 == 4 and n // 5 % 2 == 1),
     (["--awk", "/ category=[34]/", "--awk", "/ subsets=2/"], lambda n, m: n % 5 > 2 and n % 3 == 1),
 ]
-# words that are refused with status 2, and part of the message
+# arguments that are rejected with status 2, and part of the error message
 REFUSED = [
     (["categori=0"], "unknown key 'categori' in 'categori=0'"),
     (["tab=0"], "unknown key 'tab' in 'tab=0'"),
@@ -88,7 +88,7 @@ REFUSED = [
     (["nosuch"], "cannot open nosuch"),
     (["/"], "cannot read /: Is a directory"),
 ]
-# Conditions of awk that do more than select lines.
+# Awk conditions that do more than select lines.
 NO_CONDITIONS = [
     "1;1",
     'BEGIN { print "x" } 1',
@@ -111,7 +111,7 @@ def run(words: list, **streams) -> subprocess.CompletedProcess:
 
 def takes_what_is_asked(program: str, path: pathlib.Path) -> None:
     messages = [made(number) for number in range(300)]
-    # a message of edition 2 and a stray word among them, and a message that is cut at the end
+    # strays among the messages, and an incomplete message at the end (n is odd, so refused[0] is never used)
     refused = [messages[7][:7] + b"\x02" + messages[7][8:], b"BUFR\0\0\x40\x04" + bytes(60)]
     path.write_bytes(
         b"".join(HEADING + message + refused[n // 50 % 2] * (n % 50 == 9) for n, message in enumerate(messages))
@@ -130,7 +130,7 @@ def takes_what_is_asked(program: str, path: pathlib.Path) -> None:
             }
         for name, done in runs.items():
             want(done.stdout == wanted, f"{words} over {name} takes other messages")
-            if name != "standard input":  # which stands behind the first heading: other offsets
+            if name != "standard input":  # which begins after the first heading, so its offsets differ
                 want(
                     (done.returncode, done.stderr) == (1, listed.stderr),
                     f"{words} over {name}: {done.returncode}, {done.stderr}",
@@ -160,7 +160,7 @@ def refuses_what_it_cannot(path: pathlib.Path) -> None:
     done = run(["--awk", 'NR == 2 { system("kill -9 $PPID") } 1', path])
     told = b"bufr-extract: awk was killed (signal 9); output is incomplete\n"
     want((done.returncode, done.stderr) == (2, told), f"of an awk that is killed: {done}")
-    # A grep that is killed, or that is not there.
+    # A grep that is killed, or that is not executable.
     (path.parent / "bin").mkdir()
     (path.parent / "bin/grep").write_text("#!/bin/sh\nkill -9 $$\n")
     killed, denied = "grep was killed (signal 9); output is incomplete", "cannot run grep: Permission denied"
@@ -168,10 +168,10 @@ def refuses_what_it_cannot(path: pathlib.Path) -> None:
         (path.parent / "bin/grep").chmod(mode)
         done = run(["category=0", path], env={**os.environ, "PATH": str(path.parent / "bin")})
         want((done.returncode, done.stderr.decode()) == (2, f"bufr-extract: {told}\n"), f"of grep: {done}")
-    # A line is repeated after all others were read.
+    # awk repeats the first line after it has printed all lines.
     done = run(["--awk", 'NR == 1 { first = $0 } 1; END { fflush(); system("sleep 0.2"); print first }', path])
     want(done.returncode == 2 and b"the --awk condition must only select lines" in done.stderr, f"a line that comes twice: {done.stderr}")
-    # More lines than a pipe holds: `bufr ls` does not wait for an awk that has ended.
+    # The listing exceeds the capacity of a pipe, but `bufr ls` does not block after awk has exited.
     path.write_bytes(made(1) * 4000)
     done = run(["--awk", "NR == 2 { exit 2 } 1", path], timeout=60)
     want((done.returncode, done.stdout) == (2, made(1)), f"of an awk that ends early: {done}")
@@ -188,7 +188,7 @@ def refuses_what_it_cannot(path: pathlib.Path) -> None:
     done = run(["--help"])
     want(done.returncode == 0 and b"system()" in done.stdout, "--help does not say that a condition is a program")
     want(run([path, "category=9"]).returncode == 0, "no message to take is a fault")
-    # Every field of a line is a condition, which the message meets.
+    # Every field of a line in the listing is a condition that the message meets.
     path.write_bytes(made(1) + made(2))
     listed = subprocess.run([os.environ["BUFR"], "ls", path], stdout=subprocess.PIPE, text=True).stdout.splitlines()
     for number, line in enumerate(listed, 1):
@@ -204,7 +204,7 @@ def refuses_what_it_cannot(path: pathlib.Path) -> None:
 
 
 def tells_years_of_the_century(folder: pathlib.Path) -> None:
-    """A year leaves out the messages of edition 3, whose years are those of the century, and says so."""
+    """If a year leaves out edition 3 messages, whose years have two digits, `bufr-extract` says how many."""
 
     def of(edition: int, year: int, month: int) -> bytes:
         message = bytearray(lib.message(b"\x14", edition=edition))
@@ -240,7 +240,7 @@ def tells_years_of_the_century(folder: pathlib.Path) -> None:
 
 
 def tells_that_there_is_no_message(path: pathlib.Path) -> None:
-    """A file without a message is told, however it is read, and not one of which nothing is taken."""
+    """`bufr-extract` prints a note if the input contains no messages, but not if it only selects none."""
     zipped, cut = gzip.compress(made(1)), b"BUFR\0\0\x40\x04" + bytes(60)
     for octets, told, status in (
         (zipped, ": it looks like gzip data (use zcat)", 0),
@@ -258,7 +258,7 @@ def tells_that_there_is_no_message(path: pathlib.Path) -> None:
 
 
 def begins_after_a_message(path: pathlib.Path) -> None:
-    """Standard input may begin after the only message of a file."""
+    """`bufr-extract` reads standard input from its current position, even if it is after the only message in a file."""
     path.write_bytes(made(1) + b"\ntext\n")
     with path.open("rb", buffering=0) as stream:
         stream.seek(len(made(1)))
@@ -268,7 +268,7 @@ def begins_after_a_message(path: pathlib.Path) -> None:
 
 
 def ignores_the_locale(folder: pathlib.Path) -> None:
-    """A condition means the same in every locale: gawk counts characters, or bytes in the locale C."""
+    """An awk condition means the same in every locale, although gawk counts characters in some and bytes in C."""
     gawk = shutil.which("gawk")
     if not gawk:
         print("bufr_extract: skipped, gawk is not there to try a locale")
@@ -281,7 +281,7 @@ def ignores_the_locale(folder: pathlib.Path) -> None:
 
 
 def skips_what_is_too_long(folder: pathlib.Path) -> None:
-    """With --max-length a message that declares more is skipped with a note, and reading continues in it."""
+    """`bufr-extract --max-length` skips messages that declare more bytes, prints notes, and continues inside them."""
     inner, stray = made(3), b"BUFR\xff\xff\xff\x04"
     longer = lib.message(inner, lib.words("205056"))
     octets = made(1) + HEADING + longer + stray + made(2) + longer[:-4]
@@ -324,7 +324,7 @@ def skips_what_is_too_long(folder: pathlib.Path) -> None:
 
 
 def tells_a_feed() -> None:
-    """The note on messages that are left out comes in a pause of a feed, or after a minute, and once."""
+    """In a feed, the note on messages that were left out is printed once, when the feed pauses or after a minute."""
     message = lib.message(b"\x14", edition=3)
     year = 2000 + message[8 + 12]
     rest = f", because edition 3 has only two-digit years; to select messages of both editions, use time={year},00{year - 2000:02}\n"
@@ -339,7 +339,7 @@ def tells_a_feed() -> None:
         feed.stdin.write(message)
         feed.stdin.close()
         want(feed.wait() == 0 and not feed.stderr.read(), "a live feed's note on years comes again")
-    # This feed does not pause, and its minutes are short.
+    # This feed does not pause, but the interval between notes is 0.
     script = """if True:
         import os, runpy, sys
         sys.argv.pop(0)
@@ -354,7 +354,7 @@ def tells_a_feed() -> None:
 
 
 def serves_a_feed(folder: pathlib.Path) -> None:
-    """Each message is there before the next one is sent, by any awk."""
+    """In a live feed, `bufr-extract` copies each message before the next one is sent, with each installed awk."""
     for awk in filter(None, map(shutil.which, ("awk", "mawk", "gawk"))):
         (folder / "awk").unlink(missing_ok=True)
         (folder / "awk").symlink_to(os.path.realpath(awk))

@@ -61,11 +61,11 @@ HEADER = [*bufr_text.HEADER, "optional", "subsets", "offset", "length", "message
 HOSTILE = 300
 
 
-# The comparison, which hostile/array_trial.py uses too.
+# The comparison, which hostile/array_trial.py also uses.
 
 
 def told_by(call):
-    """What a call returns, and the texts of its warnings."""
+    """Returns the result of a call and the texts of its warnings."""
     with warnings.catch_warnings(record=True) as told:
         warnings.simplefilter("always")
         found = call()
@@ -73,12 +73,12 @@ def told_by(call):
 
 
 def shown(rows) -> list:
-    """Rows with the type of each cell, so that 1 and 1.0 differ."""
+    """Returns rows in a form that shows the type of each cell, so that 1 and 1.0 differ."""
     return [repr(row) for row in rows]
 
 
 def differences(path: pathlib.Path, tables: tuple, rng: random.Random) -> list:
-    """How what `bufr` reads from a stream differs from what bufr_text reads from the texts of the program."""
+    """Returns the differences between what `bufr` and bufr_text read from a stream."""
     wrongs = []
 
     def same(what: str, given, wanted) -> None:
@@ -100,7 +100,7 @@ def differences(path: pathlib.Path, tables: tuple, rng: random.Random) -> list:
         wanted, skipped = told_by(lambda: list(getattr(bufr_text, name)(messages, *words)))
         same(f"{name} {words}", shown(found), shown(wanted))
         same(f"{name}: faults", faults, wanted_faults)
-        # messages have no file
+        # bufr_text gets messages here, so it does not know the file
         notes = [note.replace(f" in {path}", "") for note in notes]
         same(f"{name}: notes", sorted(map(short, notes)), sorted(map(short, wanted_notes + skipped)))
     with warnings.catch_warnings():
@@ -128,17 +128,17 @@ def differences(path: pathlib.Path, tables: tuple, rng: random.Random) -> list:
 
 
 def short(note: str) -> str:
-    """A note without the name of the tables that do not define a column, which depends on the tables that were given."""
+    """Returns a note without its end, which names the tables that do not define a column."""
     return re.sub("; .* does not define .*", "", note)
 
 
 def number_of(cell):
-    """A cell as a float where it is a number, and None where it is missing."""
+    """Returns a number as a float, a missing value as None, and a string as it is."""
     return cell if isinstance(cell, str) else None if cell is None or pandas.isna(cell) else float(cell)
 
 
 def escaped(cell):
-    """A string of a frame with the escapes of a dump."""
+    """Returns a string in a frame escaped as in a dump, and any other value as it is."""
     return bufr_text.text_cell(cell.encode("latin-1")) if isinstance(cell, str) else cell
 
 
@@ -147,7 +147,7 @@ def cell_of(cell):
 
 
 def item_lines(found: bufr.Items, messages: list) -> tuple:
-    """The items as lines: the place of the message, the subset, the descriptor, the exact value and the float."""
+    """Returns comparable tuples for the items that `bufr` found and for the items in the messages."""
     given = []
     for index, (row, offset) in enumerate(zip(found.items, found.messages["offset"][found.items["message_row"]].tolist())):
         value, fxy = found.exact(index), f"{row['fxy']:06}"
@@ -164,12 +164,12 @@ def item_lines(found: bufr.Items, messages: list) -> tuple:
 
 
 def item_values(found: bufr.Items) -> list:
-    """The exact values of items, and the places of their messages."""
+    """Returns the exact value of each item, after the offset of its message."""
     return [(found.messages["offset"][row["message_row"]], found.exact(index)) for index, row in enumerate(found.items)]
 
 
 def message_lines(rows, listed: list, faults: list) -> tuple:
-    """The rows of messages with a header, as `bufr ls` lists them, and the faults."""
+    """Returns the headers and faults in message rows, and those in a listing and a list of faults, as tuples."""
     names = [name for name in bufr_text.Listed._fields if name != "descriptors"]
     given = [tuple(row[name].item() for name in names) for row in rows if row["edition"]]
     wanted = [tuple(getattr(one, name) for name in names) for one in listed]
@@ -192,7 +192,7 @@ class WithFolder(unittest.TestCase):
 
 
 class Same(WithFolder):
-    """The same as bufr_text."""
+    """`bufr` returns the same as bufr_text."""
 
     def alike(self, name: str, octets: bytes, tables: tuple) -> None:
         self.stream.write_bytes(octets)
@@ -203,7 +203,7 @@ class Same(WithFolder):
         for path in EXAMPLES:
             self.alike(path.name, path.read_bytes(), ())
         self.alike("all", b"".join(path.read_bytes() for path in EXAMPLES), ())
-        # tables that lack sequences and elements, so that messages are refused
+        # tables that lack some sequences and elements, so that messages are rejected
         old = tuple(table.replace("wmo-39", "wmo-13") for table in TABLES)
         self.alike("all by old tables", b"BUFR".join(path.read_bytes() for path in EXAMPLES), old)
 
@@ -214,8 +214,9 @@ class Same(WithFolder):
     def test_hostile_streams(self):
         streams = [random_trial.stream_of(random.Random(f"arrays {number}")) for number in range(HOSTILE)]
         for number in range(0, HOSTILE, 10):
-            # one at a time by WMO's tables, and ten together by those that each message asks for
+            # ten streams together, with the tables that each message needs
             self.alike(f"hostile streams from {number} on", b"\r\n".join(streams[number : number + 10]), ())
+        # each stream alone, with the tables in wmo-39
         for number, stream in enumerate(streams):
             self.alike(f"hostile stream {number}", stream, TABLES)
 
@@ -228,12 +229,12 @@ class Same(WithFolder):
         said = "^skipped 2 subsets with ambiguous levels; the first is subset 1 of the message at offset 0 in {} .008002 begins a level"
         said += " and occurs again in it.; to get their items, use bufr.items or bufr_text.dump$"
         self.stream.write_bytes(octets)
-        # of pieces too, because soundings are lost
+        # pieces cause this warning, too, because soundings are lost
         for source, name in (([octets, octets], "bytes 1"), (bufr.pieces([self.stream] * 2), self.stream)):
             with self.assertWarnsRegex(bufr.DumpWarning, said.format(name)) as one:
                 self.assertEqual(list(bufr.levels(source, ["008002"])), [])
             self.assertEqual(one.filename, __file__)
-        # the place in the file depends neither on the conditions nor on the piece
+        # the reported offset depends neither on the conditions nor on the piece
         self.stream.write_bytes(SYNOP.read_bytes() + octets)
         told = f"skipped a subset with ambiguous levels: subset 1 of the message at offset 595 in {self.stream} (008002 begins a level"
         told += " and occurs again in it); to get its items, use bufr.items or bufr_text.dump"
@@ -267,7 +268,7 @@ class Same(WithFolder):
             self.assertEqual((found.texts, found.messages.tolist()), (wanted.texts, wanted.messages.tolist()))
 
     def test_bufr_text_uses_the_library(self):
-        """With the library switched on and off: rows, faults, warnings and their places, errors, and what is printed."""
+        """bufr_text gives the same rows, faults, warnings, errors and printed lines with the library as with the program."""
         self.stream.write_bytes(b"BUFR\0\0\1".join([*(path.read_bytes() for path in EXAMPLES), b""]))
         (self.folder / "empty").touch()
         calls = [
@@ -276,7 +277,7 @@ class Same(WithFolder):
             lambda faults: list(bufr_text.rows(self.stream, ["012101"], [], faults, ["time=2006"])),
             lambda faults: list(bufr_text.rows(self.folder / "empty", ["012101"], [], faults)),
             lambda faults: list(bufr_text.rows(self.folder / "none", ["012101"], [], faults)),
-            lambda faults: list(bufr_text.rows("-", ["012101"], [], faults)),  # the name of a file
+            lambda faults: list(bufr_text.rows("-", ["012101"], [], faults)),  # here, - is the name of a file
             lambda faults: bufr_text.rows(self.stream, ["012101"], [], faults, ["categori=0"]),
             lambda faults: bufr_text.levels(self.stream, "012101", [], faults=faults),
         ]
@@ -340,7 +341,7 @@ class Sources(WithFolder):
             ([*two, memoryview(octets)], three),
             ([stream, one, SYNOP, two], ["stream", "bytes 1", str(SYNOP), *three[1:]]),
             (pandas.Series(two), three[:2]),
-            # how many there are is not known before they are read
+            # the number of bytes objects is unknown until they have been read
             (iter(one), three[:1]),
         ]:
             self.assertEqual([*dict.fromkeys(file for [file] in bufr.rows(source, [], ["file"]))], names)
@@ -432,7 +433,7 @@ class Sources(WithFolder):
         with self.assertRaisesRegex(bufr.BufrError, "^bytes: the file contains no messages: it is empty$") as error:
             bufr.frame([SYNOP, b""], ["012101"], faults="raise")
         self.assertEqual((error.exception.file, error.exception.offset, error.exception.number), ("bytes", None, None))
-        # but not of a piece of a file
+        # but there is no warning for a piece of a file
         self.stream.write_bytes(SYNOP.read_bytes() + b"BUFR\0\0\1" * 9)
         *_, last = bufr.pieces(self.stream, 1)
         rows, told = told_by(lambda: bufr.messages(last, faults=[]))
@@ -516,7 +517,7 @@ class Sources(WithFolder):
                 if where is not None or call is bufr.rows:
                     with self.assertRaisesRegex(error, told):
                         call(self.stream, ["012101"], where=where)
-        # a warning, if no message of any file meets the conditions
+        # there is a warning if no message in any file meets the conditions
         (self.folder / "empty").touch()
         for call in (bufr.rows, bufr_text.rows):
             for where, wanted in ((["category=99"], 1), (["category=0"], 0), (["category!=99"], 0), ([], 0)):
@@ -538,7 +539,7 @@ class Sources(WithFolder):
 
 class Values(WithFolder):
     def test_exact(self):
-        """Wide numbers, scales of 127 and -127, and numbers whose nearest float is not the quotient of two floats."""
+        """`bufr` reads wide numbers, scales of 127 and -127, and numbers that a float division would not round correctly."""
         rows = [f"0010{at:02},N,M,{scale},{reference},{width}\n" for at, (scale, reference, width) in enumerate(NUMBERS)]
         tables = self.folder / "B.csv", self.folder / "D.csv"
         tables[0].write_text("fxy,name,unit,scale,reference,width\n" + "".join(rows))
@@ -703,7 +704,7 @@ class Values(WithFolder):
         self.assertEqual(rows[8][4:], [2, "001015", "STATION OR SITE NAME", "CCITT IA5", "none", "HEATHROW"])
         self.assertEqual((frame["file"][8], str(frame["time"][8])), (str(SYNOP), "2023-03-14 18:00:00"))
         self.assertEqual(found.elements["012101"], {"name": "TEMPERATURE/AIR TEMPERATURE", "unit": "K"})
-        # two messages with the same offset, which only the row of `messages` tells apart
+        # two messages with the same offset, which differ only in their `message_row`
         octets = SYNOP.read_bytes()
         found = bufr.items([octets, octets], ["012101"])
         self.assertEqual(found.frame()["message_row"].tolist(), [0] * 3 + [1] * 3)
@@ -712,7 +713,7 @@ class Values(WithFolder):
         joined = found.frame().join(messages[["centre"]], on="message_row")
         self.assertEqual(joined["centre"].tolist(), [78] * 6)
         self.assertEqual(len(bufr.items([]).frame()), 0)
-        # a new reference value, and tables of one's own
+        # a redefined reference value, and the argument tables=
         octets = (VECTORS / "messages/redefined_reference.bufr").read_bytes()
         names = bufr.items(octets, tables=OF_VECTORS).frame()[["fxy", "name", "unit", "value"]].to_numpy().tolist()
         self.assertEqual(names[0], ["012101", "REFERENCE", "", -400])
@@ -732,7 +733,7 @@ class Values(WithFolder):
         self.assertEqual([found.exact(index) for index in air[:2]], [Decimal("259.35"), Decimal("282.55")])
 
     def test_names_and_units_of_each_version(self):
-        """Names, units and kinds come from the table with which a value was read."""
+        """`bufr` takes names, units and column types from the table with which it read a value."""
         words = ["012101", "022191", "022179", "033066"]
 
         def octets(version: int, *values) -> bytes:
@@ -764,7 +765,7 @@ class Values(WithFolder):
             found = pickle.loads(pickle.dumps(items)).frame()
             self.assertEqual(found["unit"].tolist(), "K,m2 rad-1 s,CCITT IA5,CODE TABLE,K,m,m,FLAG TABLE".split(","))
             self.assertEqual(found["name"].tolist()[::4], ["TEMPERATURE/DRY-BULB TEMPERATURE", "TEMPERATURE/AIR TEMPERATURE"])
-        # a float column may be without items in a part, and so may a column of codes
+        # a part may contain no items for a float column or for a column of codes
         with unittest.mock.patch.multiple(bufr_parts, _PART=1):
             frame = bufr.frame([lib.message(b"\x14"), old, lib.message(b"\x14")], ["012101", "033066", "001001"])
         self.assertEqual([str(kind) for kind in frame.dtypes], ["float64", "Int64", "float64"])
@@ -799,7 +800,7 @@ class Values(WithFolder):
 
     def test_rows_of_messages_without_a_header(self):
         octets = SYNOP.read_bytes()
-        refused = lib.message(b"\x14", b"\x3f\xff") + octets[:7] + b"\2" + octets[8:]  # an element and an edition
+        refused = lib.message(b"\x14", b"\x3f\xff") + octets[:7] + b"\2" + octets[8:]  # an unknown element, and edition 2
         rows = bufr.messages(octets + b"BUFR" + refused, faults="ignore")
         self.assertEqual(rows["fault"].tolist(), [0, 1, 20, 10])
         self.assertEqual(rows["edition"].tolist(), [4, 0, 4, 0])
@@ -827,7 +828,7 @@ class Values(WithFolder):
         self.assertEqual(kinds, [*bufr_library.Kind])
 
 
-# The scales, reference values and widths of numbers.
+# The scales, reference values and widths of the numbers in `test_exact`.
 NUMBERS = [(scale, 0, 63) for scale in (0, 1, 2, 7, 22, 23, 127, -1, -5, -22, -23, -127)]
 NUMBERS += [(scale, reference, 63) for scale in (0, 3, 127, -3, -127) for reference in ((1 << 63) - 1, -(1 << 63))]
 NUMBERS += [(2, -40000, 17), (22, 0, 54), (-22, 0, 54)]
@@ -836,7 +837,7 @@ NUMBERS += [(2, -40000, 17), (22, 0, 54), (-22, 0, 54)]
 class Faults(WithFolder):
     def setUp(self):
         super().setUp()
-        # a stray, a message that is refused and one that is not, twice
+        # a stray, a rejected message and a valid message, twice
         refused = lib.message(b"\x14", b"\x3f\xff")
         self.stream.write_bytes((b"BUFR\0\0\1" + refused + SYNOP.read_bytes()) * 2)
         file = str(self.stream)
@@ -912,11 +913,11 @@ class Faults(WithFolder):
                 for source in ([SYNOP, aircraft], [aircraft, SYNOP]):
                     self.assertEqual(told_by(lambda: bufr.frame(source, ["001015", "001006"]))[1], [])
                     self.assertEqual(told_by(lambda: bufr.items(source, ["001015", "001006"]))[1], [])
-        # nothing is known of the columns without messages, and other pieces may have what one lacks
+        # a piece causes no warning, because other pieces may contain the items that it lacks
         pieces = bufr.pieces(SYNOP)
         for source in (pieces, [*pieces, SYNOP]):
             self.assertEqual(told_by(lambda: [bufr.frame(source, ["012104"]), bufr.items(source, ["012104"])])[1], [])
-        # but not a descriptor that no table set defines; 002192 is in a local set, and 012030 only in an old one
+        # but there is one for a descriptor that no set defines; 002192 is in a local set, and 002191 only in an old one
         folder = self.folder / "sets"
         for name in ("wmo-39", "wmo-13", "wmo-13+98-7"):
             shutil.copytree(TOP / "tables" / name[:6], folder / name)
@@ -933,7 +934,7 @@ class Faults(WithFolder):
         for call in (bufr.frame, bufr.items):
             _, told = told_by(lambda: call(pieces, ["012104", "063255"], tables=TABLES))
             self.assertEqual(told, [f"this piece contains no item for 063255, and {TABLES[0]} does not define it"])
-            # nothing is known without messages
+            # without messages, there is no warning
             self.assertEqual(told_by(lambda: call([bufr.Piece(str(SYNOP), 0, 0)], ["063255"]))[1], [])
         for call in (bufr.frame, bufr.items):
             _, told = told_by(lambda: call(SYNOP, ["012104"], where=["centre=1"]))
@@ -961,12 +962,12 @@ class Faults(WithFolder):
         three = "skipped 3 subsets without levels; the first is subset 1 of the message at offset {} in {}"
         for call in (bufr.levels, bufr_text.levels, lambda *words: bufr.frame(*words[:2], keep=words[3], levels=True)):
             for source, columns, keep, wanted in [
-                # without a row, nothing is known of what applies to the whole subset
+                # without a row, there is no warning about the columns in keep=
                 (SYNOP, ["012104"], ["012103"], [empty.format("012104"), three.format(0, SYNOP)]),
                 # 001001 occurs twice before the levels, and 001002 once
                 (self.stream, ["007004", "001001", "001002"], [], [several.format("001001"), outside.format("001002"), one.replace(str(sounding), str(self.stream))]),
                 (sounding, ["012104"], ["001002"], [empty.format("012104"), one]),
-                # other columns are not called empty, because they have values in other levels
+                # there is no warning about the other columns, because they have values in the levels
                 (sounding, ["001002", "007004", "012101"], [], [outside.format("001002"), one]),
                 (sounding, ["007004", "001002"], [], [outside.format("001002"), one]),
                 (sounding, ["007004", "012101", "001002"], [], [outside.format("001002")]),
@@ -1032,7 +1033,7 @@ class Faults(WithFolder):
             bufr.messages(SYNOP)
 
 
-# Several processes. A worker that is killed creates a file, so that only one is.
+# Several processes. A worker creates a file before it kills itself, so that no other worker does.
 
 
 def read(piece: bufr.Piece, mark: str = ""):
@@ -1043,22 +1044,22 @@ def read(piece: bufr.Piece, mark: str = ""):
     return bufr.frame(piece, ["001015", "012101", "002001"], ["file", "offset", "time"], faults="ignore")
 
 
-# The time after which a test with Dask fails. A loaded machine may need minutes to start workers and connect to them.
+# The time after which the test with Dask fails. A loaded machine may need minutes to start workers and connect to them.
 DASK_SECONDS = 600
 
 
 def read_by_dask(folder: str) -> None:
-    """Reads pieces with two workers, of which one is killed, and writes what they return into a folder."""
+    """Reads pieces with two workers, one of which is killed, and writes the results to the file `found` in `folder`."""
     import dask.dataframe
     import distributed
 
     pieces, mark, meta = pickle.loads(pathlib.Path(folder, "given").read_bytes())
-    sys.path.insert(0, str(SCRIPTS))  # workers get this path, and tests/ has another bufr_auto
+    sys.path.insert(0, str(SCRIPTS))  # workers inherit this path, and tests/ contains another bufr_auto
     times = ("distributed.comm.timeouts.connect", "distributed.comm.timeouts.tcp", "distributed.scheduler.worker-ttl")
     local = {"n_workers": 2, "threads_per_worker": 1, "dashboard_address": ":0", "silence_logs": 50}
     with dask.config.set(dict.fromkeys(times, f"{DASK_SECONDS}s")), distributed.Client(local_directory=folder, **local):
         whole = dask.dataframe.from_map(read, pieces, mark=mark, meta=meta).compute()
-        # as the guide has it
+        # as in the guide
         columns = ["001015", "012101"]
         meta = bufr.frame([], columns, faults="ignore")
         frame = dask.dataframe.from_map(bufr.frame, pieces, columns=columns, meta=meta, faults="ignore")
@@ -1070,7 +1071,7 @@ def read_by_dask(folder: str) -> None:
 class Processes(WithFolder):
     def setUp(self):
         super().setUp()
-        # without strays that declare a great length, as those in bulletins.bufr do
+        # without bulletins.bufr, because its strays declare large lengths
         octets = b"BUFR\0\0\1".join([*(path.read_bytes() for path in EXAMPLES if path.stem != "bulletins"), b""])
         self.stream.write_bytes(octets * 20)
         self.files = [str(self.stream), str(SYNOP), str(self.stream)]
@@ -1090,7 +1091,7 @@ class Processes(WithFolder):
     def test_futures(self):
         with concurrent.futures.ProcessPoolExecutor(3) as pool:
             self.alike(pandas.concat(pool.map(read, self.pieces)))
-        # a pool whose worker is killed says so, and another pool reads the pieces again
+        # a pool whose worker is killed raises an error, and another pool can read the pieces again
         with self.assertRaises(BrokenProcessPool), concurrent.futures.ProcessPoolExecutor(3) as pool:
             list(pool.map(functools.partial(read, mark=self.mark), self.pieces))
         self.assertTrue(os.path.exists(self.mark))
@@ -1103,7 +1104,7 @@ class Processes(WithFolder):
             import distributed  # noqa: F401
         except ImportError:
             self.skipTest("Dask is not installed (Debian: apt-get install python3-dask python3-distributed)")
-        # in another process, because Dask prints tracebacks of workers that end, even if all is well
+        # in a separate process, because Dask prints a traceback when a worker exits, even if nothing is wrong
         (self.folder / "given").write_bytes(pickle.dumps((self.pieces, self.mark, self.wanted[:0])))
         words = [sys.executable, "-c", "import sys, bufr_module; bufr_module.read_by_dask(sys.argv[1])", self.folder]
         environment = {**os.environ, "PYTHONPATH": f"{SCRIPTS}:{TOP}/tests"}
@@ -1153,7 +1154,7 @@ class Processes(WithFolder):
                 done = subprocess.run(words, stdout=subprocess.PIPE, text=True, check=True)
                 used.append(int(re.search(r"^VmHWM:\s+(\d+) kB$", done.stdout, re.M)[1]) // 1000)
             print(f"bufr_module: {call}: {used[0]} MB, and {used[1]} MB for three times the messages")
-            # If a call retained the input or its items, it would need at least 40 MB more. Equal runs differ by up to 15 MB.
+            # If a call retained the input or its items, it would need at least 40 MB more. Runs differ by up to 15 MB.
             self.assertLess(used[1] - used[0], 30, call)
 
 

@@ -20,7 +20,7 @@ import lib
 from lib import TABLES, TOP, want
 
 PARALLEL = [sys.executable, TOP / "scripts/bufr-parallel"]
-# a word that begins no message, and its fault at the beginning of a stream
+# a stray, and its fault line at the beginning of a stream
 STRAY, STRAY_TOLD = b"BUFR\0\0\0\4", b"offset 0: 2 short length\n"
 
 
@@ -30,12 +30,12 @@ def run(words: list, **streams) -> tuple:
 
 
 def made_stream() -> bytes:
-    """Some 6,000 pieces: most are messages, some of them alone and some one behind another."""
+    """Returns 6,000 valid messages with headings, strays and invalid messages among them, and an incomplete one at the end."""
     good = [lib.message(bytes([20] * (40 + 90 * n)), lib.words(f"1010{40 + n} 001001"), 1) for n in range(5)]
     data_end = lib.message(b"\x14", b"\x01\x01", 3)
     unknown = lib.message(b"\x14", lib.words("063255"))
     edition_2 = good[0][:7] + b"\x02" + good[0][8:]
-    # to one process of the whole stream this is `3 no end`, and its end lies in another part
+    # in the whole stream, the fault of this stray is `3 no end`, but its declared end is in another part
     word = b"BUFR\x03\x00\x00\x04"
     pieces = []
     for n in range(6000):
@@ -58,12 +58,12 @@ def same_as_one_run(program: str, folder: pathlib.Path) -> None:
     small = TOP / "examples/synop.bufr"
     most = run([*PARALLEL, "-P", "128", "dump", *TABLES, small])
     want(most == run([program, "dump", *TABLES, small]), "128 processes are refused")
-    # refused for their data alone, at which `bufr ls` ends with 0
+    # messages in which only the data is invalid, so `bufr ls` exits with status 0
     data_faults = lib.message(b"\x14", b"\x01\x01", 3) * 3 + lib.message(bytes(70_000)) * 2
     one_of_data = run([program, "dump", *TABLES], input=data_faults)
     want(one_of_data[0] == 1 and run([program, "ls"], input=data_faults)[0] == 0, "the data have other faults")
     want(run([*PARALLEL, "dump", *TABLES], input=data_faults) == one_of_data, "faults of data alone are told otherwise")
-    # two octets between a message and one whose data are refused, whose fault has an offset of its own
+    # two octets between a message and one with invalid data, so the offset in the fault line must be adjusted
     gap = lib.message(b"\x14") + b"\r\n" + lib.message(b"\x14", b"\x01\x01", 3)
     one_with_gap = run([program, "dump", *TABLES], input=gap)
     want(one_with_gap[2].startswith(b"offset 50: 30"), f"the message after a gap has another fault: {one_with_gap}")
@@ -98,7 +98,7 @@ def same_as_one_run(program: str, folder: pathlib.Path) -> None:
     both = run([*PARALLEL, "dump", *TABLES, os.devnull, "-"], stdin=subprocess.DEVNULL)
     told = b"bufr-parallel: /dev/null standard input contains no messages: it is empty\n"
     want(both == (0, b"", told), f"of two empty files comes {both}")
-    # A fault of a part comes before the dump of the next one.
+    # The fault lines of a part are printed before the dump of the next part.
     octets = STRAY + lib.message(bytes(70_000)) * 2
     words = [*PARALLEL, "dump", *TABLES]
     output = subprocess.run(words, input=octets, stdout=subprocess.PIPE, stderr=subprocess.STDOUT).stdout
@@ -134,7 +134,7 @@ def tells_what_fails(program: str, folder: pathlib.Path) -> None:
     with open("/dev/full", "wb") as full:
         done = subprocess.run([*PARALLEL, "dump", *TABLES, path], stdout=full, stderr=subprocess.PIPE)
     want(done.returncode == 2 and b"bufr-parallel: " in done.stderr, "a full device is not told")
-    # a process that fails: what stands before its part is written, its line is told, and nothing behind
+    # if a process fails, the output up to and including its part is written, then its error line, and nothing after that
     failing = folder / "failing"
     failing.write_text(
         f'#!/bin/sh\n[ "$1" = ls ] && exec {program} ls\ncat > $$.part\n{program} "$@" < $$.part\n'
@@ -152,7 +152,7 @@ def tells_what_fails(program: str, folder: pathlib.Path) -> None:
         (status, output.count(b"\nend\n"), errors) == (2, 5, STRAY_TOLD + b"bufr: 73 out of memory\n"),
         f"a failed process ends with {status}, {errors}",
     )
-    # a file that goes, and a listing that ends before it has read all that a pipe can hold
+    # a file that is removed after it was listed, and a `bufr ls` that is killed before it reads its input
     for script, told in (
         ("cat > listed; rm two.bufr; exec {0} ls < listed", b"cannot open two.bufr: No such file or directory\n"),
         ("kill -9 $$", b"bufr was killed (signal 9); output is incomplete\n"),
@@ -164,7 +164,7 @@ def tells_what_fails(program: str, folder: pathlib.Path) -> None:
 
 
 def leaves_no_process(program: str, folder: pathlib.Path) -> None:
-    """When a dump fails, those that still run end with the script."""
+    """If a dump fails, `bufr-parallel` also ends the dumps that are still running."""
     (folder / "lasting").write_text(
         f'#!/bin/sh\n[ "$1" = ls ] && exec {program} ls\ncat > $$.part\n[ -s $$.part ] || exit 0\n'
         "if grep -q FIRST $$.part; then until [ -e number ]; do sleep 0.02; done; exit 3; fi\n"
@@ -184,7 +184,7 @@ def leaves_no_process(program: str, folder: pathlib.Path) -> None:
 
 
 def runs_as_many_as_asked(program: str, folder: pathlib.Path) -> None:
-    """As many run at once as are asked for, or as there are processors for them: each waits, and tells when it runs."""
+    """`bufr-parallel` runs as many dumps at once as requested, or by default one for each available processor."""
     (folder / "waiting").write_text(
         f'#!/bin/sh\n[ "$1" = ls ] && exec {program} ls\n{program} "$@" > $$.text\n[ -s $$.text ] || exit 0\n'
         "echo begin >> log; sleep 1; echo end >> log; cat $$.text\n"
@@ -205,7 +205,7 @@ def runs_as_many_as_asked(program: str, folder: pathlib.Path) -> None:
 
 
 def closes_what_it_opens(folder: pathlib.Path) -> None:
-    """At most 120 files are open at once, for 126 parts, each a message of its own."""
+    """`bufr-parallel` needs at most 120 open files for 126 parts of one message each."""
     (folder / "parts.bufr").write_bytes(lib.message(bytes(33_000)) * 126)
     words = [*PARALLEL, "-P", "16", "dump", *TABLES, "parts.bufr"]
     few = lambda: resource.setrlimit(resource.RLIMIT_NOFILE, (120, 120))  # noqa: E731
@@ -214,7 +214,7 @@ def closes_what_it_opens(folder: pathlib.Path) -> None:
 
 
 def reads_each_octet_once(program: str, folder: pathlib.Path) -> None:
-    """The stream is listed once, and no octet of it is dumped twice: so its work is that of one process, and a listing."""
+    """`bufr-parallel` lists the stream once and dumps no octet twice, so its work is that of one dump and one listing."""
     (folder / "counting").write_text(
         f'#!/bin/sh\ncat > $$.part\nwc -c < $$.part >> "$1.octets"\nexec {program} "$@" < $$.part\n'
     )

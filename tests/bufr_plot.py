@@ -34,7 +34,7 @@ def run(python: str, words: list, text: bytes = b"", **others) -> subprocess.Com
 
 
 def stations(count: int, latitude: str = "50.5", longitude: str = "10.25", name: bytes = b"A") -> bytes:
-    """A document with so many subsets, each a station with a temperature. The first one is elsewhere."""
+    """Returns a document with `count` subsets, each a station with a temperature. The first is at 10.5 N, 20.5 E."""
     head = (TOP / "examples/synop.txt").read_bytes().partition(b"subset 1\n")[0]
     text = re.sub(rb"subsets \d+", b"subsets %d" % count, head)
     for number in range(1, count + 1):
@@ -45,8 +45,8 @@ def stations(count: int, latitude: str = "50.5", longitude: str = "10.25", name:
 
 
 def strange(python: str, folder: pathlib.Path) -> None:
-    """Places past the map, many labels, and texts that are no formulas."""
-    # the same picture for the same map
+    """`bufr-plot` draws positions beyond the map, many labels, and strings that look like formulas."""
+    # makes pictures of the same map identical
     (folder / "matplotlibrc").write_text("svg.fonttype: none\nsvg.hashsalt: a\n")
     environment = {**os.environ, "SOURCE_DATE_EPOCH": "0"}
 
@@ -72,12 +72,12 @@ def strange(python: str, folder: pathlib.Path) -> None:
         want(draw(stations(3, latitude)) == told, f"latitude {latitude} is not clipped, or not told")
     _, told = draw(stations(2, "91.5"))
     want(told == "bufr-plot: 1 latitude is beyond a pole; its point is drawn at the pole\n", f"of one latitude it tells {told}")
-    # A value of 0 has a label, but not a missing value, nor that of a subset without a place.
+    # A value of 0 is labelled, but a missing value is not, and neither is the value of a subset without a position.
     odd = stations(4).replace(b" 281.5", b" 0.00").replace(b" 282.5", b" MISSING").replace(b"subset 3\n005001 50.5", b"subset 3")
     drawn, _ = draw(odd, "--value", "012101")
     labels = re.findall(r">(0\.00|None|28\d\.5)</text>", drawn)
     want(labels == ["0.00", "284.5"] and ">3 points: 012101 []<" in drawn, f"the labels are {labels}")
-    # half of the world from 10.5 north and 20.5 east, and slightly more than half
+    # A map that spans more than half of the world shows the whole world. The first point is at 10.5 N, 20.5 E.
     for place, is_whole in (
         ({"longitude": "-159.5"}, False), ({"latitude": "-79.5"}, False), ({"longitude": "-160.0"}, True), ({"latitude": "-80.0"}, True)
     ):
@@ -87,7 +87,7 @@ def strange(python: str, folder: pathlib.Path) -> None:
         want(((min(edges), max(edges)) == (-150, 150)) == is_whole, f"the map to {place} has {ticks}")
     want(">93<" not in draw(stations(1).replace(b" 10.5\n", b" 90.0\n"))[0], "a map of the pole shows far more than its point")
     want("2 points: 012101 []" in draw(stations(2).replace(b"\n012101 282.5", b""), "--value", "012101")[0], "a last subset without the value hides its name")
-    # Two levels at 0 degrees Celsius: the axis of temperatures is the same on both sides of 0.
+    # Two levels at 0 degrees Celsius: the temperature axis is symmetric about 0.
     head = stations(1).partition(b"subset 1\n")[0]
     level = b"007004 %d00\n012101 273.15\n"
     (folder / "text").write_bytes(head + b"subset 1\n" + level % 1000 + level % 500 + b"end\n")
@@ -112,7 +112,7 @@ def strange(python: str, folder: pathlib.Path) -> None:
 
 
 def first_of_a_level(python: str, folder: pathlib.Path, text: bytes) -> None:
-    """The first temperature and dew point of a level count."""
+    """`bufr-plot` draws the first temperature and the first dew point in each level."""
 
     def draw(text: bytes) -> str:
         environment = {**os.environ, "SOURCE_DATE_EPOCH": "0"}
@@ -125,7 +125,7 @@ def first_of_a_level(python: str, folder: pathlib.Path, text: bytes) -> None:
     want(twice.count(b" 300 ") > 40 and draw(twice) == whole, "the last temperature of a level counts")
     others = re.sub(rb"\n0121(0[13])", rb"\n0120\1", text)
     want(others != text and draw(others) == whole, "0 12 001 and 0 12 003 count otherwise")
-    # these are no levels: a temperature before all pressures, invalid pressures, and a pressure without a temperature
+    # not levels: a temperature before all pressures, invalid pressures, and a pressure without a temperature
     odd = b"subset 1\n012101 250\n007004 MISSING\n012101 250\n007004 0\n012101 250\n007004 -100\n012101 250\n007004 2000\n"
     want(draw(text.replace(b"subset 1\n", odd)) == whole, "what is no level is drawn")
     one = text.partition(b"subset 1\n")[0] + b"subset 1\n007004 50000\n012101 250\nend\n"
@@ -133,7 +133,7 @@ def first_of_a_level(python: str, folder: pathlib.Path, text: bytes) -> None:
 
 
 def chosen_sounding(python: str, folder: pathlib.Path) -> None:
-    """The first sounding is drawn, or the first one of those that are asked for. Each has a title with its numbers."""
+    """`bufr-plot` draws the first sounding or the first selected one. Its title contains the message and subset numbers."""
     bare, level = b"subset 1\n012101 250\n", b"007004 %d00\n012101 273.15\n"
     head = stations(1).partition(b"subset 1\n")[0].replace(b"subsets 1", b"subsets 3")
     text = head + bare + b"".join(b"subset %d\n" % number + level % 1000 + level % 500 for number in (2, 3)) + b"end\n"
@@ -151,7 +151,7 @@ def chosen_sounding(python: str, folder: pathlib.Path) -> None:
 
 
 def memory_of_points(python: str, folder: pathlib.Path) -> None:
-    """A map takes at most 120 MB and 250 bytes for each point."""
+    """`bufr-plot` needs at most 120 MB for a map, plus 250 bytes for each point."""
     head, _, rest = stations(100, name=b"A" * 250).partition(b"subset 1\n")
     sizes = []
     for messages in (2, 502):
@@ -168,7 +168,7 @@ def memory_of_points(python: str, folder: pathlib.Path) -> None:
 
 
 def draws_whole(python: str, folder: pathlib.Path) -> None:
-    """A picture that cannot be written is as it was before, and nothing is left of it."""
+    """If `bufr-plot` cannot write a picture, it leaves the old picture unchanged and no other file behind."""
     place = folder / "whole"
     place.mkdir()
     (place / "old.png").write_bytes(b"old")
@@ -193,7 +193,7 @@ def draws_whole(python: str, folder: pathlib.Path) -> None:
         want(left == ["full.png", "old.png"] and (place / "old.png").read_bytes() == b"old", f"{name} leaves {left}")
     done = run(python, ["map", place / "old.png"], stations(2))
     want(done.returncode == 0 and (place / "old.png").read_bytes()[:4] == b"\x89PNG", "an old picture stays")
-    # matplotlib makes a folder of its own where it has no home
+    # without a home directory, matplotlib creates a temporary directory
     (place / "temporary").mkdir()
     environment = {"PATH": os.environ["PATH"], "HOME": "/proc/nowhere", "TMPDIR": str(place / "temporary")}
     done = run(python, ["map", place / "new.png"], stations(2), env=environment)
@@ -214,7 +214,7 @@ def draws(python: str, program: str, folder: pathlib.Path) -> None:
         (["sounding"], "sounding", ["temperature", "dew point", "2023-03-14 23:31", ">850</text>", ">30</text>"]),
         (["sounding", "--message", "1", "--subset", "1"], "sounding", ["pressure"]),
     ]:
-        # an SVG whose letters are text can be looked into
+        # the letters in the SVG are text, so the test can search for them
         picture = folder / "picture.svg"
         (folder / "matplotlibrc").write_text("svg.fonttype: none\n")
         done = run(python, [*words, picture], texts[name], cwd=folder)
@@ -283,7 +283,7 @@ def draws(python: str, program: str, folder: pathlib.Path) -> None:
 def main() -> None:
     with tempfile.TemporaryDirectory() as place:
         folder = pathlib.Path(place)
-        # a Python that finds another matplotlib first, which cannot be imported
+        # a Python that first finds another matplotlib, which cannot be imported
         (folder / "hidden").mkdir()
         (folder / "hidden/matplotlib.py").write_text("raise ModuleNotFoundError(name=__name__)\n")
         done = run(

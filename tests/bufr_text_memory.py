@@ -30,7 +30,7 @@ CALLS = {
 
 
 def packed(subsets: int, elements: int = 20) -> bytes:
-    """A short message with a long dump: compressed values that are the same in every subset."""
+    """Returns a short message with a long dump: its compressed values are the same in every subset."""
     bits = lib.Bits()
     for _ in range(elements):
         bits.put(28_550, 16)
@@ -39,12 +39,12 @@ def packed(subsets: int, elements: int = 20) -> bytes:
 
 
 def texts(count: int) -> bytes:
-    """A message with texts of 255 bytes each."""
+    """Returns a message with strings of 255 bytes each."""
     return lib.message(b"A" * 255 * count, lib.words("205255 " * count))
 
 
 def used(call: str, path: pathlib.Path) -> int:
-    """The memory of a call over a stream, in kilobytes, or 0 if the call failed."""
+    """Returns the peak memory of a call on a stream, in kilobytes, or 0 if the call failed."""
     code = [BEGIN, CALLS[call], "print(open('/proc/self/status').read())"]
     words = [sys.executable, "-W", "ignore", "-c", "\n".join(code), TOP / "scripts", path, *TABLES[1::2]]
     done = subprocess.run(words, stdout=subprocess.PIPE, stderr=subprocess.DEVNULL, text=True)
@@ -56,7 +56,7 @@ def main() -> None:
     os.environ["BUFR"] = lib.program()
     small, unknown = lib.message(b"\x14"), lib.message(b"\x14", b"\x3f\xff")
     wrongs = []
-    # a stream, how often it is repeated, the items of its longest message and the bytes of their lines, and the calls
+    # name, bytes, number of repetitions, items in the longest message, bytes per dump line, and the calls
     streams = [
         ("small messages", small, 20_000, 1, 50, ["listing", "where"]),
         ("faults", b"BUFR\0\0\1" * 100 + small, 2_000, 1, 50, ["dump", "listing"]),

@@ -1,12 +1,12 @@
 #!/usr/bin/env python3
 """Compares the C library with the program on examples/, tests/vectors and random hostile streams.
 
-    tests/c_library.py [PROGRAM [FOLDER]]        FOLDER: the directory that library/build.sh filled (default: the library
-                                                 that the variable BUFR_LIBRARY names or, if it is not set, a new build)
+    tests/c_library.py [PROGRAM [FOLDER]]        FOLDER: the directory that library/build.sh filled (default: that of the
+                                                 library that BUFR_LIBRARY names or, if it is not set, a new build)
 
 The outputs must be the same, with large and small buffers, and in several threads at once. The rows for items must agree
 with the output of `bufr dump`, and the rows for messages with that of `bufr ls`. The structures and numbers in
-bufr_library.py must be those in bufr.h. Finally, the examples in C and Fortran are compiled, compared, and run under
+bufr_library.py must be those in bufr.h. Finally, the examples in C and Fortran are compiled, run, and checked with
 valgrind.
 """
 import ctypes
@@ -36,18 +36,18 @@ import random_trial
 VECTORS = TOP / "tests/vectors"
 SETS = [(TOP / "tables/wmo-39/B.csv", TOP / "tables/wmo-39/D.csv"), (VECTORS / "tables/B.csv", VECTORS / "tables/D.csv")]
 HOSTILE = 150
-SMALL = 64  # octets of room at first
+SMALL = 64  # the initial size of the buffers in octets
 wrongs: list = []
 
 
 def said_by(words: list, octets: bytes) -> tuple:
-    """What the program writes: the output, and the errors."""
+    """Runs the program. Returns its output and errors."""
     run = subprocess.run([PROGRAM, *map(str, words)], input=octets, stdout=subprocess.PIPE, stderr=subprocess.PIPE)
     return run.stdout, run.stderr
 
 
 def table_status(tables: tuple) -> int:
-    """The number of the program's fault for these tables, and 100 more if it is of Table D; 0 if they are valid."""
+    """Returns the number of the fault that the program reports for these tables (plus 100 for Table D), or 0 if none."""
     _, errors = said_by(["dump", "-B", tables[0], "-D", tables[1]], b"")
     found = re.match(rb"table ([BD]): (\d+) ", errors)
     return int(found[2]) + 100 * (found[1] == b"D") if found else 0
@@ -58,12 +58,12 @@ def alike(what: str, given, wanted) -> None:
         wrongs.append(f"{what}: {str(given)[:300]}\n  in place of {str(wanted)[:300]}")
 
 
-# an item line of a dump, without the name and unit
+# matches an item's line; the group leaves out the name and unit
 ITEM = re.compile(rb'((?:R )?\d{6} (?:"(?:[^"\\]|\\.)*"|[^ ]+))(?:  # .*)?')
 
 
 def lines_in(text: bytes) -> list:
-    """The subsets and items of the messages of a dump."""
+    """Returns, for each message in a dump, the lines of its subsets and items, without names and units."""
     found, inside = [], False
     for line in text.split(b"\n"):
         if line == b"message":
@@ -77,7 +77,7 @@ def lines_in(text: bytes) -> list:
 
 
 def listed_by(row) -> bytes:
-    """The line of `bufr ls` for the row of a message, up to the flags of its data."""
+    """Returns the line that `bufr ls` prints for the message in a row, up to the field `compressed`."""
     words = f"offset={row.offset} length={row.length} edition={row.edition} centre={row.centre}/{row.subcentre}"
     words += f" update={row.update} category={row.category}/{row.subcategory}/{row.local_subcategory}"
     words += f" tables={row.master}/{row.master_version}/{row.local_version} time={row.year:04}-{row.month:02}-{row.day:02}"
@@ -86,7 +86,7 @@ def listed_by(row) -> bytes:
 
 
 def lines_of(parts) -> tuple:
-    """The same of rows, and the fault numbers and offsets of refused messages and strays."""
+    """Returns the same lines for the library's rows, and the offset and fault number of each rejected message and stray."""
     found, faults = [], []
     for items, texts, messages in parts:
         for index, row in enumerate(messages):
@@ -108,7 +108,7 @@ def lines_of(parts) -> tuple:
 
 
 def try_stream(name: str, stream: bytes, tables: tuple, of_library) -> None:
-    """Compares all calls on one stream. The library's outputs have room for `of_library.octets` at first."""
+    """Compares all calls on one stream. The library's buffers have room for `of_library.octets` octets at first."""
     options = ("-B", tables[0], "-D", tables[1])
     alike(f"{name}: list", of_library.list(stream), said_by(["ls"], stream))
     text, errors = wanted = said_by(["dump", *options], stream)
@@ -126,7 +126,7 @@ def try_stream(name: str, stream: bytes, tables: tuple, of_library) -> None:
 
 
 def values_of(parts, wanted) -> list:
-    """The rows of messages, each with its items of these descriptors: all but what depends on how a stream is divided."""
+    """Returns each message with its wanted items, leaving out everything that depends on how the stream is divided."""
     found = []
     for items, texts, messages in parts:
         for row in messages:
@@ -137,7 +137,7 @@ def values_of(parts, wanted) -> list:
 
 
 def try_wanted(name: str, stream: bytes, parts: list, of_library) -> None:
-    """Only the items of the wanted descriptors are read: of two that occur, and of one that does not."""
+    """The library returns only the wanted items, for two descriptors that occur and for one that does not."""
     there = sorted({item.fxy for items, _, _ in parts for item in items})
     for wanted in ((*there[:1], *there[-1:], 0xFFFF), (0xFFFF,)):
         given = list(of_library.parts(stream, wanted))
@@ -152,7 +152,7 @@ def try_text(name: str, text: bytes, tables: tuple, of_library) -> None:
 
 
 def inputs():
-    """The files of examples/ and of the vectors, each with its tables."""
+    """Yields the examples, the vectors and random streams, each with the function to call and its tables."""
     for file in sorted((TOP / "examples").glob("*.bufr")):
         yield f"examples/{file.name}", try_stream, file.read_bytes(), SETS[0]
     for file in sorted((VECTORS / "messages").iterdir()):
@@ -164,18 +164,18 @@ def inputs():
         yield f"hostile stream {number}", try_stream, random_trial.stream_of(rng), SETS[0]
 
 
-# the types of bufr.h
+# the types in bufr.h
 C_TYPES = {f"{sign}int{bits}_t": getattr(ctypes, f"c_{sign}int{bits}") for sign in ("", "u") for bits in (8, 16, 32, 64)}
 C_TYPES["size_t"] = ctypes.c_size_t
 
 
 def offsets_in(struct) -> list:
-    """Where the fields of a structure begin, and where it ends."""
+    """Returns the offsets of the fields in a structure, and then its size."""
     return [getattr(struct, name).offset for name, _ in struct._fields_] + [ctypes.sizeof(struct)]
 
 
 def try_header(path: str) -> None:
-    """bufr_library.py declares the structures and numbers of bufr.h."""
+    """bufr_library.py declares the same structures and numbers as bufr.h, and the faults in docs/texts.md."""
     header = re.sub(r"/\*.*?\*/", "", (TOP / "library/bufr.h").read_text(), flags=re.S)
     of_python = {f"bufr_{it.lower()}": getattr(bufr_library, it) for it in dir(bufr_library) if it[0].isupper()}
     for name, body in re.findall(r"^enum (\w+) \{(.*?)\n\};", header, re.S | re.M):
@@ -201,7 +201,7 @@ def try_header(path: str) -> None:
 
 
 def try_names(folder: pathlib.Path) -> None:
-    """The archive and the shared library define the calls of bufr.h, and no other global name."""
+    """The archive and the shared library define the functions that bufr.h declares, and no other global names."""
     calls = set(re.findall(r"^u?int32_t (\w+)\(", (TOP / "library/bufr.h").read_text(), re.M))
     if not shutil.which("nm"):
         print("tests/c_library.py: nm is not installed, so the names in the library are not compared", file=sys.stderr)
@@ -212,7 +212,7 @@ def try_names(folder: pathlib.Path) -> None:
 
 
 def try_small_rooms(path: str) -> None:
-    """If one output has no room, a call says how much all of them need, and so does the next one."""
+    """If one output has no room, a call reports how much room each output needs, and so does the next call."""
     of_library = bufr_library.Library(path, *(it.read_bytes() for it in SETS[0]))
     stream = (TOP / "examples/synop.bufr").read_bytes()  # one message
     ((items, texts, messages),) = of_library.parts(stream)
@@ -231,7 +231,7 @@ def try_small_rooms(path: str) -> None:
 
 
 def try_tables(path: str) -> None:
-    """Each call reports invalid tables by their fault."""
+    """If a table is invalid, each call returns the number of its fault."""
     good = [it.read_bytes() for it in SETS[0]]
     with tempfile.TemporaryDirectory() as name:
         files = (pathlib.Path(name) / "B", pathlib.Path(name) / "D")
@@ -252,7 +252,7 @@ def try_tables(path: str) -> None:
 
 
 def try_threads(path: str) -> None:
-    """Eight threads at once, each on its own stream, again and again."""
+    """Eight threads that use the library at the same time get the same results as a single thread."""
     files = sorted((TOP / "examples").glob("*.bufr"))
     tables = [it.read_bytes() for it in SETS[0]]
     of_library = bufr_library.Library(path, *tables)
@@ -272,7 +272,7 @@ def try_threads(path: str) -> None:
 
 
 def try_examples(folder: pathlib.Path, work: pathlib.Path) -> None:
-    """Compiles the examples, with the archive and with the shared library, and compares what they print."""
+    """Compiles the examples with the archive and with the shared library, and checks what they print."""
     faulty, stream = TOP / "examples/bulletins.bufr", TOP / "examples/synop.bufr"
     listing = said_by(["ls"], faulty.read_bytes())
     text, _ = said_by(["dump", "-B", SETS[0][0], "-D", SETS[0][1]], stream.read_bytes())
@@ -283,7 +283,7 @@ def try_examples(folder: pathlib.Path, work: pathlib.Path) -> None:
     refused = b"".join(number.findall(text)), re.sub(rb"(: )(\d+) .*", rb"\1fault \2", faults)
     refused_numbers = re.sub(rb"  # .*", b"", refused[0]), refused[1]
     examples = TOP / "library/examples"
-    # an element with more decimal places than a number of 64 bits has digits
+    # an element with more decimal places than a 64-bit number has digits
     small, fine = work / "small.bufr", (work / "B.csv", SETS[0][1])
     fine[0].write_bytes(SETS[0][0].read_bytes() + b"001192,FINE,Numeric,100,0,8\n")
     document = (VECTORS / "texts/one_block_number.txt").read_bytes().replace(b"001001 10", b"001192 0." + b"0" * 98 + b"10")
@@ -327,13 +327,13 @@ def try_examples(folder: pathlib.Path, work: pathlib.Path) -> None:
 
 
 def try_pipe(folder: pathlib.Path, work: pathlib.Path) -> None:
-    """The example that reads a pipe prints the same messages, however many octets arrive at a time."""
+    """The example that reads a pipe prints the same messages, no matter how many octets arrive at a time."""
     built = work / "read_pipe.c.gcc.static"
     if not built.exists():
         return
     long = (TOP / "examples/sounding.bufr").read_bytes() * 600  # longer than the first buffer
     examples = b"".join(path.read_bytes() for path in sorted((TOP / "examples").glob("*.bufr")))
-    beyond = b"BUFR\xff\xff\xff\4" + b" " * 8  # declares a length that exceeds the pipe
+    beyond = b"BUFR\xff\xff\xff\4" + b" " * 8  # declares a length beyond the end of the input
     of_library = bufr_library.Library(str(folder / "libbufr.so"), *(table.read_bytes() for table in SETS[0]))
     bulletins = (TOP / "examples/bulletins.bufr").read_bytes()
     for stream, size in ((bulletins, 1), (examples + b"BUF", 7), (long + examples + beyond + examples, 1 << 16), (b"", 1)):
@@ -345,13 +345,13 @@ def try_pipe(folder: pathlib.Path, work: pathlib.Path) -> None:
                 for at in range(0, len(stream), size):
                     os.write(run.stdin.fileno(), stream[at : at + size])
                     while struct.unpack("i", fcntl.ioctl(run.stdin, termios.FIONREAD, bytes(4)))[0]:
-                        time.sleep(0)  # the program reads these octets by themselves
+                        time.sleep(0)  # wait until the program has read these octets, so that it reads them separately
                 run.stdin.close()
                 alike(f"a pipe, {size} octets at a time", (printed.result(), run.wait()), (wanted, 0))
 
 
 def try_pkg_config(folder: pathlib.Path, work: pathlib.Path) -> None:
-    """Compiles an example with the flags that pkg-config gives, for an installation that is made as docs/library.md says."""
+    """Compiles an example with the flags from pkg-config, for an installation as described in docs/library.md."""
     if not shutil.which("pkg-config") or not shutil.which("gcc"):
         print("tests/c_library.py: pkg-config or gcc is not installed, so bufr.pc is not tried", file=sys.stderr)
         return

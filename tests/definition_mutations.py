@@ -7,8 +7,8 @@
     tests/definition_mutations.py --list [--crate NAME]          try nothing, and list each comparison with its entries
 
 The program is proved to agree with its definitions, so a rule that is wrong in both goes unnoticed unless an example that
-was computed by hand covers it. The file definition_mutations/CRATE.txt lists wrong rules for a crate. Blank lines separate its
-entries:
+was computed by hand covers it. The file definition_mutations/CRATE.txt lists wrong rules for a crate. Its entries are
+separated by blank lines:
 
     # 33 groups and sequences may be open together.
     specs: Expansion.antt
@@ -17,30 +17,30 @@ entries:
     fails: example TemplateExamples.measures
 
 The comment states the wrong rule. `specs:` names a file in the crate's specs/ (or, as CRATE/FILE, in another crate's), and
-the pairs of `old:` and `new:` below it change that file. The old text must occur exactly once. Consecutive `old:` lines are
-one text of several lines, and so are consecutive `new:` lines. `fails:` names what must fail:
+the pairs of `old:` and `new:` below it change that file. The old text must occur exactly once. Consecutive `old:` lines form
+one text, and so do consecutive `new:` lines. `fails:` names what must fail:
 
-    example MODULE.NAME    a worked example in proofs/ (or CRATE/MODULE.NAME): the checker must reject one of its `refl`
+    example MODULE.NAME    a worked example in proofs/ (or CRATE/MODULE.NAME): the checker must reject a `refl` in it
     law MODULE::NAME       a law in src/ that is only about definitions (or CRATE/MODULE::NAME): its proof must fail
     vector NAME            a case in vectors/cases.tsv, which runs a program with the same change
     test FILE::NAME        a test in bufr_tests, which runs code with the same change
 
-An entry for a vector or a test also contains this change to the code: pairs below `code:`, which names a file in the
-crate's src/. `order: DEFINITION` says that the change reverses two checks in a definition, if the texts do not show this.
-`free: FILE: NAME, NAME` lists definitions, and ``free: FILE: `TEXT` `` a comparison, that need no entry; the comment above
-gives the reason.
+An entry for a vector or a test must also make the same change in the code: `code:` names a file in the crate's src/, and the
+pairs below it change that file. `order: DEFINITION` states that the change reverses two checks in a definition, if the texts
+do not show this. `free: FILE: NAME, NAME` lists definitions that need no entry, and ``free: FILE: `TEXT` `` quotes a
+comparison that needs none; the comment above gives the reason.
 
 How examples are tried: for each entry, a scratch copy of the crate gets two copies of every module between the changed
 definition and the example, reduced to what the example needs. One copy contains the change, and the other does not. A single
 check judges all entries for a crate. An entry is caught only if the checker rejects nothing in the unchanged copy and, in the
 changed copy, nothing but a `refl` of the example whose two sides are different values. If the change does not compile, or
-the example can no longer be computed, the entry is invalid, which is an error. The entries in controls.txt state the
-verdicts that they must get.
+the example can no longer be computed, the entry is invalid, which is an error. The entries in controls.txt, which test this
+script, state the verdicts that they must get.
 
-What needs an entry: each comparison in a computed definition, each number in a rule that rejects input, and each pair of
-checks of which the first to fail is reported. A comparison of sizes needs two entries, one for a step in each direction. An
-entry counts for the comparison whose text it changes, and for an order that it reverses. Propositions need no entries,
-because they state what is proved, and reject no input.
+What needs an entry: each comparison in a computed definition, each number in a rule that rejects input, and the order of any
+two checks that can both fail, because only the first failure is reported. A comparison of sizes needs two entries: one that
+moves the bound up, and one that moves it down. An entry counts for the comparison whose text it changes, and for an order
+that it reverses. Propositions need no entries, because they state what is proved, and reject no input.
 """
 import argparse
 import collections
@@ -70,7 +70,7 @@ from sites import cover, files, listed  # noqa: E402
 
 
 class Copy:
-    """The modules between changed definitions and an example, reduced to what the example needs."""
+    """Copies of the modules between the changed definitions and an example, reduced to what the example needs."""
 
     def __init__(self, entry: Entry) -> None:
         module, _, self.example = entry.name.rpartition(".")
@@ -88,7 +88,10 @@ class Copy:
         self.needed = self.need()
 
     def need(self) -> dict:
-        """For each module the words of everything in it and above it that the example uses, before and after the change."""
+        """Returns, for each module, the words in the declarations that the example needs, before and after the change.
+
+        Only declarations in the module itself and in modules that import it, directly or indirectly, are included.
+        """
         needed = {place: {">>="} for place in self.places}
         needed[self.place].add(self.example)
         seen_by = {place: [needed[one] for one in self.places if one in below(place)] for place in self.places}
@@ -107,7 +110,7 @@ class Copy:
         return needed
 
     def kept(self, of: dict, place: tuple) -> set:
-        """The names that a module of the copy still exports."""
+        """Returns the names that the copy of a module still exports."""
         found = set()
         for block in of[place]:
             if block.declares:
@@ -117,7 +120,7 @@ class Copy:
         return found & self.needed[place]
 
     def imports(self, of: dict, place: tuple, block: Block) -> str:
-        """A line that imports, reduced to what the copy of a module needs, or nothing."""
+        """Returns an import, reduced to the names that the copy of a module needs, or an empty string if it needs none."""
         head, braces, _ = block.text.partition("{")
         used, needed = MODULE.search(head), self.needed[place]
         if not braces:
@@ -128,7 +131,7 @@ class Copy:
         return f"{head}{{{', '.join(names)}}}" if names else ""
 
     def texts(self, of: dict, crate: str, tag: str) -> dict:
-        """The files of the copy by name, for the folder TAG in the proofs of a crate."""
+        """Returns the text of each file in the copy, by name. The files are for proofs/variants/TAG in a crate."""
         made = {}
         for place in self.places:
             used = [block for block in of[place] if block.names & self.needed[place] or not block.declares]
@@ -142,20 +145,20 @@ class Copy:
         return {self.file(place): MODULE.sub(moved, text) for place, text in made.items()}
 
     def file(self, place: tuple) -> str:
-        """The name of the copy of a module. It is short, since the checker leaves out what makes a message long."""
+        """Returns the name for the copy of a module. The name is short because the checker shortens long messages."""
         return f"m{self.places.index(place)}"
 
 
-# ---------------------------------------------------------------- a check of many copies
+# ---------------------------------------------------------------- one check for many copies
 
 ERROR = re.compile(r"^\./proofs/variants/(\w+)/(\w+)\.antt:(\d+):(\d+): error: (.*)$")
 
 
-running = set()  # the processes that were started and have not ended
+running = set()  # the processes that have not exited yet
 
 
 def run(words: list, cwd: pathlib.Path, given: bytes = b"") -> tuple:
-    """Runs a command in a process group of its own, so that it can be stopped. Returns its status, output and errors."""
+    """Runs a command in its own process group, so that `stop_all` can kill it. Returns its status, output and errors."""
     pipe = subprocess.PIPE
     with subprocess.Popen(words, cwd=cwd, stdin=pipe, stdout=pipe, stderr=pipe, start_new_session=True) as process:
         running.add(process)
@@ -180,7 +183,7 @@ def kit() -> pathlib.Path:
 
 
 def libraries(crate: str) -> list:
-    """All crates that one depends on, directly or not."""
+    """Returns all crates that a crate depends on, directly or indirectly."""
     found = []
     for used in crates()[crate]:
         for one in [used, *(libraries(used) if used in crates() else [])]:
@@ -190,7 +193,7 @@ def libraries(crate: str) -> list:
 
 
 def scratch(room: pathlib.Path) -> pathlib.Path:
-    """A copy of the crates without what was built."""
+    """Copies the crates, without build output and must-fail edits. Returns the directory that contains the copy."""
     top = pathlib.Path(tempfile.mkdtemp(dir=room))
     shutil.copytree(TOP / "crates", top / "crates", symlinks=True, ignore=shutil.ignore_patterns("out", "must-fail"))
     for name in ("crates.txt", "HANDLES"):
@@ -199,7 +202,7 @@ def scratch(room: pathlib.Path) -> pathlib.Path:
 
 
 def check_words(top: pathlib.Path, crate: str, law: str) -> list:
-    """The command that checks one law, with the crates below as source."""
+    """Returns the command that checks one law. Our crates that it depends on are read from source."""
     words = [kit() / "bin/rattle", "check", "--crate-name", crate, "src/lib.rt", "--only", law]
     for one in ["std", *libraries(crate)]:
         if one in crates():
@@ -211,8 +214,8 @@ def check_words(top: pathlib.Path, crate: str, law: str) -> list:
 
 
 def check_copies(room: pathlib.Path, crate: str, copies: dict) -> dict:
-    """Checks modules in a scratch copy of a crate. `copies` maps a tag to the files and to the module that imports the
-    others. Returns for each tag what was refused: the file, line, column, message and source line."""
+    """Checks modules in a scratch copy of a crate. `copies` maps each tag to its files and to the module that imports the
+    others. Returns the errors for each tag: the file, line, column, message and source line."""
     top = scratch(room)
     folder = top / "crates" / crate
     for tag, (texts, _) in copies.items():
@@ -257,7 +260,7 @@ def check_copies(room: pathlib.Path, crate: str, copies: dict) -> dict:
 
 
 def is_refused_refl(copy: Copy, error: tuple) -> bool:
-    """Whether an error says that the two sides of an equation of the example differ."""
+    """Returns whether an error rejects a `refl` of the example because the two sides of its equation differ."""
     file, _, column, message, text = error
     is_unequal = "expected type" in message and "type `" in message and message.startswith(f"`{copy.example}`: ")
     return file == copy.file(copy.place) and is_unequal and text[column - 1 :].startswith("refl")
@@ -265,7 +268,10 @@ def is_refused_refl(copy: Copy, error: tuple) -> bool:
 
 @functools.lru_cache(None)
 def words_of_antt() -> tuple:
-    """The constructors that do not begin with a capital, and the definitions, both ours and imported."""
+    """Returns two sets of names, both ours and imported: types and constructors, and other definitions.
+
+    Apart from our own types and constructors, names that begin with a capital letter are left out.
+    """
     built, defined = {"true", "false", "zero", "suc", "pos", "negsuc", "tt", "∷", "[]", "refl"}, set()
     for crate, folder, name in modules():
         for block in blocks(source((crate, folder, f"{name}.antt"))):
@@ -284,7 +290,7 @@ PRINTED = re.compile(r"\[\]|[();]|[^\s(){}\[\],;]+")
 
 
 def waits(word: str) -> bool:
-    """Whether a word that the checker prints is a call that does not compute."""
+    """Returns whether a word that the checker printed is a call that it could not compute."""
     built, defined = words_of_antt()
     name = word.rpartition(".")[2]
     is_elsewhere = "." in word and not name[:1].isupper() and name not in built
@@ -292,7 +298,10 @@ def waits(word: str) -> bool:
 
 
 def head(side: str) -> str:
-    """The constructor at the head of a side of an equation, or of its first field, as the checker prints it, or nothing."""
+    """Returns the constructor at the head of one side of an equation or of its first field, or an empty string.
+
+    `side` is text that the checker printed.
+    """
     outer, depth = [], 0
     for word in PRINTED.findall(side):
         depth += (word == "(") - (word == ")")
@@ -306,30 +315,30 @@ def head(side: str) -> str:
 
 
 def are_unequal(one: str, other: str) -> bool:
-    """Whether two sides that differ have different constructors at their heads, or are values as a whole."""
+    """Returns whether two sides that differ have different constructors at their heads, or have been computed completely."""
     heads = {head(one), head(other)}
     whole = [word for word in PRINTED.findall(re.sub(r"\S+ = ", "", f"{one} {other}")) if word != ";"]
     return (len(heads) == 2 and "" not in heads) or not any(map(waits, whole))
 
 
 def differs(errors: list) -> bool:
-    """Whether one of the refusals shows two values, and not a call that does not compute."""
+    """Returns whether one of the errors shows two different values, rather than a call that could not be computed."""
     shown = [DIFFER.search(message) for *_, message, _ in errors]
     return any(found and are_unequal(found[1], found[2]) for found in shown)
 
 
 def shown(copy: Copy, error: tuple) -> str:
-    """A refusal as text."""
+    """Returns the text of an error."""
     file, _, _, message, text = error
     return f"{'/'.join(copy.places[int(file[1:])])}: {text.strip()[:120]}: {message[:700]}"
 
 
-# An equation that no check may accept.
+# An equation that the checker must reject.
 UNEQUAL = {"unequal": "use Rattle.std.proofs.Common.{◌≡◌, ℕ, zero, suc, refl}\n\nunequal : zero ≡ suc zero\nunequal = refl\n"}
 
 
 def judge_examples(room: pathlib.Path, crate: str, entries: list) -> dict:
-    """Judges all entries whose example belongs to this crate, by one check."""
+    """Judges all entries whose examples belong to this crate, with a single check."""
     verdicts, copies, made, tried = {}, {"unequal": (UNEQUAL, "unequal")}, {}, []
     for number, entry in enumerate(entries):
         try:
@@ -374,7 +383,7 @@ def changed_copy(room: pathlib.Path, texts: dict) -> pathlib.Path:
 
 
 def proves(room: pathlib.Path, entry: Entry, texts: dict) -> str:
-    """Whether a law is proved: `yes`, `no`, or why it could not be checked."""
+    """Returns whether a law is proved: `yes`, `no`, or the reason why it could not be checked."""
     top = changed_copy(room, texts)
     status, output, errors = run(check_words(top, entry.of, entry.name), top / "crates" / entry.of)
     told = (output + errors).decode(errors="replace")
@@ -387,7 +396,7 @@ def proves(room: pathlib.Path, entry: Entry, texts: dict) -> str:
 
 
 def answers(room: pathlib.Path, entry: Entry, texts: dict) -> str:
-    """Whether a vector or a test passes on a trial build, which proves nothing: `yes`, `no`, or why there is none."""
+    """Returns whether a vector or a test passes on a trial build (which proves nothing): `yes`, `no`, or why it cannot run."""
     top = changed_copy(room, texts)
     told = tries_test(top, entry.name) if entry.kind == "test" else tries_vector(top, entry.name)
     shutil.rmtree(top)
@@ -423,13 +432,13 @@ def tries_vector(top: pathlib.Path, name: str) -> str:
     if not ended:
         return errors[-300:].decode(errors="replace")
     if output and not output.endswith(b"\n"):
-        faults = faults.removesuffix(b"\n")  # rt try ends the last line of the output before its own
+        faults = faults.removesuffix(b"\n")  # rt try adds this newline before its own line if the output does not end in one
     wanted = int(case["status"]), content(case["output"]), content(case["faults"])
     return "yes" if wanted == (status, output, faults) else "no"
 
 
 def judge_alone(room: pathlib.Path, entry: Entry, known: dict) -> str:
-    """Judges an entry that needs a check or a build of its own. `known` caches what passes without a change."""
+    """Judges an entry that needs its own check or build. `known` caches which laws, vectors and tests pass unchanged."""
     if entry.kind == "vector" and entry.name not in vectors():
         return f"invalid: vectors/cases.tsv has no {entry.name}"
     passes = proves if entry.kind == "law" else answers
@@ -442,15 +451,18 @@ def judge_alone(room: pathlib.Path, entry: Entry, known: dict) -> str:
     return {"yes": "survives", "no": "caught"}.get(told, f"invalid: the changed text is refused: {told}")
 
 
-# ---------------------------------------------------------------- the run
+# ---------------------------------------------------------------- choosing and judging entries
 
-SAMPLE = 30  # entries of each crate
+SAMPLE = 30  # entries for each crate
 RUNNER = TOP / "tests/vectors/run.py"
 CONTROLS = "controls", "bufr_tables"  # the list whose entries state their verdicts, and the crate that it changes
 
 
 def sampled(entries: list) -> list:
-    """Some entries of each crate whose examples are tried, and the controls. They stay the same until a definition changes."""
+    """Returns the controls and a sample of each crate's entries, for examples only.
+
+    The sample stays the same until a definition changes.
+    """
     seed = "".join(source(place) for place in files())
 
     def rank(entry: Entry) -> str:
@@ -472,7 +484,7 @@ def chosen(asked: argparse.Namespace, entries: list) -> list:
 
 
 def judge(entries: list, jobs: int, program: str | None) -> dict:
-    """The verdict on each entry. The program, if one is named, shows which vectors pass without a change."""
+    """Returns the verdict on each entry. If a program is given, it is used to find out which vectors pass unchanged."""
     verdicts, by_crate = {}, collections.defaultdict(list)
     for entry in entries:
         if entry.kind == "example":

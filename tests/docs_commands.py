@@ -5,7 +5,8 @@
 
 A fenced block contains commands if its first line begins with `$ `. Each line that begins with `$ ` is a command, and lines
 after it that begin with `> ` continue the command. The lines below a command are its output (standard output and standard
-error together). There, a line `...` stands for any lines, and `(status N)` at the end gives an exit status other than 0.
+error together). In the output, a line `...` stands for any number of lines, and `(status N)` at the end is an exit status
+other than 0.
 
 All commands in a page run in the same shell, which starts in an empty directory. `bufr` and the scripts are on PATH, and
 the directory contains links to examples/, scripts/ and tables/: those of the repository, or of the installation to which
@@ -30,7 +31,7 @@ def is_there(word: str, scripts: pathlib.Path) -> bool:
 
 
 def blocks(text: str):
-    """The first line's number, the words that a block needs, and the lines of each block of commands."""
+    """Yields, for each block of commands, the number of its first line, the names that it requires, and its lines."""
     for found in re.finditer(r"^( *)```([^\n`]*)\n(.*?)^ *```$", text, re.M | re.S):
         lines = [line[len(found[1]) :] for line in found[3].splitlines()]
         if lines and lines[0].startswith("$ "):
@@ -39,7 +40,7 @@ def blocks(text: str):
 
 
 def commands(first: int, lines: list):
-    """Each command of a block: its line's number, its words, and what it is to say."""
+    """Returns, for each command in a block, its line number, its lines, and the lines that it must print."""
     told = []
     for number, line in enumerate(lines, first):
         if line.startswith("$ "):
@@ -57,8 +58,10 @@ def alike(wanted: list, said: list) -> bool:
 
 
 def typed(told: list, folder: pathlib.Path, environment: dict, timeout: int = 300) -> list:
-    """Types commands one after another in one shell, in a folder. Returns those that say something else than is wanted,
-    each with its number; where nothing is wanted, a command may say anything, but has to end with status 0."""
+    """Runs commands in one shell, which starts in this directory. Returns a complaint for each command with wrong output.
+
+    If the expected output is None, a command can print anything, but it must exit with status 0.
+    """
     wrong = []
     with tempfile.TemporaryDirectory() as place:
         kept, script = pathlib.Path(place), ["export LC_ALL=C.UTF-8"]
@@ -79,7 +82,7 @@ def typed(told: list, folder: pathlib.Path, environment: dict, timeout: int = 30
 
 
 def wrongs(path: pathlib.Path) -> list:
-    """Runs a document's commands. Returns those that say something else."""
+    """Runs the commands in a document. Returns a complaint for each command with wrong output."""
     top = next(folder for folder in path.parents if (folder / "examples").is_dir())
     doc, told = path.relative_to(top), []
     for first, needs, lines in blocks(path.read_text(encoding="utf-8")):

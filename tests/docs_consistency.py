@@ -4,10 +4,10 @@
     tests/docs_consistency.py [PROGRAM]
 
 - all pages: links and paths, and the Python version that the scripts need;
-- docs/guide.md: octets and items in the example files, and the differences from ecCodes;
+- docs/guide.md: the sizes and items of the example files, and the differences from ecCodes;
 - docs/proof.md: functions, their clauses, laws, fields of records, and a contract;
 - tables/README.md: the numbers of rows in the tables;
-- the man pages: the faults in the page for `bufr`, and, if they are installed, that `mandoc` and `groff` print no warnings;
+- the man pages: the faults in the page for `bufr`, and warnings from `mandoc` and `groff`, if these are installed;
 - the man pages and the completions: commands and options, including those of the scripts.
 """
 import csv
@@ -38,7 +38,7 @@ def anchors(path: pathlib.Path) -> set:
 
 
 def links_and_paths() -> None:
-    """Each link leads somewhere, and each path in the docs that begins with a folder of this tree is there."""
+    """Checks that each link has a target, and that each path to a file in this repository exists, except build output."""
     folders = "|".join(sorted(path.name for path in TOP.iterdir() if path.is_dir() and path.name != ".git"))
     for doc in DOCS:
         text = doc.read_text(encoding="utf-8")
@@ -54,7 +54,7 @@ def links_and_paths() -> None:
 
 
 def example_files() -> None:
-    """How many octets the files of docs/guide.md have, and of those with a dump how many items, and missing ones."""
+    """Checks the sizes that docs/guide.md states for the example files, and the numbers of items and missing values."""
     rows = re.findall(r"^\| `(\w+)\.bufr` \| (\d+) \|.*\| ([^|]*) \|$", read("docs/guide.md"), re.M)
     there = {path.stem for path in TOP.glob("examples/*.bufr")}
     want({name for name, *_ in rows} == there, f"docs/guide.md: the example files are {sorted(there)}")
@@ -71,7 +71,7 @@ def example_files() -> None:
 
 
 def counts_of_tables() -> None:
-    """How many elements and sequences each set has; a row of a set that is not there is told."""
+    """Checks that tables/README.md lists every table set, with the right numbers of elements and sequences."""
     rows = re.findall(r"^\| `(wmo-\d+)` \| [\d, to]+ \| ([\d,]+) \| ([\d,]+) \|$", read("tables/README.md"), re.M)
     want({name for name, *_ in rows} == {path.name for path in TOP.glob("tables/wmo-[0-9][0-9]")}, "tables/README.md: other sets")
     for name, *numbers in rows:
@@ -83,7 +83,7 @@ def counts_of_tables() -> None:
 
 
 def man_page() -> None:
-    """The man page has each fault of docs/texts.md, and nobody complains of it."""
+    """Checks that man/bufr.1 and docs/texts.md list the same faults, and that no man page causes warnings."""
     page = read("man/bufr.1")
     faults = set(re.findall(FAULT, read("docs/texts.md"), re.M))
     told = set()
@@ -96,13 +96,13 @@ def man_page() -> None:
             continue
         for path in sorted(TOP.glob("man/*.1")):
             done = subprocess.run([*command, path], stdout=subprocess.PIPE, stderr=subprocess.STDOUT, text=True)
-            # Where the other pages are is a matter of the installation.
+            # Whether the other pages can be found depends on the installation.
             told = [line for line in done.stdout.splitlines() if "not found: Xr" not in line and "mandoc.db" not in line]
             want(not told, f"{path.name}: {told}")
 
 
 def python_version() -> None:
-    """Each page that says which Python the scripts need says the one that they look for."""
+    """Checks that the pages that state the required Python version agree with the scripts. Some pages must state it."""
     needed = ".".join(re.search(r"version_info < \((\d+), (\d+)\)", read("scripts/bufr_guard.py")).groups())
     pages = ["README.md", "CHANGELOG.md", "CONTRIBUTING.md", "docs/guide.md", "tables/README.md"]
     pages += sorted(str(path.relative_to(TOP)) for path in [*TOP.glob("man/*"), TOP / "build_wheel.py"])
@@ -115,7 +115,7 @@ def python_version() -> None:
 
 
 def commands_and_options() -> None:
-    """Each command and option that help has stands in the man page and in both completions."""
+    """Checks that the man page and both completions contain each command and option in the help."""
 
     def helped(*words: str) -> str:
         return subprocess.run([program(), *words, "--help"], stdout=subprocess.PIPE, check=True).stdout.decode()
@@ -137,14 +137,17 @@ def commands_and_options() -> None:
 
 
 def scripts() -> None:
-    """Each script has a man page, completions and a place in `man bufr`, with the options and keys of its help."""
+    """Checks that `man bufr` mentions each script, and that the script's man page and completions contain its options.
+
+    The page and completions of bufr-extract must also contain the keys in the output of `bufr ls`.
+    """
     zsh = read("completions/_bufr_scripts")
     names = sorted(path.name for path in TOP.glob("scripts/bufr-*"))
     want(zsh.split("\n")[0] == " ".join(["#compdef", *names]), "completions/_bufr_scripts: its first line has other scripts")
     for name in names:
         words = [sys.executable, TOP / "scripts" / name, "--help"]
         done = subprocess.run(words, stdout=subprocess.PIPE, env={**os.environ, "BUFR": program()})
-        told = re.sub(r"bufr dump .*\|", "", done.stdout.decode())  # options of `bufr` in an example
+        told = re.sub(r"bufr dump .*\|", "", done.stdout.decode())  # an example contains options of `bufr`
         options = set(re.findall(r"(?<![\w-])(--?[A-Za-z][\w-]*)", told)) - {"-h", "-V"} | {"--help", "--version"}
         path = TOP / "man" / f"{name}.1"
         page = path.read_text(encoding="utf-8") if path.exists() else ""
@@ -171,7 +174,7 @@ def scripts() -> None:
 
 
 def differences() -> None:
-    """docs/guide.md has the differences of tests/eccodes/against_eccodes.py, in their order."""
+    """Checks that docs/guide.md and tests/eccodes/against_eccodes.py list the same differences in the same order."""
     rows = re.search(r'DIFFERENCES = """\n(.*?)"""', read("tests/eccodes/against_eccodes.py"), re.S)[1].splitlines()
     told = re.findall(r"^\| (\d+) \| ([^|]*?) \|", read("docs/guide.md"), re.M)
     wanted = [(str(number), row.split(" | ")[0]) for number, row in enumerate(rows, 1)]
@@ -179,14 +182,14 @@ def differences() -> None:
 
 
 class Call:
-    """A function of the crates: its name with its type, its crate and file, and its contract."""
+    """A function in a crate: its name (with its type, if any), its crate and file, and its contract."""
 
     def __init__(self, name: str, crate: str, file: str, contract: str) -> None:
         self.name, self.crate, self.file, self.contract = name, crate, file, contract
 
 
 def calls() -> list:
-    """The functions of all crates, without those of the tests."""
+    """Returns the functions in all crates except bufr_tests."""
     found = []
     for path in sorted(TOP.glob("crates/*/src/**/*.rt")):
         owner, lines = "", path.read_text(encoding="utf-8").splitlines()
@@ -204,7 +207,7 @@ def calls() -> list:
 
 
 def fields(record: str) -> set:
-    """The fields of a record of specs/; of one that is not there none."""
+    """Returns the fields of a record in specs/, or an empty set if there is no such record."""
     for path in sorted(TOP.glob("crates/*/specs/*.antt")):
         found = re.search(rf"^pub record {record}\b.*?\n(?=\S)", path.read_text(encoding="utf-8") + "\n.", re.M | re.S)
         if found:
@@ -213,8 +216,11 @@ def fields(record: str) -> set:
 
 
 def check_part(part: str, every: list, defined: set) -> None:
-    """Each name of a part `A`, `B`: `c`, `d`: clauses of both calls, fields of a record, or functions of a file. A
-    clause `R.f` is the field of a record that the contract names."""
+    """Checks the names in a part of a cell, such as "`A`, `B`: `c`, `d`".
+
+    A and B are functions, and c and d are clauses of both. Or A is a record or a file, and c is a field or a function in it.
+    A clause `R.f` is a field of a record that the contract names.
+    """
 
     def lacks(name: str, of: str = "the crates") -> None:
         complaints.append(f"docs/proof.md: {name} is not in {of}")
@@ -241,7 +247,10 @@ def check_part(part: str, every: list, defined: set) -> None:
 
 
 def clauses_of_proof() -> None:
-    """The calls, laws, clauses and records that the tables of docs/proof.md name, in parentheses too, and its contract."""
+    """Checks the functions, laws, clauses and records that the tables in docs/proof.md name, including those in parentheses.
+
+    The contract on this page must occur in the crates.
+    """
     page, every = read("docs/proof.md"), calls()
     named = re.compile(r"^(?:[a-z]+ )*pub (?:[a-z]+ )*([^\s:]+)", re.M)
     defined = {name for path in TOP.glob("crates/*/specs/*.antt") for name in named.findall(path.read_text(encoding="utf-8"))}

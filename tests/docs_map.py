@@ -7,11 +7,11 @@ Each rule in docs/map.md has a tag. In the sources, a comment `rule: TAG, TAG` p
 apply: a definition in specs/, an example in proofs/, a function, or a test in bufr_tests. A file in tests/ has such a
 comment near its beginning. The last column of tests/vectors/cases.tsv lists the rules for each vector. The first two cells
 of a row in docs/map.md are written by hand; the other cells are generated from the tags. The last cell says how many
-comparisons, numbers and orders the rule's definitions contain, and how many of them an entry of tests/definition_mutations
-bends. The others must have a reason for having no entry; otherwise, the rule is not covered.
+comparisons, numbers and orders the rule's definitions contain, and how many of them an entry in tests/definition_mutations
+changes. The others must have a reason for having no entry; otherwise, the rule is not covered.
 
 Each heading in docs/format.md and docs/texts.md must have a section in docs/map.md, and each fault in docs/texts.md a row.
-The section of docs/design.md on a crate must name each of its modules. Code that a page names must occur in the crates.
+The section on a crate in docs/design.md must name each of its modules. Code that a page names must occur in the crates.
 """
 import csv
 import pathlib
@@ -26,7 +26,7 @@ from entries import every_entry  # noqa: E402
 from sites import boundaries, cover  # noqa: E402
 
 CRATES = re.findall(r"^(\w+):", (TOP / "crates.txt").read_text(encoding="utf-8"), re.M)
-TESTS = "bufr_tests"  # the crate of the tests of all others
+TESTS = "bufr_tests"  # the crate that tests all others
 OF_DOCS = "DECISIONS design format proof proving texts".split()
 PAGES = ["CONTRIBUTING.md", *(f"docs/{page}.md" for page in OF_DOCS)]
 COLUMNS = ["definition", "function", "example", "test"]
@@ -45,7 +45,7 @@ def complain(doc: str, line: int, text: str) -> None:
 
 
 def read(path: pathlib.Path) -> str:
-    """A file's text; of one that is not there none."""
+    """Returns the text of a file, or an empty string if the file does not exist."""
     return path.read_text(encoding="utf-8") if path.is_file() else ""
 
 
@@ -53,7 +53,7 @@ def read(path: pathlib.Path) -> str:
 
 
 def owner(lines: list, line: int) -> str:
-    """The type or trait whose `impl` or `trait` has this line, with `::` after it, or nothing."""
+    """Returns the type or trait whose `impl` or `trait` contains this line, followed by `::`, or an empty string."""
     if not lines[line].startswith(" "):
         return ""
     head = next((one for one in reversed(lines[:line]) if re.match(r"(?:pub(?:\(\w+\))? )?(?:impl|trait)\b", one)), "")
@@ -62,7 +62,7 @@ def owner(lines: list, line: int) -> str:
 
 
 def tagged(path: pathlib.Path):
-    """Each tag of a file with the line that it is for, from 0; attributes may come between."""
+    """Yields each tag in a file, with the index of the line to which it applies. Attributes can come between the two."""
     tags = []
     for line, one in enumerate(read(path).splitlines()):
         found = TAG.match(one)
@@ -74,7 +74,7 @@ def tagged(path: pathlib.Path):
 
 
 def places() -> list:
-    """Each place that has a tag, in the order of the files: the tag, its column, crate and name."""
+    """Returns each place that has a tag, in the order of the files: the tag, and the place's column, crate and name."""
     found = []
     for crate in CRATES:
         for folder in ("specs", "src", "proofs"):
@@ -100,7 +100,8 @@ def places() -> list:
 
 
 def bounds_of(of: list) -> tuple:
-    """How many boundaries and orders a rule's definitions have, how many of them an entry bends, and how many have no reason for having none."""
+    """Returns the number of comparisons, numbers and orders in a rule's definitions, how many of these have entries, and how
+    many are not covered."""
     sites = []
     for _, column, crate, name in of:
         if column == "definition":
@@ -110,7 +111,7 @@ def bounds_of(of: list) -> tuple:
 
 
 def row(rule: str, tag: str, of: list) -> str:
-    """The row of a rule, made of the places that have its tag."""
+    """Returns the row for a rule, generated from the places that have its tag."""
     crate = next((one[2] for column in COLUMNS for one in of if one[1] == column and one[2] not in ("", TESTS)), "-")
     cells = []
     for column in COLUMNS:
@@ -122,13 +123,13 @@ def row(rule: str, tag: str, of: list) -> str:
 
 
 def anchors(doc: str) -> list:
-    """The anchors of a document's headings below its title."""
+    """Returns the anchors of all headings in a document except its title."""
     heads = re.findall(r"^##+ (.*)$", read(TOP / "docs" / doc), re.M)
     return [re.sub(r"[^\w -]", "", head.lower()).replace(" ", "-") for head in heads]
 
 
 def rules() -> None:
-    """Makes the rows of docs/map.md, and sees that no heading, no fault and no tag is left out."""
+    """Generates the rows of docs/map.md, and checks that no heading, fault or tag is missing."""
     by_tag, lines, linked, known = {}, [], set(), set()
     for place in places():
         by_tag.setdefault(place[0], []).append(place)
@@ -167,14 +168,14 @@ def rules() -> None:
 
 
 def modules(crate: str) -> set:
-    """The modules of a crate that are no tests, by the last part of their path."""
+    """Returns the last part of the path of each module in a crate, except modules of tests."""
     files = (TOP / "crates" / crate / "src").rglob("*.rt")
     return {file.stem for file in files if not re.match(r"lib$|test_|(\w+_)?tests$", file.stem)}
 
 
 def house() -> None:
-    """The part of each crate in docs/design.md names its modules: what stands in backquotes, with a small letter
-    first, in the list below its heading."""
+    """Checks that the section on each crate in docs/design.md names all of its modules and no others. A name in the list
+    below the heading counts if it is in backquotes and begins with a lower-case letter."""
     lines = read(TOP / "docs/design.md").splitlines()
     named, first, crate = {}, {}, ""
     for line, one in enumerate(lines, 1):
@@ -199,8 +200,8 @@ def words_of_code() -> set:
 
 
 def pages() -> None:
-    """Each word of a page in backquotes that looks like a name of the code (small letters with `_`, or two capitals) is
-    one. What has a `/` is a path, which tests/docs_consistency.py looks for."""
+    """Checks that each word in backquotes that looks like a name in the code (snake_case or CamelCase) occurs in the code.
+    Text that contains a `/` is a path, which tests/docs_consistency.py checks."""
     code = words_of_code()
     for page in PAGES:
         text = read(TOP / page)

@@ -15,7 +15,7 @@ LONG = 25
 
 
 def sentences(text: str) -> list:
-    """The sentences of a page, each as its words. What is in backquotes is one word."""
+    """Returns the sentences on a page, each as a list of words. Text in backquotes counts as one word."""
     text = re.sub(r"^ *```.*?^ *```$", "\n", text, flags=re.M | re.S)
     text = re.sub(r"^#.*$", "\n", text, flags=re.M)
     text = re.sub(r"`[^`\n]*`", "code", text)
@@ -33,7 +33,7 @@ def main() -> None:
         total += words
         found = sentences(text)
         every += [(len(one), page, " ".join(one)) for one in found]
-        whole = [len(one) for one in found if len(one) > 4]  # what is shorter is a word of a table
+        whole = [len(one) for one in found if len(one) > 4]  # shorter ones are words in a table
         bound = f" of {MOST[page]}" if page in MOST else ""
         print(f"{words:6}{bound}  {page}: {sum(whole) / max(1, len(whole)):.0f} words a sentence, at most {max(map(len, found))}")
         if words > MOST.get(page, words):

@@ -1,13 +1,13 @@
 // A library that is preloaded into a program and makes one of its memory allocations fail, so that a test can check how
-// the program handles the failure of each. REFUSE_COUNT names a file of eight octets, which is mapped into memory and
-// in which the allocations are counted, because a program can end at any time without notice. REFUSE_AT is the number
-// of the allocation that fails (counted from 1), or 0 if none fails.
+// the program handles the failure of each. REFUSE_COUNT names a file of eight bytes, in which the library counts the
+// allocations. The file is mapped into memory, because a program can exit at any time without notice. REFUSE_AT is the
+// number of the allocation that fails (counted from 1), or 0 if none fails.
 //
 // This file declares the functions that it calls, so that it can be compiled without the headers of the C library.
 typedef __SIZE_TYPE__ size_t;
 typedef __UINT64_TYPE__ uint64_t;
 #define NULL ((void *)0)
-enum { ENOMEM = 12, O_RDWR = 2, PROT_READ_WRITE = 3, MAP_SHARED = 1 }; // of Linux
+enum { ENOMEM = 12, O_RDWR = 2, PROT_READ_WRITE = 3, MAP_SHARED = 1 }; // values for Linux
 
 int *__errno_location(void);
 char *getenv(const char *name);
@@ -17,13 +17,13 @@ int close(int file);
 unsigned long long strtoull(const char *text, char **end, int base);
 _Noreturn void _exit(int status);
 
-// What stands behind these calls in the GNU C library.
+// The functions in the GNU C library that do the work of malloc, calloc, realloc and memalign.
 void *__libc_malloc(size_t size);
 void *__libc_calloc(size_t count, size_t size);
 void *__libc_realloc(void *old, size_t size);
 void *__libc_memalign(size_t alignment, size_t size);
 
-static volatile uint64_t *calls; // what is asked for before it is mapped is not the program's
+static volatile uint64_t *calls; // allocations before the file is mapped are not the program's
 static uint64_t refused;
 
 __attribute__((constructor)) static void begin(void) {
@@ -31,7 +31,7 @@ __attribute__((constructor)) static void begin(void) {
     int file = name && number ? open(name, O_RDWR) : -1;
     void *map = mmap(NULL, sizeof *calls, PROT_READ_WRITE, MAP_SHARED, file, 0);
     if (map == (void *)-1)
-        _exit(99); // no status of the program
+        _exit(99); // the program itself never exits with this status
     close(file);
     refused = strtoull(number, NULL, 10);
     calls = map;

@@ -22,6 +22,7 @@ whichever allocation fails.
 fail_allocations.c makes the allocations fail. It is compiled by a C compiler ($CC or cc) or, if there is none, by the
 toolchain's.
 """
+# rule: fault-73
 import concurrent.futures
 import os
 import pathlib
@@ -36,15 +37,15 @@ from lib import SECTION_1, TABLES, TOP, finish, message, program, section, words
 
 WANT = b"bufr: 73 out of memory\n"
 TESTS = TOP / "crates/bufr_tests/out/bufr_tests_tests"
-PIECE = rb"(?s)message\n.*?\nend\n|offset=[^\n]*\n|.+"  # of `dump` and `ls`, or a text that is one
+PIECE = rb"(?s)message\n.*?\nend\n|offset=[^\n]*\n|.+"  # a text of `dump`, a line of `ls`, or else the whole output
 
-# Tables of a few rows, with and without a fault.
+# Small tables: valid ones, and a Table D with a cycle.
 SMALL_B = b"fxy,name,unit,scale,reference,width\n001001,WMO BLOCK NUMBER,Numeric,0,0,7\n"
 SMALL_D = b"fxy,member\n360192,001001\n360193,360192\n360193,001001\n"
 CYCLE_D = b"fxy,member\n300001,300002\n300002,300001\n"
 
 ONE = message(b"\x14")
-# What an input holds; `ls` and `dump` find messages in it.
+# The inputs, by description. The first two are for `ls`, and the others for `dump`.
 INPUTS = {
     "a stray word and a message": b"BUFR\0\0\x40\x04" + ONE + bytes(8),
     "a message longer than the first buffer": message(bytes(10_000)),
@@ -65,13 +66,12 @@ INPUTS = {
     "nothing": b"",
 }
 
-# How many refused calls leave the whole answer: those for the lines that subsets have alike, and for what is between.
+# How many allocations can fail without changing the output: those for shared lines, and for the list of items between them.
 SPARED = {"dump of compressed names": 1, "dump of 200 compressed items": 2, "dump of buoys.bufr": 4}
 
 
 class Run(NamedTuple):
-    """A run of a program."""
-# rule: fault-73
+    """A command to run, and its input."""
 
     name: str
     words: list
@@ -79,7 +79,7 @@ class Run(NamedTuple):
 
 
 class Left(NamedTuple):
-    """What a run left, and how many calls for memory it made."""
+    """The results of a run, and the number of allocations."""
 
     status: int
     output: bytes
@@ -88,7 +88,7 @@ class Left(NamedTuple):
 
 
 class Trial:
-    """The library that refuses, and a folder for files."""
+    """The library that makes allocations fail, and a directory for files."""
 
     def __init__(self, compiler: list, work: pathlib.Path) -> None:
         self.work, self.library = work, work / "fail_allocations.so"
@@ -97,7 +97,7 @@ class Trial:
         subprocess.run([*compiler, *flags, source], check=True)
 
     def left(self, run: Run, refused: int) -> Left:
-        """Makes a run with one of its calls refused, or none where that is 0."""
+        """Runs a command. The allocation with the number `refused` fails, or none if the number is 0."""
         count, source = self.work / f"count{refused}", self.work / f"input{refused}"
         count.write_bytes(bytes(8))
         source.write_bytes(run.input)
@@ -108,7 +108,7 @@ class Trial:
         return Left(done.returncode, done.stdout, done.stderr, int.from_bytes(count.read_bytes(), sys.byteorder))
 
     def lefts(self, run: Run) -> tuple:
-        """What a run leaves with all memory, and with each call refused. Says how many calls it makes."""
+        """Runs a command without failures, and then with each allocation failing in turn. Returns the results of all runs."""
         whole = self.left(run, 0)
         print(f"failed_allocations: {run.name}: {whole.calls} calls", flush=True)
         numbers = range(1, whole.calls + 2)
@@ -117,7 +117,7 @@ class Trial:
 
 
 def wrongs(name: str, whole: Left, lefts: list) -> list:
-    """What is not so of a run of the program with each call refused in turn."""
+    """Returns complaints about the runs of a command in which each allocation fails in turn."""
     if whole.calls == 0:
         return ["the library does not see the program's calls for memory"]
     if whole.errors.endswith(WANT):
@@ -133,7 +133,7 @@ def wrongs(name: str, whole: Left, lefts: list) -> list:
 
 
 def fits(whole: Left, number: int, left: Left) -> bool:
-    """Whether a run with this call refused left what it should."""
+    """Returns whether the results are right if the allocation with this number fails."""
     if left[:3] == whole[:3]:
         return True
     prefix = left.errors[: -len(WANT)]
@@ -143,7 +143,7 @@ def fits(whole: Left, number: int, left: Left) -> bool:
 
 
 def is_left(output: bytes, whole: bytes) -> bool:
-    """Whether an output is the first pieces of another, and of a text that is next its first lines."""
+    """Returns whether an output consists of the first pieces of `whole` and, if a text is next, some of its first lines."""
     left = whole
     for piece in reversed(pieces(whole)):
         left = left[: -len(piece)]
@@ -154,7 +154,7 @@ def is_left(output: bytes, whole: bytes) -> bool:
 
 
 def pieces(output: bytes) -> list:
-    """The lines, texts or messages that an output is made of."""
+    """Splits an output into its lines, texts or messages."""
     if output[:4] != b"BUFR":
         return re.findall(PIECE, output)
     length = int.from_bytes(output[4:7], "big")
@@ -162,7 +162,7 @@ def pieces(output: bytes) -> list:
 
 
 def tests(trial: Trial) -> list:
-    """What is not so of the tests of calls that take memory, with each call for it refused."""
+    """Returns complaints about the tests in growth_tests.rt, in which each allocation fails in turn."""
     if not TESTS.is_file():
         print(f"failed_allocations: skipped the tests of single calls, there is no {TESTS.relative_to(TOP)}")
         return []
@@ -176,14 +176,14 @@ def tests(trial: Trial) -> list:
 
 
 def again(trial: Trial) -> list:
-    """What is not so of plain data whose template comes again: they take no memory."""
+    """Returns a complaint if `dump` allocates memory for a message with the same descriptors as the previous one."""
     runs = [Run("dump", [program(), "dump", *TABLES], ONE * messages) for messages in (1, 3)]
     one, three = (trial.left(run, 0).calls for run in runs)
     return [f"a template that comes again: {three} calls for memory, {one} of one message"] * (one != three)
 
 
 def runs(work: pathlib.Path) -> list:
-    """The runs: of each command, of each table, and of words that are asked for help or not understood."""
+    """Returns the runs: each command on its inputs, valid and invalid tables, the help, and invalid arguments."""
     bufr = program()
 
     def file(name: str, octets: bytes) -> str:
@@ -223,7 +223,7 @@ def runs(work: pathlib.Path) -> list:
 
 
 def compiler() -> list:
-    """The words that call a C compiler, or none where there is none."""
+    """Returns the command for a C compiler, or an empty list if there is none."""
     own = os.environ.get("CC", "cc")
     if shutil.which(own):
         return [own]

@@ -4,8 +4,9 @@
     tests/handwritten_documents.py [PROGRAM]
 
 Each row contains the lines of a document from `compressed` on, first as a person might write them, and then as in a dump.
-Both forms must be encoded to the same octets, and a dump of these must contain the lines in the second form.
+`encode` must convert both forms to the same octets, and the dump of these must contain the lines in the second form.
 """
+# rule: 2-06-y-width-of-table-b, 2-06-y-other-width
 import subprocess
 
 from lib import TABLES, finish, program
@@ -21,8 +22,7 @@ FACTOR = "  # DELAYED DESCRIPTOR REPLICATION FACTOR [Numeric]"
 
 
 def plain(descriptors: str, *items: str) -> str:
-    """One subset without compression."""
-# rule: 2-06-y-width-of-table-b, 2-06-y-other-width
+    """Returns the lines of a document with one subset and no compression."""
     return lines("compressed 0", "optional 0", "subsets 1", f"descriptors {descriptors}", "subset 1", *items, "end")
 
 
@@ -30,7 +30,7 @@ def lines(*parts: str) -> str:
     return "".join(part + "\n" for part in parts)
 
 
-# the document by hand, and in a dump's spelling
+# Each document as a person might write it, and as in a dump.
 ROWS = {
     "zeros in front and behind, minus zero, a scale below 0": (
         plain("012101 005002 010004 001001", "012101 0288.150", "005002 -0", "010004 00101320.0", "001001 MISSING"),
@@ -94,13 +94,13 @@ ROWS = {
 
 
 def run(command: str, octets: bytes) -> bytes:
-    """What a command writes, and after it why it ends otherwise than with status 0."""
+    """Returns the output of a command, followed by its errors and its exit status if this is not 0."""
     done = subprocess.run([program(), command, *TABLES], input=octets, capture_output=True)
     return done.stdout + (b"%sstatus %d\n" % (done.stderr, done.returncode) if done.returncode else b"")
 
 
 def wrong(by_hand: str, dumped: str) -> str:
-    """What is wrong of a document: nothing where its dump is this one, and comes back."""
+    """Returns a complaint, or an empty string if the document has this dump, and the dump is encoded to the same octets."""
     octets = run("encode", (HEAD + by_hand).encode())
     text = run("dump", octets)
     if text != (HEAD + dumped).encode():

@@ -1,4 +1,4 @@
-"""Code that the Python tests share: the program, tables, how a test ends, and messages that are built by hand."""
+"""Helpers for the Python tests: find the program and the tables, run programs, end a test, and build messages by hand."""
 import os
 import pathlib
 import subprocess
@@ -6,19 +6,19 @@ import sys
 
 TOP = pathlib.Path(__file__).resolve().parent.parent
 BUILT = TOP / "crates/bufr/out/bufr"
-FAULT = r"^\| `(?:bufr: )?(\d+) "  # the row of a fault in docs/texts.md
+FAULT = r"^\| `(?:bufr: )?(\d+) "  # matches the row of a fault in docs/texts.md
 PAGES = ["README.md", "CONTRIBUTING.md", "bench/README.md", "tables/README.md"]
 DOCS = [*(TOP / page for page in PAGES), *sorted((TOP / "docs").glob("*.md"))]
 TABLES = ["-B", str(TOP / "tables/wmo-39/B.csv"), "-D", str(TOP / "tables/wmo-39/D.csv")]
 
 
 def program() -> str:
-    """The program that a test is called with, or else the one that was built."""
+    """Returns the path of the program under test: the first argument or, if there is none, the program that was built."""
     return str(pathlib.Path(sys.argv[1] if len(sys.argv) > 1 else BUILT).resolve())
 
 
 def use_python_with(*modules: str) -> None:
-    """Runs the test by a Python that has these modules, if this one lacks them. Ends the test if none has them."""
+    """Restarts the test with /usr/bin/python3 if this Python lacks one of these modules. If both lack one, skips the test."""
     for python in (sys.executable, "/usr/bin/python3"):
         known = subprocess.run([python, "-c", f"import {', '.join(modules)}"], stderr=subprocess.DEVNULL)
         if known.returncode == 0:
@@ -30,7 +30,7 @@ def use_python_with(*modules: str) -> None:
 
 
 def finish(wrongs: list) -> None:
-    """Ends a test: prints what is wrong, with the name of the test."""
+    """Ends a test: prints each failure with the name of the test, and exits with status 1 or, if there are none, 0."""
     test = pathlib.Path(sys.argv[0]).resolve().relative_to(TOP)
     for wrong in wrongs:
         print(f"{test}: {wrong}", file=sys.stderr)
@@ -38,13 +38,13 @@ def finish(wrongs: list) -> None:
 
 
 def want(holds: bool, wrong: str) -> None:
-    """Ends a test at once where something does not hold."""
+    """Ends the test immediately and reports `wrong` if `holds` is false."""
     if not holds:
         finish([wrong])
 
 
 def usage_of(words: list, **streams):
-    """The status of a program, and what it used with the programs that it waited for: processor time, memory."""
+    """Runs a program. Returns its exit status and the resources used by it and by the child processes it waited for."""
     with subprocess.Popen(words, **streams) as run:
         _, status, usage = os.wait4(run.pid, 0)
         run.returncode = os.waitstatus_to_exitcode(status)
@@ -52,16 +52,16 @@ def usage_of(words: list, **streams):
 
 
 def seconds_of(words: list, **streams) -> float:
-    """The processor time of a program that ends with 0, in user mode and in the system."""
+    """Runs a program, which must exit with status 0. Returns its processor time (user and system) in seconds."""
     status, usage = usage_of(words, **streams)
     want(status == 0, f"{words[:3]} ends with {status}")
     return usage.ru_utime + usage.ru_stime
 
 
 def least_seconds(commands: list, most: float, output=os.devnull, **streams) -> list:
-    """The least processor time of each command. Other programs may disturb any of them, so the commands take turns.
+    """Returns the least processor time of each command. The commands take turns, because other programs may slow down any run.
 
-    Stops after the third round or a later one if the first command takes at most `most` times as long as the others together,
+    Stops after the third or a later round if the first command takes at most `most` times as long as the others together,
     and otherwise after 20 rounds.
     """
     least = [1e9] * len(commands)
@@ -75,7 +75,7 @@ def least_seconds(commands: list, most: float, output=os.devnull, **streams) -> 
 
 
 def runs(process: int) -> bool:
-    """Whether a process runs. One that has ended is there until its parent has waited for it."""
+    """Returns whether a process is running. A process that has exited but has not been waited for does not count."""
     try:
         return pathlib.Path(f"/proc/{process}/stat").read_text().rpartition(") ")[2][:1] != "Z"
     except OSError:
@@ -90,30 +90,30 @@ SECTION_1 = {
 
 
 def section(content: bytes, edition: int) -> bytes:
-    """A section with its length; in edition 3 a zero octet makes it even."""
+    """Returns a section, beginning with its length. In edition 3, a zero octet is added if the length would be odd."""
     content += b"\0" * (edition == 3 and len(content) % 2 == 0)
     return (len(content) + 3).to_bytes(3, "big") + content
 
 
 def message(data: bytes, descriptors: bytes = b"\x01\x01", subsets: int = 1, flags: int = 0x80, edition: int = 4) -> bytes:
-    """A message with least lengths and no optional section."""
+    """Returns a message with the shortest possible sections and without the optional section."""
     three = section(b"\0" + subsets.to_bytes(2, "big") + bytes([flags]) + descriptors, edition)
     body = SECTION_1[edition] + three + section(b"\0" + data, edition) + b"7777"
     return b"BUFR" + (8 + len(body)).to_bytes(3, "big") + bytes([edition]) + body
 
 
 def asking(message: bytes, version: int, local: int = 0, centre: int = 98) -> bytes:
-    """A message of edition 4, but of this centre, and asking for this version and this local version."""
+    """Returns an edition 4 message with a different centre, table version and local version."""
     return message[:12] + centre.to_bytes(2, "big") + message[14:21] + bytes([version, local]) + message[23:]
 
 
 def words(text: str) -> bytes:
-    """Descriptors, six digits each, as section 3 has them."""
+    """Encodes six-digit descriptors as in section 3, with two octets each."""
     return b"".join((int(d[0]) << 14 | int(d[1:3]) << 8 | int(d[3:])).to_bytes(2, "big") for d in text.split())
 
 
 class Bits:
-    """Bits that are put together, the first ones first."""
+    """Packs numbers of various widths into octets, most significant bits first."""
 
     def __init__(self) -> None:
         self.value, self.count, self.done = 0, 0, bytearray()

@@ -17,17 +17,17 @@ import sys
 from lib import TOP, finish
 
 MOST, OF_PROOFS = 100, 200
-PROOFS_ARE_HELD = True  # true once all proofs are broken
+PROOFS_ARE_HELD = True  # whether to check proofs as well; true since all of their long lines have been broken
 ONE_LINE = re.compile(r"\s*((unfoldable )?(pub )?use |ghost use |#\[|--)")
 TOKEN = re.compile(r'"(?:[^"\\]|\\.)*"|\s+|[()\[\]{}]|[,;]|[^\s()\[\]{},;"]+')
-# What a line may begin with, the best first, and what may not be parted from what is before or after it.
+# Tokens that can begin a line (best first), tokens that must not begin a line, and tokens that must not end a line.
 BEFORE = [{"→", "|"}, {"∙", "×", "⊎"}, {"≡", "≤", "<"}, {"++", "∷", "&&", "||"}]
 TIED_BEFORE = {":", "=", "≔", "at", "where", "in", "[", "{", ".", "as"}
 TIED_AFTER = {"record", "rw", "let", "λ", "at", "where", "unfolding", "pub", "abbrev", "unfoldable", ":", "elim", "simp", "if", "|", "→", "∙"}
 
 
 def breaks(line: str) -> list:
-    """The places where a line may be broken, each with what breaking there costs: the brackets that are open first."""
+    """Returns the places where a line can be broken, with their costs: first the number of open brackets, then a rank."""
     code = line.partition(" -- ")[0]
     found, depth, tokens = [], 0, [token[0] for token in TOKEN.finditer(code)]
     at = 0
@@ -50,7 +50,7 @@ def breaks(line: str) -> list:
 
 
 def broken(line: str) -> list:
-    """The lines that a long line becomes; where it has no place to be broken it stays."""
+    """Breaks a long line and returns the resulting lines. A line that cannot be broken remains unchanged."""
     margin = " " * (len(line) - len(line.lstrip()) + 4)
     lines, rest = [], line
     while len(rest) > OF_PROOFS:
@@ -72,7 +72,7 @@ def is_wide(path: pathlib.Path, line: str) -> bool:
 
 
 def write(paths: list) -> None:
-    """Breaks the long lines of proofs."""
+    """Breaks the long lines in these files."""
     for path in paths:
         lines = path.read_text(encoding="utf-8").splitlines()
         made = [piece for line in lines for piece in (broken(line) if is_wide(path, line) else [line])]

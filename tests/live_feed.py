@@ -2,8 +2,8 @@
 """Tests live feeds with all three commands: each text and fault line must be written before the next octets are sent.
 
 The output goes to a pipe or to a terminal, sometimes while half a message is pending. If a read fails, all earlier output
-must already have been written. A stray that declares 16 MB must not use any memory. Output for a file must still be written
-in large blocks.
+must already have been written. A stray that declares 16 MB must not cause a large allocation. Output for a file must still be
+written in large blocks.
 """
 # rule: output-held-back, input-not-read, fault-70
 import os
@@ -18,19 +18,19 @@ import tty
 from lib import TABLES, TOP, finish, program
 
 BUFR = program()
-PATIENCE = 20.0  # seconds after which a line that is awaited is missing
-BLOCK = 65536  # what the program reads and writes at once
+PATIENCE = 20.0  # the number of seconds to wait for output
+BLOCK = 65536  # the number of octets that the program reads or writes at once
 messages = [(TOP / f"examples/{name}.bufr").read_bytes() for name in ("synop", "buoys")]
 texts = [(TOP / f"examples/{name}.txt").read_bytes() for name in ("synop", "buoys")]
 FALSE_WORD = b"BUFR\xff\xff\xff\x04"
-STRAY = b"BUFR\0\0\0\4...."  # a stray word that is decided by its own octets
+STRAY = b"BUFR\0\0\0\4...."  # a stray that can be recognized without further octets
 
 
 class Feed:
-    """The program with an input that this test writes to, and outputs that it reads as they come."""
+    """The program, with an input that the test writes to and outputs that the test reads as they arrive."""
 
     def __init__(self, words, terminal=False, failing=False):
-        """`failing`: the input is the master of a terminal, whose reads fail once its other side is closed."""
+        """If `failing` is true, the input is the master of a terminal, so reads fail once its other side is closed."""
         self.input, ends = None, []
         if failing:
             given, self.input = pty.openpty()
@@ -57,7 +57,7 @@ class Feed:
             self.take(0)
 
     def take(self, seconds):
-        """Takes what the outputs have, after at most so many seconds."""
+        """Reads the available output. If there is none, waits for it, but not longer than `seconds`."""
         for output in select.select(self.open, [], [], seconds)[0]:
             try:
                 part = os.read(output, BLOCK)
@@ -69,19 +69,19 @@ class Feed:
                 os.close(output)
 
     def has(self, output, errors):
-        """Whether both outputs come to be just these octets while the program waits."""
+        """Returns whether the outputs become exactly these octets while the program waits for input."""
         end = time.monotonic() + PATIENCE
         while self.read != [output, errors] and time.monotonic() < end:
             self.take(0.05)
         return self.read == [output, errors]
 
     def peak(self):
-        """The most memory that the program had, in kB."""
+        """Returns the peak memory of the program in kB."""
         status = pathlib.Path(f"/proc/{self.run.pid}/status").read_text()
         return int(status.split("VmHWM:")[1].split()[0])
 
     def end(self):
-        """Ends the input, and returns the status after all that the outputs still have."""
+        """Closes the input, reads the remaining output, and returns the exit status."""
         os.close(self.input)
         while self.open:
             self.take(PATIENCE)
@@ -89,7 +89,7 @@ class Feed:
 
 
 def ran(words, octets):
-    """What a run over octets that are all there writes."""
+    """Returns the output and errors of a run that gets all octets at once."""
     run = subprocess.run([BUFR, *words], input=octets, stdout=subprocess.PIPE, stderr=subprocess.PIPE, check=False)
     return run.stdout, run.stderr
 
@@ -107,7 +107,7 @@ for terminal in (False, True):
     for words in (["ls"], ["dump", *TABLES]):
         name = f"{words[0]} to {to}"
         feed, sent = Feed(words, terminal), b""
-        # whole messages, a stray word between, then half of a message, and its rest
+        # whole messages with a stray between them, and then a message in two parts
         for part in (messages[0], STRAY, messages[1], messages[0][:200], messages[0][200:]):
             feed.send(part)
             sent += part
@@ -128,7 +128,7 @@ for terminal in (False, True):
     want(feed.has(feed.read[0], errors), f"{name}: the fault line is not there")
     want(feed.end() == 1, f"{name}: another status at the end")
 
-# All comes before a read that fails, the errors' last line behind it.
+# All output is written before a read that fails. Only the line that reports the failed read comes after it.
 for words, octets in ((["ls"], messages[0] + STRAY), (["dump", *TABLES], messages[0] + STRAY), (["encode", *TABLES], texts[0])):
     output, errors = ran(words, octets)
     feed = Feed(words, failing=True)
@@ -137,14 +137,14 @@ for words, octets in ((["ls"], messages[0] + STRAY), (["dump", *TABLES], message
     want(feed.end() == 2, f"{words[0]}: another status where a read fails")
     want(feed.read == [output, errors + b"bufr: 70 read failed\n"], f"{words[0]}: another output where a read fails")
 
-# A false word with a great length takes no memory, and the message before it is there.
+# A stray that declares a large length neither causes a large allocation nor delays the message before it.
 feed = Feed(["ls"])
 feed.send(messages[0] + FALSE_WORD + bytes(5000))
 want(feed.has(*ran(["ls"], messages[0])), "ls: a false word holds up what comes before it")
 want(feed.peak() < 3000, f"ls: {feed.peak()} kB for a false word")
 feed.end()
 
-# Writes: a block that is put off is at least half full, and for each 64 KiB of the input each output has one more at most.
+# Few writes: a delayed block is at least half full, and each 64 KiB of input adds at most one write per output.
 with tempfile.TemporaryDirectory() as folder:
     stream, text = pathlib.Path(folder, "stream"), pathlib.Path(folder, "text")
     stream.write_bytes((messages[0] + STRAY + messages[1]) * 1000)

@@ -1,9 +1,9 @@
 #!/usr/bin/env python3
-"""Tests table sets with local rows: bufr-lacks says how to make such a set, convert.py makes it, and bufr-auto uses it.
+"""Tests table sets with local rows: bufr-lacks says how to make a missing set, convert.py makes it, and bufr-auto uses it.
 
     tests/local_tables.py [PROGRAM]
 
-The messages come from centre 98 and need tables=0/13/102. The rows are made up, in wreport's layout. If wreport is
+Most messages come from centre 98 and need tables=0/13/102. The rows are made up and in wreport's format. If wreport is
 installed, its rows are converted, too.
 """
 import os
@@ -18,7 +18,7 @@ import lib
 from lib import TOP, finish, program
 
 WREPORT = pathlib.Path("/usr/share/wreport/B0000000000098013102.txt")
-# A centre's element and its sequence; and 0 12 101 as its old table has it, by which it is not to be read.
+# A centre's elements and sequence. The row of 0 12 101 is outdated, and WMO's row must replace it.
 TABLE_B = """\
  001212 MADE UP: NUMBER OF A BUOY IN THE ARCTIC                          NUMERIC                    0            0  16
  001213 MADE UP: KIND OF BUOY                                            CODETABLE  1213            0            0   4
@@ -68,14 +68,14 @@ def made(version: int, local: int, centre: int, descriptors: str, data: bytes) -
 
 
 def of_eccodes(tables: pathlib.Path, centre: int, local: int) -> str:
-    """The advice for a centre's tables that Debian's ecCodes has, installed or not."""
+    """Returns the advice for a centre's tables that are in Debian's ecCodes package, whether or not it is installed."""
     folder = f"/usr/share/eccodes/definitions/bufr/tables/0/local/{local}/{centre}/0"
     debian = "" if pathlib.Path(folder).exists() else "install libeccodes-data (Debian), then "
     return f"to make it, {debian}run: {TOP}/tables/convert.py {tables}+{centre}-{local} {tables} {folder}\n"
 
 
 def of_definitions(place: pathlib.Path, script, holds) -> None:
-    """The command that a note gives, run by a shell, makes the set of ecCodes' definitions; then the message is dumped."""
+    """The command in a note makes a table set from ecCodes' definitions, and `bufr-auto` can then dump the message."""
     folder = place / "definitions/bufr/tables/0/local/5/7/0"
     folder.mkdir(parents=True)
     (folder / "element.table").write_text("#code|..\n063255|a|long|MADE UP|Numeric|0|0|8\n")
@@ -108,7 +108,7 @@ def of_definitions(place: pathlib.Path, script, holds) -> None:
 
 
 def in_packages(holds) -> None:
-    """Which sets Debian's packages of public tables have, if they are installed."""
+    """If Debian's ecCodes or wreport package is installed, it contains the sets that bufr_sets.py lists."""
     sys.path.insert(0, str(TOP / "scripts"))
     import bufr_sets
 
@@ -124,7 +124,7 @@ def in_packages(holds) -> None:
 
 
 def versions_and_editions(script, holds) -> None:
-    """Whose set serves a version that is later than all, and where the list of descriptors begins in each edition."""
+    """`bufr-lacks` uses the latest set for a later version, and finds the descriptor list in each edition."""
     holds("of a later version", script("bufr-lacks", made(41, 0, 98, "013164", b"\1")), (0, "", ""))
     wanted = "1 message from centre 98/0, tables 0/41/0, lacks 001255\n"
     newer = "bufr-lacks: the table set wmo-41 is missing; get newer tables from WMO (wmo-im/BUFR4 on GitHub), and convert them with tables/convert.py\n"
@@ -147,7 +147,7 @@ def versions_and_editions(script, holds) -> None:
 
 
 def limits(script, holds) -> None:
-    """At most 1,000 kinds and 50,000 rows are listed, each missing set once, and how many messages are left out."""
+    """`bufr-lacks` lists at most 1,000 kinds of messages and 50,000 rows, lists missing sets once, and notes omissions."""
     kinds = b"".join(made(13, 1, centre, "063255", b"") for centre in range(1, 1004)) * 2
     status, output, errors = script("bufr-lacks", kinds)
     holds("the kinds that are listed", (status, output.count("\n"), output.count("2 messages")), (1, 1000, 1000))
@@ -155,10 +155,10 @@ def limits(script, holds) -> None:
     holds("the notes on kinds", (errors.splitlines()[0], errors.count("\n")), (first, 1001))
     _, _, errors = script("bufr-lacks", b"".join(made(13, 1, centre, "063255", b"") for centre in range(1, 1002)))
     holds("one message of too many kinds", errors.startswith("bufr-lacks: left out 1 message because "), True)
-    # Two kinds whose missing set is the same.
+    # Two kinds of messages for which the same set is missing.
     _, output, errors = script("bufr-lacks", made(12, 1, 7, "063255", b"") + made(13, 1, 7, "063255", b""))
     holds("one note for a set", (output.count("\n"), errors.count("\n")), (2, 1))
-    # The last descriptor of a long list, after another message.
+    # The last descriptor in a long descriptor list, after another message.
     long = lib.asking(lib.message(b"", lib.words("001001") * 40_000 + lib.words("063255")), 13)
     holds("a long list", script("bufr-lacks", made(13, 0, 98, "001001", b"\1") + long)[1], "1 message from centre 98/0, tables 0/13/0, lacks 063255\n")
     many = " ".join(f"0{x}{y:03}" for x in range(48, 64) for y in range(256))
@@ -169,7 +169,7 @@ def limits(script, holds) -> None:
 
 
 def nearest_own_set(tables: pathlib.Path, script, message: bytes, holds) -> None:
-    """Of a centre's own sets between a version and WMO's next later one the nearest serves: 10 for version 9."""
+    """If a centre has several sets, `bufr-auto` uses the one for the next higher version: 10 for version 9."""
     name = "MADE UP: KIND OF BUOY"
     for version in (8, 10, 11, 12):
         shutil.copytree(tables / "wmo-13+98-102", tables / f"wmo-{version}+98-102")
@@ -205,7 +205,7 @@ def main() -> None:
         for value, width in ((4711, 16), (15, 4), (27315, 16)):
             bits.put(value, width)
         message = made(13, 102, 98, "301250", bits.octets())
-        # The same rows are asked for by another centre, by another local version, and behind another version.
+        # The same sequence is used by another centre, with another local version, and with another WMO version.
         others = [made(13, 102, 7, "301250", b""), made(13, 1, 98, "301250", b""), made(16, 102, 98, "301250", b"")]
         other_lines = (
             "1 message from centre 7/0, tables 0/13/102, lacks 301250\n"
@@ -232,7 +232,7 @@ def main() -> None:
         holds("bufr-auto before", script("bufr-auto", message), (1, "", refused + note))
         of_definitions(place, script, holds)
 
-        # As tables/README.md says: behind the centre's rows WMO's, which take the place of its old ones.
+        # As in tables/README.md, WMO's rows come after the centre's rows and replace the outdated ones.
         words = [TOP / "tables/convert.py", "tables/wmo-13+98-102", "B0000000000098013102.txt", "tables/wmo-13"]
         done = subprocess.run(words, cwd=place, capture_output=True)
         holds("convert.py", (done.returncode, done.stderr), (0, b""))
@@ -246,7 +246,7 @@ def main() -> None:
         of_earlier = f"to make it, run: {TOP}/tables/convert.py {tables}/wmo-16+98-102 {tables}/wmo-13+98-102 {tables}/wmo-16\n"
         behind = other_notes.removesuffix(ASK.format(98)) + of_earlier
         holds("bufr-lacks behind", script("bufr-lacks", message + b"".join(others)), (1, other_lines, behind))
-        # Of several earlier sets, the latest one of this centre.
+        # If this centre has several earlier sets, the advice names the latest.
         for name in ("wmo-12+98-102", "wmo-15+198-102", "xmo-15+98-102"):
             shutil.copytree(tables / "wmo-13+98-102", tables / name)
         holds("the latest earlier set", script("bufr-lacks", others[2])[2].endswith(of_earlier), True)
@@ -275,7 +275,7 @@ def main() -> None:
         versions_and_editions(script, holds)
         in_packages(holds)
         limits(script, holds)
-        # An incomplete set counts as not installed, and an invalid one is named.
+        # bufr-lacks ignores an incomplete set, with a note, and reports an invalid one.
         synop = (TOP / "examples/synop.bufr").read_bytes()
         (place / "odd \x1b").symlink_to("tables")
         environment["BUFR_TABLES"], shown = str(place / "odd \x1b"), f"{place}/odd \\x1B"
@@ -287,7 +287,7 @@ def main() -> None:
         told = f"table D: 40 header\nbufr-lacks: cannot use the table set {shown}/wmo-40 because bufr rejected it (see above)\n"
         holds("an invalid set", script("bufr-lacks", made(40, 0, 98, "001191", b"\1")), (2, "", told))
         shutil.rmtree(tables / "wmo-40")
-        # A byte order mark, which `bufr` skips too.
+        # Like `bufr`, bufr-lacks skips a byte order mark.
         for name in ("B.csv", "D.csv"):
             table = place / "tables/wmo-39" / name
             table.write_bytes(b"\xef\xbb\xbf" + table.read_bytes())

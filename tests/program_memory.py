@@ -17,7 +17,7 @@ from lib import TABLES, TOP, finish, program, words
 
 
 def row(command: str) -> str:
-    """The memory that the page allows a command."""
+    """Returns the memory that docs/operations.md states for a command."""
     page = (TOP / "docs/operations.md").read_text(encoding="utf-8")
     return re.search(rf"^\| `bufr {command}` \| ([^|]*) \|", page, re.M)[1]
 
@@ -27,7 +27,7 @@ def number(pattern: str, text: str) -> int:
 
 
 def compressed_flags(groups: int) -> bytes:
-    """Compressed data of eight times so many replications of 65,535 flags, in a message of one subset."""
+    """Returns a compressed message of one subset, with 8 * `groups` replications of 65,535 flags."""
     flags = int("1000000" * 65_535, 2)
     group = (65_535 << 6) << 7 * 65_535 | flags
     whole = sum(group << n * (22 + 7 * 65_535) for n in range(8))
@@ -36,14 +36,14 @@ def compressed_flags(groups: int) -> bytes:
 
 
 def compressed_subsets() -> bytes:
-    """Compressed data with eight flags in each of 65,535 subsets."""
+    """Returns a compressed message with eight flags in each of 65,535 subsets."""
     item = "0000001" + "01" * 32_767 + "0"
     data = int(item * 8, 2).to_bytes(len(item), "big")
     return lib.message(data, words("031031") * 8, subsets=65_535, flags=0xC0)
 
 
 def status(limit: int, given, *command) -> int:
-    """The status of the program within a limit in bytes."""
+    """Runs the program with a limit on its address space, in bytes, and returns its exit status."""
     given.seek(0)
     return subprocess.run(
         [program(), *command],

@@ -23,7 +23,7 @@ BLOCK = re.compile(r"^```(\w*)\n(.*?)^```$", re.M | re.S)
 
 
 def steps(page: str) -> list:
-    """Each command of the page: its line's number, its words, and what it prints, or nothing if the page does not say."""
+    """Returns, for each command on the page, its line number, its lines, and its output, or None if the page shows none."""
     found = []
     for block in BLOCK.finditer(page):
         first, lines = page.count("\n", 0, block.start(2)) + 1, block[2].splitlines()
@@ -35,7 +35,7 @@ def steps(page: str) -> list:
 
 
 def clone(folder: pathlib.Path) -> None:
-    """Makes a clone of the files as they are."""
+    """Copies the current files, without build output, and commits the copies to a new repository."""
     built = shutil.ignore_patterns(".git", "out", "dist", "__pycache__")
     shutil.copytree(TOP, folder, symlinks=True, ignore=built)
     author = ["-c", "user.name=test", "-c", "user.email=test@localhost"]

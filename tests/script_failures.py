@@ -27,11 +27,11 @@ from lib import TABLES, TOP, finish, program
 SYNOP = TOP / "examples/synop.bufr"
 FAULTY = TOP / "examples/bulletins.bufr"
 DUMP = ["dump", *TABLES]
-# The words of each script in front of a stream.
+# Each script, with the arguments before its input.
 SCRIPTS = {"bufr-auto": [], "bufr-csv": ["--json", "-c", "001001"], "bufr-extract": [], "bufr-lacks": [], "bufr-parallel": ["-P", "2", *DUMP]}
-# Scripts that read a stream themselves.
+# Scripts that find messages themselves. The others use `bufr ls`.
 READERS = ("bufr-auto", "bufr-csv")
-# A script that needs a package: of it is tried how it begins; tests/bufr_plot.py has the rest.
+# A script that needs a package. This test tries only its options; tests/bufr_plot.py tests the rest.
 OTHERS = {"bufr-plot": ["map", "a.png"]}
 complaints = []
 
@@ -42,7 +42,7 @@ def holds(what: str, is_so: bool, told: object = "") -> None:
 
 
 class Trial:
-    """Runs of one script in a folder of its own."""
+    """Runs of one script, with a separate directory for its files."""
 
     def __init__(self, name: str, words: list, place: str) -> None:
         self.name, self.words, self.place = name, [sys.executable, str(TOP / "scripts" / name), *words], pathlib.Path(place)
@@ -50,7 +50,7 @@ class Trial:
         self.environment.pop("BUFR_TABLES", None)
 
     def run(self, words=(), closed=(), full=(), limits=None, **more):
-        """A run with these descriptors closed or full, and these limits: its status, output and errors."""
+        """Runs the script with these descriptors closed or full, and with these limits. Returns the completed process."""
 
         def prepare() -> None:
             for number in full:
@@ -71,12 +71,12 @@ class Trial:
         return done
 
     def fails(self, what: str, done, told: str = "") -> None:
-        """It ended with 2, and with one more line than the faults of messages, which has this text."""
+        """Checks that the script exited with status 2 and, apart from fault lines, printed one line that contains `told`."""
         lines = [line for line in done.stderr.decode().splitlines() if not line.startswith("offset ")]
         holds(f"{self.name}, {what}", done.returncode == 2 and len(lines) == 1 and told in lines[0], done)
 
     def program(self, script: str) -> dict:
-        """The environment by which another program runs: `bufr`, but for these lines of a shell in front."""
+        """Returns an environment in which BUFR is a shell script that runs these lines and then the real program."""
         path = self.place / "other"
         path.write_text(f"#!/bin/sh\n{script}\nexec {program()} \"$@\"\n")
         path.chmod(0o755)
@@ -84,7 +84,7 @@ class Trial:
 
 
 def descriptors(trial: Trial) -> None:
-    """A closed or full descriptor fails where something was to be written to it, and nowhere else."""
+    """A script must fail if a descriptor that it uses is closed or full, and only then."""
     lacking = trial.place / "lacking"
     lacking.write_bytes(lib.asking(lib.message(b"", lib.words("063255")), 13))
     gives = lacking if trial.name == "bufr-lacks" else SYNOP
@@ -113,7 +113,7 @@ def descriptors(trial: Trial) -> None:
             holds(f"a note to a {kind} descriptor", trial.run(input=note, **{kind: [2]}).returncode == 2)
 
 
-# A script for which there is no memory where a program has ended.
+# Runs a script for which memory runs out when it waits for a program.
 REFUSED = """
 import runpy, sys
 sys.path[0], sys.argv = "{}", sys.argv[1:]
@@ -124,7 +124,7 @@ runpy.run_path(sys.argv[0], run_name="__main__")
 """
 
 
-# A script whose threads ask for more stack than there is memory.
+# Runs a script whose threads request stacks that are larger than the memory.
 THREADLESS = """
 import runpy, sys, threading
 sys.path[0], sys.argv = "{}", sys.argv[1:]
@@ -133,7 +133,7 @@ runpy.run_path(sys.argv[0], run_name="__main__")
 """
 
 
-# A script that takes half a second to kill its programs.
+# Runs a script that pauses for half a second after it has killed its programs.
 SLOW_TO_STOP = """
 import runpy, sys, time
 sys.path[0], sys.argv = "{}", sys.argv[1:]
@@ -144,7 +144,7 @@ runpy.run_path(sys.argv[0], run_name="__main__")
 """
 
 
-# A script whose programs start a moment later.
+# Runs a script that pauses for a moment before it starts each program.
 LATE = """
 import runpy, sys, time
 sys.path[0], sys.argv = "{}", sys.argv[1:]
@@ -156,12 +156,12 @@ runpy.run_path(sys.argv[0], run_name="__main__")
 
 
 def memory(trial: Trial) -> None:
-    """With less and less memory it gives all of it, or says that there is not enough."""
+    """With little memory, a script must either produce its complete output or report why it cannot."""
     stream = trial.place / "strays"
     stream.write_bytes(SYNOP.read_bytes() + b"BUFR\0\0\0\0" * 50_000 + SYNOP.read_bytes())
     whole = trial.run([stream])
     holds(f"{trial.name}: strays", whole.returncode == 1 and whole.stderr.count(b"\n") == 50_000, whole.returncode)
-    # From what Python needs to read the script and the module that all share.
+    # Begin slightly above the memory that Python needs to load the script and the module that all scripts share.
     code = "import sys; script, sys.path[0] = sys.argv[1:]; compile(open(script).read(), '', 'exec'); import bufr_guard"
     least = least_memory([sys.executable, "-c", code, trial.words[1], TOP / "scripts"], 200)
     if least is None:
@@ -183,7 +183,7 @@ def memory(trial: Trial) -> None:
 
 
 def least_memory(words: list, most: int):
-    """The least megabytes, at most so many, in which a program ends with 0, or None."""
+    """Returns the lowest limit, in megabytes, with which a program exits with status 0, or None if `most` is too low."""
 
     def suffices(megabytes: int) -> bool:
         limit = functools.partial(limit_memory, megabytes)
@@ -197,7 +197,7 @@ def limit_memory(megabytes: int) -> None:
 
 
 def room(trial: Trial) -> None:
-    """No file can grow past 4 KB, as in a full folder of temporary files."""
+    """No file can grow beyond 4 KB, as if the disk with the temporary files were full."""
     octets = SYNOP.read_bytes() * 100
     whole = trial.run(input=octets)
     done = trial.run(input=octets, environment={"TMPDIR": "/nosuch"})
@@ -205,7 +205,7 @@ def room(trial: Trial) -> None:
     holds(f"{trial.name} with a TMPDIR that is not there", is_same and not done.returncode, done.stderr)
     done = trial.run(input=octets, limits={resource.RLIMIT_FSIZE: 4096})
     if done.returncode == 0:
-        # It needs no such file.
+        # The script does not need a temporary file.
         holds(f"{trial.name} without room", done.stdout == whole.stdout, done.stdout[-300:])
     else:
         trial.fails("no room", done)
@@ -216,7 +216,7 @@ def room(trial: Trial) -> None:
             told = f"{trial.name}: no space left in {folder or '/tmp'}; set TMPDIR to another directory\n"
             holds(f"{trial.name}: no space left in {folder!r}", done.stderr.decode() == told, done)
     if trial.name == "bufr-extract":
-        # `bufr ls` gets a part of the stream, and starts late or at once: the cut is no fault of the stream.
+        # `bufr ls`, which starts at once or late, gets only a part of the stream. This must not be reported as a fault.
         octets *= 20
         for begin in (trial.words[:1], [*trial.words[:1], "-c", LATE.format(TOP / "scripts")]):
             trial.words[:1] = begin
@@ -226,12 +226,12 @@ def room(trial: Trial) -> None:
 
 
 def shorter(trial: Trial) -> None:
-    """The file becomes shorter while it is read: before `bufr ls` reads it, behind that, or before a dump."""
+    """The input file is truncated while the script runs: before or after `bufr ls` reads it, or before a dump."""
     stream = trial.place / "stream"
     octets = lib.asking(lib.message(bytes(60_000)), 39) * (200 if trial.name in READERS else 40)
     stream.write_bytes(octets)
     whole = trial.run([stream]).stdout
-    # Before, so much is left that all that `bufr ls` lists can be read: four messages and a part of the fifth.
+    # If it is truncated before `bufr ls`, four messages and a part of the fifth remain, so all listed messages can be read.
     cut = "head -c {1} {0} > {0}.1; cat {0}.1 > {0}"
     for what, lines in (
         ("behind", f'if [ "$1" = ls ]; then {program()} ls; status=$?; {cut.format(stream, 100_000)}; exit $status; fi'),
@@ -239,11 +239,11 @@ def shorter(trial: Trial) -> None:
         ("without", f'if [ "$1" = dump ]; then {cut.format(stream, 300_000)}; fi'),
     ):
         if (what == "without") != (trial.name in READERS):
-            continue  # the others read what `bufr ls` lists
+            continue  # only the other scripts run `bufr ls`
         stream.write_bytes(octets)
         done = trial.run([stream], environment=trial.program(lines))
         if what == "before" and trial.name in ("bufr-extract", "bufr-lacks"):
-            # `bufr ls` reads a file that is shorter, and that alone.
+            # The results must be the same as for a file that was this short from the beginning.
             wanted = trial.run([stream])
             is_same = (done.returncode, done.stdout, done.stderr) == (1, wanted.stdout, wanted.stderr)
             holds(f"{trial.name}: a file that is shorter when it is read", is_same, done.stderr)
@@ -253,7 +253,7 @@ def shorter(trial: Trial) -> None:
 
 
 def killed(trial: Trial) -> None:
-    """A program that is killed, ends otherwise than `bufr`, or with 2 and no word."""
+    """`bufr` is killed, exits with an unexpected status, or exits with status 2 without a message."""
     for command in ("ls", "dump"):
         stopped = "bufr exited with status {}; output is incomplete".format
         killed = "bufr was killed (signal 9); output is incomplete"
@@ -263,21 +263,21 @@ def killed(trial: Trial) -> None:
             for moment in ("before", "behind"):
                 begin = "" if moment == "before" else f'{program()} "$@"; '
                 done = trial.run([SYNOP], environment=trial.program(f'if [ "$1" = {command} ]; then {begin}{how}; fi'))
-                if (trial.name, command, how) == ("bufr-lacks", "dump", "exit 2"):  # as for tables that `bufr` refuses
+                if (trial.name, command, how) == ("bufr-lacks", "dump", "exit 2"):  # the same as if `bufr` rejected the tables
                     told = f"cannot use the table set {TOP / 'tables/wmo-39'}"
-                if done.returncode == 0:  # it does without
+                if done.returncode == 0:  # the script does not run this command
                     holds(f"{trial.name} without {command}", done.stdout == trial.run([SYNOP]).stdout, done)
                 elif how != "exit 2" or done.stderr:
                     trial.fails(f"{command} and {how}, {moment}", done, told)
-                else:  # where errors of `bufr` go to the same place, that is told there
+                else:  # `bufr` shares their standard error, so they rely on its message
                     holds(f"{trial.name}: {command} and {how}", trial.name in ("bufr-extract", "bufr-lacks"), done)
-    if trial.name == "bufr-parallel":  # its fault lines wait in a file, where there may be no room for the last one
+    if trial.name == "bufr-parallel":  # it buffers fault lines in a file, and the disk may be too full for the last one
         done = trial.run([SYNOP], environment=trial.program('if [ "$1" = ls ]; then printf "offset 2" >&2; exit 2; fi'))
         told = "bufr-parallel: bufr exited with status 2; output is incomplete\n"
         holds("bufr-parallel, a fault line that is cut", (done.returncode, done.stderr.decode()) == (2, told), done)
     done = trial.run([SYNOP], environment={"BUFR": "/nosuch"})
     trial.fails("no program", done, "cannot run /nosuch: No such file or directory")
-    # A folder is no program, neither beside the script nor on the path.
+    # A directory is not a program, whether it is next to the script or on PATH.
     shutil.copytree(TOP / "scripts", trial.place / "bin")
     for folder in ("bin/bufr", "path/bufr", "third"):
         (trial.place / folder).mkdir(parents=True)
@@ -288,7 +288,7 @@ def killed(trial: Trial) -> None:
     (trial.place / "share/bufr/tables").symlink_to(TOP / "tables")
     done = trial.run([SYNOP], environment={"BUFR": "", "PATH": path})
     holds(f"{trial.name} beside a folder", done.stdout == whole and done.returncode == 0, done)
-    # The one on the path comes before the one that the repository built, which is better than none.
+    # A script in a repository runs the program that was built there only if there is no `bufr` on PATH.
     built = trial.place / "crates/bufr/out/bufr"
     built.parent.mkdir(parents=True)
     built.write_text(f"#!/bin/sh\nexec {trial.place}/third/bufr \"$@\"\n")
@@ -303,8 +303,11 @@ def killed(trial: Trial) -> None:
 
 
 def signals(trial: Trial) -> None:
-    """A signal ends a script and what it runs. A reader that has gone is a failed write, or ends it quietly."""
-    # Python ignores SIGPIPE, and what it runs must not. Nor are other signals put off there.
+    """A signal must end a script and the programs that it runs.
+
+    If the reader of its output exits early, the script must report a failed write or end silently.
+    """
+    # Python ignores SIGPIPE, but the programs that a script runs must neither ignore nor block it.
     ignored = trial.place / "ignored"
     lines = 'while read -r line; do case $line in SigIgn* | SigBlk*) echo "$line" ;; esac; done < /proc/$$/status'
     trial.run([SYNOP], environment=trial.program(f"{lines} > {ignored}.$$; mv {ignored}.$$ {ignored}"))
@@ -316,7 +319,7 @@ def signals(trial: Trial) -> None:
         number.unlink(missing_ok=True)
         run = subprocess.Popen(
             [*trial.words, SYNOP], stdout=subprocess.DEVNULL, stderr=subprocess.PIPE, env={**trial.environment, **slow},
-            preexec_fn=lambda: signal.signal(name, signal.SIG_DFL),  # a shell ignores SIGINT for what it runs behind it
+            preexec_fn=lambda: signal.signal(name, signal.SIG_DFL),  # a shell ignores SIGINT in background jobs
         )
         is_begun = wait_until(number.exists)
         run.send_signal(name)
@@ -324,7 +327,7 @@ def signals(trial: Trial) -> None:
         holds(f"{trial.name} at {name.name}", is_begun and (run.returncode, told) == (-name, b""), (run.returncode, told))
         started = int(number.read_text())
         holds(f"{trial.name} at {name.name}: what still runs", wait_until(lambda: not lib.runs(started)))
-    if trial.name == "bufr-csv":  # the end of awk, which it kills itself, is no failure
+    if trial.name == "bufr-csv":  # it kills awk, so it must not report that awk has stopped
         words = [sys.executable, "-c", SLOW_TO_STOP.format(TOP / "scripts"), *trial.words[1:]]
         number.unlink()
         run = subprocess.Popen(
@@ -353,12 +356,12 @@ def signals(trial: Trial) -> None:
         preexec_fn=lambda: signal.signal(signal.SIGCHLD, signal.SIG_IGN),
     )
     holds(f"{trial.name} of a parent that ignores its children", (done.returncode, done.stderr) == (0, b""), done)
-    # More than a pipe holds.
+    # The output does not fit in a pipe.
     (trial.place / "many").write_bytes(SYNOP.read_bytes() * 4000)
     run = subprocess.Popen(
         [*trial.words, trial.place / "many"], stdout=subprocess.PIPE, stderr=subprocess.PIPE, env=trial.environment
     )
-    if trial.name != "bufr-lacks":  # of which nothing comes
+    if trial.name != "bufr-lacks":  # it prints nothing for this stream
         run.stdout.read(10)
     run.stdout.close()
     told, status = run.stderr.read(), run.wait(timeout=60)
@@ -380,7 +383,7 @@ def wait_until(is_so) -> bool:
 
 
 def tables(trial: Trial) -> None:
-    """A field of 200,000 octets, a NUL, no UTF-8, and a folder whose name looks like an option."""
+    """Tables with a field of 200,000 bytes, a NUL, other columns or names that are not UTF-8, and a directory `-sets`."""
     if trial.name not in ("bufr-auto", "bufr-lacks"):
         return
     folder = trial.place / "-sets"
@@ -393,12 +396,12 @@ def tables(trial: Trial) -> None:
             good = (TOP / "tables/wmo-39" / name).read_text(encoding="utf-8")
             bad = f"012101,{field},K,2,0,16\n" if name == "B.csv" else f"307080,{field}\n"
             (folder / "wmo-39" / name).write_text(good + bad, encoding="utf-8")
-            # 2 of 63 asks for the table's rows, so that both scripts read them
+            # the original tables contain the last two descriptors, but not 063255
             stream = lib.asking(lib.message(b"", lib.words("063255 012101 307080")), 45, 1)
             done = trial.run(input=stream, environment={"BUFR_TABLES": str(folder)})
             holds(f"{trial.name}: {name} with {field[:3]!r}", done.returncode == 2 and done.stderr, done)
         (folder / "wmo-39" / name).write_text(good, encoding="utf-8")
-    # A table with other columns, which a note on a sequence would need
+    # A Table D with other columns, which bufr-auto reads to find out whether a note about local rows is needed
     (folder / "wmo-39/D.csv").write_text("other,columns\n1,2\n", encoding="utf-8")
     sequence = lib.asking(lib.message(b"", lib.words("307080")), 39, 1)
     done = trial.run(input=sequence, environment={"BUFR_TABLES": str(folder)})
@@ -412,7 +415,7 @@ def tables(trial: Trial) -> None:
 
 
 def options(trial: Trial) -> None:
-    """--help, --version, mistaken words, an isolated Python, and names that a screen would take for orders."""
+    """The options --help and --version, invalid arguments, an isolated Python, and file names with control characters."""
     trial.words, kept = trial.words[:2], trial.words
     for words in (["--help"], ["--version"]):
         for kind in ("closed", "full"):
@@ -472,19 +475,19 @@ def options(trial: Trial) -> None:
 
 
 def progress(trial: Trial) -> None:
-    """On a terminal a line comes once a second and goes again; elsewhere there is none."""
+    """On a terminal, a progress line must appear at most once a second and then be cleared. Elsewhere, there must be none."""
     slow = trial.program('if [ "$1" = ls ] || [ "$1" = dump ] && [ ! -t 0 ]; then sleep 2.5; fi')
     octets = SYNOP.read_bytes() * 20_000
     (trial.place / "long").write_bytes(octets)
     main, terminal = pty.openpty()
     begin = time.monotonic()
     words = [*trial.words, str(trial.place / "long")]
-    # bufr-lacks prints its lines at the end, so the progress comes before them on a terminal.
+    # bufr-lacks prints its lines at the end, so it shows the progress even if they go to a terminal.
     output = terminal if trial.name == "bufr-lacks" else subprocess.DEVNULL
     run = subprocess.Popen(words, stdin=subprocess.DEVNULL, stdout=output, stderr=terminal, env={**trial.environment, **slow})
     os.close(terminal)
     told = b""
-    with contextlib.suppress(OSError):  # the end of a terminal
+    with contextlib.suppress(OSError):  # the terminal has been closed
         while octets := os.read(main, 4096):
             told += octets
     os.close(main)
@@ -492,12 +495,12 @@ def progress(trial: Trial) -> None:
     lines = told.count(b" of 12 MB")
     holds(f"{trial.name}: progress", status == 0 and 1 <= lines <= seconds + 1, (status, told, seconds))
     holds(f"{trial.name}: progress that stays", told.endswith(b"\r\x1b[K") and b"\n" not in told, told)
-    if trial.name not in ("bufr-extract", "bufr-lacks"):  # which write everything soon after `bufr ls`
+    if trial.name not in ("bufr-extract", "bufr-lacks"):  # these finish soon after `bufr ls`
         holds(f"{trial.name}: progress by parts", re.search(rb"\x1b\[K[1-9]\d* of 12 MB", told), told)
     if trial.name == "bufr-lacks":
         done = trial.run([trial.place / "long"], environment=slow)
         holds(f"{trial.name}: progress to a pipe", done.stderr == b"", done.stderr)
-        # The total of a pipe is unknown.
+        # The length of the data in a pipe is unknown, so the line shows no total.
         main, terminal = pty.openpty()
         run = subprocess.Popen(trial.words, stdin=subprocess.PIPE, stdout=terminal, stderr=terminal, env=trial.environment)
         os.close(terminal)
@@ -513,7 +516,7 @@ def progress(trial: Trial) -> None:
         # On a busy machine, the progress of the listing follows.
         is_shown = re.match(rb"\r\x1b\[K[2-4] MB\r\r\x1b\[K", told) and told.endswith(b"\r\x1b[K")
         holds("bufr-lacks: progress of a pipe", is_shown, told)
-    if trial.name == "bufr-extract":  # whose output comes from messages, as a terminal shows
+    if trial.name == "bufr-extract":  # on a terminal, its output already shows the progress
         main, terminal = pty.openpty()
         subprocess.run([*words, "category=9"], stdout=terminal, stderr=terminal, env={**trial.environment, **slow})
         os.close(terminal)
@@ -524,7 +527,7 @@ def progress(trial: Trial) -> None:
 
 
 def guard() -> None:
-    """How a script ends that raises something, in its work or before it."""
+    """Checks how a script ends if it raises an exception, during its work or before it."""
     few = "import resource; resource.setrlimit(resource.RLIMIT_NOFILE, (3, 3)); "
     small = few.replace("NOFILE, (3, 3)", "FSIZE, (0, 0)")
     shows = "import os; bufr_guard.Progress.is_shown = True; "
@@ -553,7 +556,7 @@ def guard() -> None:
         done = subprocess.run(words, cwd=TOP / "scripts", capture_output=True, env=environment)
         wanted = (status, b"", (told if told[:1] in ("", "\r") else f"-c: {told}\n").encode())
         holds(f"{code}", (done.returncode, done.stdout, done.stderr) == wanted, done)
-    # A script whose first import fails, as when memory is short.
+    # The first import of a script fails, as it does if there is too little memory.
     with tempfile.TemporaryDirectory() as place:
         (pathlib.Path(place) / "bufr_guard.py").write_text("raise MemoryError\n")
         for name in [*SCRIPTS, *OTHERS]:

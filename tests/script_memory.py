@@ -29,22 +29,22 @@ SCRIPTS = {
     "bufr-parallel": ["-P", "2", "dump", *TABLES],
 }
 LONGEST = 16_700_000
-# At most this many kilobytes more the whole of a stream may take than a third of it.
+# The most kilobytes that a script may need for a whole stream in addition to the memory for a third of it.
 GROWTH = 2000
 
 
 def strays():
-    """300,000 stray words, with bytes between them."""
+    """Returns the pieces of a stream of 300,000 strays with bytes between them."""
     return 30 * [(b"BUFR\0\0\0\0" + bytes(24)) * 10_000]
 
 
 def messages():
-    """300,000 messages."""
+    """Returns the pieces of a stream of 300,000 small messages with line ends between them."""
     return 30 * [(lib.message(b"\x14") + b"\r\n") * 10_000]
 
 
 def kinds():
-    """30,000 kinds of messages, each with a descriptor list of its own; and 40 that lack 4,096 rows each."""
+    """Yields messages of 30,000 kinds, each with a different descriptor list, and of 40 kinds that lack 4,096 rows each."""
     for centre in range(1, 301):
         pieces = []
         for local in range(1, 101):
@@ -57,14 +57,14 @@ def kinds():
 
 
 def centres():
-    """200,000 kinds of messages that lack no rows."""
+    """Yields messages of 200,000 kinds for which no rows are missing."""
     message = lib.message(b"\x14")
     for centre in range(1000):
         yield b"".join(lib.asking(message, 13, local, centre) for local in range(200))
 
 
 def long():
-    """Four messages that are almost as long as they can be."""
+    """Yields four messages of almost the maximum length, in pieces."""
     head = lib.message(b"")[: -len(b"\0\0\4\0" b"7777")]
     size = LONGEST - len(head) - len(b"\0\0\4\0" b"7777")
     head = head[:4] + LONGEST.to_bytes(3, "big") + head[7:] + (4 + size).to_bytes(3, "big") + b"\0"
@@ -76,32 +76,32 @@ def long():
 
 
 def long_lists():
-    """80 messages with a list of 65,000 descriptors each."""
+    """Yields 80 messages, each with a list of 65,000 descriptors."""
     for number in range(80):
         yield lib.asking(lib.message(b"", bytes([0x30, number]) * 65_000), 13, 1)
 
 
 def many_long_lists():
-    """300 messages with different lists, of which no row is missing."""
+    """Yields 300 messages with different lists of 65,000 descriptors, none of which is in the tables."""
     for number in range(300):
         words = bytes([0x30, number & 255]) * 64_900 + bytes([0x31, number >> 8]) * 100
         yield lib.asking(lib.message(b"", words), 13, 1)
 
 
 def versions():
-    """Messages of 40 versions, each with a set of tables of its own."""
+    """Yields messages of 40 versions, each of which has its own table set."""
     for version in range(1, 41):
         yield lib.asking(lib.message(b"", lib.words("307080 063255")), version)
 
 
 def no_end():
-    """A document that does not end."""
+    """Yields a document that has no end."""
     yield b"message\n"
     for _ in range(100):
         yield b"# A comment in a document.\n" * 10_000
 
 
-# Each stream, with the status that a script gives and how many fault lines.
+# Each stream, with the expected exit status and number of fault lines.
 STREAMS = {
     strays: (1, 300_000),
     messages: (0, 0),
@@ -112,13 +112,13 @@ STREAMS = {
     many_long_lists: (1, 0),
     versions: (1, 0),
 }
-# Streams that matter to one script.
+# Streams that are tried with only one script.
 ONLY = {long_lists: "bufr-auto", many_long_lists: "bufr-lacks", versions: "bufr-lacks", centres: "bufr-lacks"}
 TEXTS = {no_end: (1, 1)}
 
 
 def stated(script: str) -> tuple:
-    """The bound that the help of a script states: its megabytes, and whether the longest message comes on top."""
+    """Returns the limit in a script's help: the megabytes, and whether memory for the longest message is added."""
     words = [sys.executable, TOP / "scripts" / script, "--help"]
     text = " ".join(subprocess.run(words, stdout=subprocess.PIPE, text=True).stdout.split())
     found = re.search(r"needs? (?:at most )?(\d+) MB of memory(.*?memory for the longest message)?", text)
@@ -126,7 +126,7 @@ def stated(script: str) -> tuple:
 
 
 def is_tried(name: str, stream) -> bool:
-    """Whether a script is measured on a stream."""
+    """Returns whether a script is tried with a stream."""
     option = "".join(name.split()[1:])
     if stream in TEXTS:
         return option == "--encode"
@@ -136,7 +136,7 @@ def is_tried(name: str, stream) -> bool:
 
 
 def measured(name: str, path: pathlib.Path) -> tuple:
-    """The status, the count of fault lines, and the kilobytes of a run."""
+    """Runs a script. Returns its exit status, the number of fault lines, and the memory in kilobytes."""
     script, *option = name.split()
     words = [sys.executable, TOP / "scripts" / script, *option, *SCRIPTS[name], path]
     with tempfile.TemporaryFile() as errors:
@@ -149,11 +149,11 @@ def measured(name: str, path: pathlib.Path) -> tuple:
 
 
 def wanted(name: str, stream) -> tuple:
-    """The status and the count of fault lines that a script gives."""
+    """Returns the expected exit status and number of fault lines."""
     script, *option = name.split()
     if stream is long and option == ["--max-length"]:
         return 1, 0
-    if stream is kinds and script in ("bufr-extract", "bufr-lacks"):  # which do not dump
+    if stream is kinds and script in ("bufr-extract", "bufr-lacks"):  # these do not dump messages
         return int(script == "bufr-lacks"), 0
     return {**STREAMS, **TEXTS}[stream]
 
@@ -174,7 +174,7 @@ def main() -> None:
             (sets / f"wmo-{version}").symlink_to(TOP / "tables/wmo-39")
         for stream in [*STREAMS, *TEXTS]:
             path, third = (pathlib.Path(place) / name for name in (stream.__name__, f"a third of {stream.__name__}"))
-            # In pieces, since a child's measure begins with the memory of this process.
+            # Write the streams in pieces, because the memory that is measured for a child includes that of this process.
             with open(path, "wb") as file, open(third, "wb") as less:
                 for number, piece in enumerate(stream()):
                     file.write(piece)

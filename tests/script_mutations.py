@@ -1,5 +1,5 @@
 #!/usr/bin/env python3
-"""Breaks the scripts on purpose, one change at a time: for each change, the test that is listed with it must fail.
+"""Breaks the scripts on purpose, one change at a time. For each change, the test that is listed with it must fail.
 
 Each change is made in a copy of this repository. Without an option, only the first change is tried. In any case, the text
 that each change replaces must still occur in its file.
@@ -13,7 +13,7 @@ import tempfile
 
 from lib import BUILT, TOP, finish
 
-# A file, its text, what takes its place, and the test with its words behind the program.
+# Each change: a file, the old text, the new text, and the test, with its arguments after the program.
 MUTATIONS = [
     (
         "scripts/bufr-lacks",
@@ -646,7 +646,7 @@ MUTATIONS = [
 
 
 def copied(place: str) -> pathlib.Path:
-    """A copy of this tree without what was built."""
+    """Copies this repository, without build output, and returns the directory that contains the copy."""
     top = pathlib.Path(place) / "tree"
     left_out = shutil.ignore_patterns(".git", "out", "__pycache__")
     shutil.copytree(TOP, top, symlinks=True, ignore=left_out)
@@ -654,7 +654,7 @@ def copied(place: str) -> pathlib.Path:
 
 
 def told(top: pathlib.Path, test: str, program: str) -> tuple:
-    """Whether a test fails in a copy, whether it skips something, and the last line that it prints."""
+    """Returns whether a test fails in a copy, whether it skips something, and the last line that it prints."""
     script, *words = test.split()
     try:
         done = subprocess.run([top / script, program, *words], stdout=subprocess.PIPE, stderr=subprocess.STDOUT, timeout=900)
@@ -665,7 +665,7 @@ def told(top: pathlib.Path, test: str, program: str) -> tuple:
 
 
 def told_of(top: pathlib.Path, mutation: tuple, program: str) -> tuple:
-    """The same of a test where the text of a file is changed."""
+    """Like `told`, but changes a file before the test, and restores it afterwards."""
     file, old, new, test = mutation
     text = (top / file).read_text(encoding="utf-8")
     (top / file).write_text(text.replace(old, new), encoding="utf-8")

@@ -30,12 +30,12 @@ import random_messages  # noqa: E402
 SCALES = range(-127, 128)
 RANDOM = 150
 KEYS = ["message", "subset", *bufr_text.HEADER, "optional", "subsets"]
-# A field of CSV in its spelling: a missing value has no quotes, an empty text has two.
+# A CSV field, including any quotes, because an empty string is quoted but a missing value is not.
 FIELD = re.compile(r'("(?:[^"]|"")*"|[^,"]*),')
 
 
 def table(awk: list, text: bytes, columns: list) -> list:
-    """The rows of table.awk, each a tuple of fields in their spelling: one for each item, or with columns each subset."""
+    """Returns the rows that table.awk writes, as tuples of fields: one for each item or, with columns, for each subset."""
     words = [*awk, "-v", "columns=" + ",".join(columns), "-f", TOP / "scripts/table.awk"]
     done = subprocess.run(words, input=text, stdout=subprocess.PIPE, stderr=subprocess.DEVNULL, check=True)
     lines = done.stdout.decode("utf-8", "surrogateescape").split("\n")[1:-1]
@@ -47,7 +47,7 @@ def quoted(text: str) -> str:
 
 
 def spelled(value) -> str:
-    """A value of `dump`, as table.awk is to spell it."""
+    """Returns the field that table.awk must write for a value from bufr_text.dump."""
     if value is None:
         return ""
     if isinstance(value, Decimal):
@@ -57,14 +57,14 @@ def spelled(value) -> str:
 
 
 def cell(field: str):
-    """What `rows` is to have for a field: an int where there is no point."""
+    """Returns the value that bufr_text.rows must return for a field. A number without a decimal point must be an int."""
     if field.startswith('"'):
         return field[1:-1].replace('""', '"')
     return None if field == "" else float(field) if "." in field else int(field)
 
 
 def agree(what: str, text: bytes, messages: list, awk: list, columns: list) -> int:
-    """Compares all four for one text. Returns how many values were compared."""
+    """Compares all four ways for one dump. Returns the number of values that were compared."""
     found, wide = [], []
     for number, message in enumerate(messages, 1):
         header = {**message.header, "message": number, "subsets": len(message.subsets)}
@@ -90,7 +90,7 @@ def agree(what: str, text: bytes, messages: list, awk: list, columns: list) -> i
 
 
 def compare(what: str, rows: list, others: list) -> None:
-    """Ends the test at the first row that is not the same in both."""
+    """Ends the test at the first row that differs."""
     want(len(rows) == len(others), f"{what} have {len(rows)} and {len(others)} rows")
     for row, other in zip(rows, others):
         fields = [pair for pair in itertools.zip_longest(row, other) if pair[0] != pair[1]]
@@ -98,7 +98,7 @@ def compare(what: str, rows: list, others: list) -> None:
 
 
 def columns_of(messages: list, rng: random.Random) -> list:
-    """Some of the columns that a subset has, and one that none has."""
+    """Returns some columns for which there are items, and one for which there are none."""
     numbers = sorted({item.fxy for message in messages for subset in message.subsets for item in subset})
     some = rng.sample(numbers, min(len(numbers), len(SCALES)))
     return [f"{fxy}:{rng.randint(1, 3)}" if rng.random() < 0.2 else fxy for fxy in some] + ["063255"]
@@ -109,7 +109,10 @@ def random_stream() -> bytes:
 
 
 def own_tables(folder: pathlib.Path) -> list:
-    """Tables with an element for each scale, 0 48 000 for the least one, and one with the least reference."""
+    """Writes tables with an element for each scale, starting with 0 48 000, and one with the lowest reference value.
+
+    Returns the options for these tables.
+    """
     rows = [f"048{number:03},SCALE {scale},Numeric,{scale},{-number},63\n" for number, scale in enumerate(SCALES)]
     rows.append(f"048255,LEAST,Numeric,0,{-(1 << 63)},3\n")
     (folder / "B.csv").write_text("fxy,name,unit,scale,reference,width\n" + "".join(rows))
@@ -118,9 +121,10 @@ def own_tables(folder: pathlib.Path) -> list:
 
 
 def scaled_stream(rng: random.Random) -> bytes:
-    """A message of each kind of number, which has every scale. The reference of an element is minus its place.
+    """Returns a stream with a message for each kind of number. Each message contains a number of every scale.
 
-    A last message has the largest number that a message can have, with 37 digits: 2 07 018 multiplies its reference.
+    The reference value of an element is minus its index. The last message contains the longest number that is possible, with
+    37 digits: 2 07 018 multiplies its reference value.
     """
     most, stream = (1 << 63) - 1, b""
     kinds = [lambda place: place, lambda place: place + 1, lambda place: most, lambda place: most - 1, lambda place: 0]
@@ -134,7 +138,7 @@ def scaled_stream(rng: random.Random) -> bytes:
 
 
 def limits() -> bytes:
-    """A text with numbers up to the limits of 128 bits at every scale, and each with a reference before it."""
+    """Returns a dump with numbers up to the limits of 128 bits at every scale. Each of them follows a new reference value."""
     text = (TOP / "tests/vectors/texts/one_block_number.txt").read_bytes().splitlines(keepends=True)
     lines = []
     for scale in SCALES:
@@ -145,7 +149,7 @@ def limits() -> bytes:
 
 
 def dumped(folder: pathlib.Path, stream: bytes, tables: list) -> tuple:
-    """The text of a stream, and its messages by bufr_text.dump."""
+    """Returns the dump of a stream, and the messages that bufr_text.dump reads from the stream."""
     path = folder / "stream"
     path.write_bytes(stream)
     text = subprocess.run([lib.program(), "dump", *tables, path], stdout=subprocess.PIPE, stderr=subprocess.PIPE).stdout
@@ -176,5 +180,5 @@ def main() -> None:
 
 
 if __name__ == "__main__":
-    warnings.simplefilter("ignore")  # many columns are empty
+    warnings.simplefilter("ignore")  # bufr_text warns about empty columns, of which there are many
     main()

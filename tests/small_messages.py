@@ -3,6 +3,7 @@
 
     tests/small_messages.py [PROGRAM]
 """
+# rule: reserved-ignored, reads-minus-zero
 import pathlib
 import subprocess
 import tempfile
@@ -40,7 +41,7 @@ LOCAL_USE = (
     + ONE[30:]
 )
 
-# What `dump` says of a stream on standard error, where nothing of it is accepted.
+# Streams without a valid message, with the fault lines that `dump` must print.
 REFUSED = [
     (built("001001", "14", 65535), "offset 0: 30 data end at subset 2 descriptor 001001 bit 7"),
     (built("101255 201000", ""), "offset 0: 25 empty group 101255"),
@@ -54,11 +55,11 @@ REFUSED = [
         b"BUFR\0\x10\0\x04" * 1024,
         "\n".join(f"offset {at}: {'3 no end' if at <= 4096 else '1 cut'}" for at in range(0, 8192, 8)),
     ),
-    # a delayed group whose data are cut, with all lengths right
+    # a delayed group whose data are truncated, although all lengths are right
     (built("101000 031001 001001", ""), "offset 0: 30 data end at subset 1 descriptor 031001 bit 0"),
     (built("101000 031001 001001", "02"), "offset 0: 30 data end at subset 1 descriptor 001001 bit 8"),
     (built("101000 031001 001001", "0214"), "offset 0: 30 data end at subset 1 descriptor 001001 bit 15"),
-    # a whole message that is cut
+    # messages that are truncated after each byte
     *(
         (whole[:at], "offset 0: 1 cut" if at >= 4 else "")
         for whole in (ONE, DELAYED, PACKED, LOCAL_USE)
@@ -66,7 +67,7 @@ REFUSED = [
     ),
 ]
 
-# The items of a message's dump without their comments, and what it is encoded to, if that is not the message.
+# A message, the items in its dump without comments, and the message that the dump is encoded to, if it is a different one.
 ACCEPTED = [
     (ONE, "001001 10", None),
     (built("012101", "708F"), "012101 288.15", None),
@@ -84,11 +85,11 @@ ACCEPTED = [
     (built(GROUPS + " 001001", "14"), "001001 10", None),
     # 65,535 subsets in 13 bits
     (built("001001", "1400", 65535, 0xC0), "; ".join(["001001 10"] * 65535), None),
-    # a reference that is minus zero is written as zero
+    # a new reference value of minus zero is encoded as zero
     (built(REFERENCE, "801C23C0"), "R 012101 0; 012101 288.15", built(REFERENCE, "001C23C0")),
-    # reserved octets and bits are not looked at, and written as zero
+    # reserved octets and bits are ignored, and encoded as zero
     (ONE[:17] + b"\x7F" + ONE[18:33] + b"\xFF" + ONE[34:36] + b"\xBF" + ONE[37:42] + b"\xFF" + ONE[43:], "001001 10", ONE),
-    # increments of names are written with the least octets
+    # the increments of strings are encoded in the fewest possible octets
     (
         built("001015", "00" * 20 + "1105090C83FFFFFFFC", 2, 0xC0),
         f'001015 "ABC{" " * 17}"; 001015 MISSING',
@@ -98,8 +99,7 @@ ACCEPTED = [
 
 
 def items_of(text: bytes) -> str:
-    """The item lines of a dump without their comments."""
-# rule: reserved-ignored, reads-minus-zero
+    """Returns the item lines of a dump, without their comments."""
     lines = (line.split("  # ")[0] for line in text.decode().splitlines())
     return "; ".join(line for line in lines if line[:1] in "0123456789R")
 

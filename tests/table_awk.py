@@ -19,8 +19,8 @@ import subprocess
 from lib import TOP, finish
 
 AWKS = (["awk"], ["mawk"], ["gawk", "--posix"], ["gawk"], ["original-awk"], ["busybox", "awk"])
-# names and units whose octets are no characters of UTF-8, and with brackets; a text with all that could end it; lines
-# that are no items
+# Names and units that contain brackets or are not UTF-8, a string with every character that could seem to end it, and lines
+# that are not items.
 ODD = b"""message
 subset 1
 012101 28.5  # T\xdf [a] [\xb0C]
@@ -46,14 +46,14 @@ FEED = b"message\nsubset 1\n001002 1\n031001 2\n012101 28.5\n012101 29.5\nend\n"
 
 
 def run(words: list, text: bytes) -> tuple:
-    """The status and both outputs in a locale of UTF-8."""
+    """Runs a command in a UTF-8 locale. Returns its exit status, its output and its errors."""
     pipe, environment = subprocess.PIPE, {**os.environ, "LC_ALL": "C.UTF-8"}
     done = subprocess.run(words, input=text, stdout=pipe, stderr=pipe, env=environment)
     return done.returncode, done.stdout, done.stderr
 
 
 def serves(words: list) -> bool:
-    """Whether the rows of a message are there before the input ends."""
+    """Returns whether the rows of a message are written before the input ends."""
     if "mawk" in os.path.realpath(shutil.which(words[0])):
         words = [words[0], "-Winteractive", *words[1:]]
     with subprocess.Popen(words, stdin=subprocess.PIPE, stdout=subprocess.PIPE, stderr=subprocess.DEVNULL) as script:
@@ -70,20 +70,20 @@ def serves(words: list) -> bool:
 
 
 def escaped(octets: bytes) -> bytes:
-    """A text as the dump writes it."""
+    """Returns a string as it is written in a dump."""
     special = {34: b'\\"', 92: b"\\\\"}
     return b"".join(special.get(one) or (b"%c" % one if 32 <= one < 127 else b"\\x%02X" % one) for one in octets)
 
 
 def texts(chance: random.Random):
-    """Texts with each byte, and random ones in which quotes, backslashes, `x` and digits are frequent."""
+    """Yields a string for each byte, and random strings in which quotes, backslashes, `x` and digits are frequent."""
     yield from (bytes([octet]) for octet in range(256))
     for _ in range(300):
         yield bytes(chance.choice(b'"\\\\x41 \0\xff#[]\n,') for _ in range(chance.randrange(9)))
 
 
 def wrong_json(awk: list, chance: random.Random):
-    """What is wrong with the JSON of texts, of numbers, of missing values, and of names with quotes and backslashes."""
+    """Returns complaints about the JSON for strings, numbers, missing values, and names with quotes and backslashes."""
     items, wanted = [], []
     for text in texts(chance):
         name, unit = (chance.choice(["", 'A "B" \\C', 'A "B"', "A[B]", "A]B", '\\\\ "', "\u00b0C"]) for _ in range(2))

@@ -19,7 +19,7 @@ from lib import TABLES, TOP, want
 from table_awk import AWKS
 
 SCRIPT = TOP / "scripts/table.awk"
-# groups in one another, a factor behind a last pass, and an item behind all passes
+# Nested groups, a factor after the last pass of a group, and an item after all passes.
 NESTED = b"""message
 subset 1
 012101 1.0
@@ -47,13 +47,13 @@ subset 1
 012103 2.5
 end
 """
-# three passes with inner groups of different lengths; groups behind them, of which one has no pass; lines that are no items
+# Three passes with inner groups of different lengths, then groups, one of which has no passes, and lines that are not items.
 VARIED = b"message\nsubset 1\n031001 3\nR 012101 5\n# a note\n\n007004 1\n031001 2\n011001 3\n011001 4\n012101 1.0\n"
 VARIED += b"007004 2\n031001 0\n012101 2.0\n007004 3\n031001 1\n011001 3\n012101 3.0\n"
 VARIED += b"031001 0\n" + b"".join(b"031001 1\n007004 %d\n012101 %d.0\n" % (level, level) for level in (4, 5, 6)) + b"end\n"
-# passes that begin and end with the same descriptor, two and three of them
+# Passes that begin and end with the same descriptor. The factor, 2 or 3, is filled in.
 ENCLOSED = b"message\nsubset 1\n031001 %d\n" + b"008002 1\n020011 2\n008002 MISSING\n" * 3 + b"end\n"
-# escapes, what is passed over, and comments whose octets are no characters
+# Escapes, lines that are skipped, and comments that are not UTF-8.
 ODD = b"""# a note
 
 message
@@ -68,7 +68,7 @@ R 012101 -400
 001015 ""
 end
 """
-# behind two passes come an item that is not asked for, and one that is
+# Two passes, followed by an item that is not in a column, and one that is.
 BEHIND = b"message\nsubset 1\n031001 2\n007004 1\n012101 1.0\n007004 2\n012103 2.0\n002001 1\n012101 3.0\nend\n"
 WORDS = ["airTemperature", "01210", "0121011", "412101", "064001", "001256", "012101,x", "012101,", "local1", "optiona", "file"]
 
@@ -118,10 +118,10 @@ def tries_wide(awk: list, text: bytes) -> None:
 
 
 class Stream:
-    """A stream with messages that are refused between others, its text, and the files of its listing and its faults."""
+    """A stream in which some messages are rejected, its dump, and files with its listing and its fault lines."""
 
     def __init__(self, folder: pathlib.Path) -> None:
-        # version 13 lacks sequences and elements of some of these messages
+        # Version 13 lacks sequences and elements that some of these messages need.
         tables = [word.replace("wmo-39", "wmo-13") for word in TABLES]
         paths = sorted((TOP / "examples").glob("*.bufr"), key=lambda path: path.stem != "sounding")
         octets = b"".join(path.read_bytes() + b"BUFR" for path in paths)
@@ -135,7 +135,7 @@ class Stream:
             )
             path.write_bytes(done.stdout if output == 1 else b"1 message, at offset 99999999: of another program\n" + done.stderr)
         self.text, self.places = done.stdout.replace(b"\nedition", b"\n# a note\nedition"), []
-        # which messages are dumped, by a run for each alone
+        # Dump each message separately to find out which messages are in the dump.
         for offset, length in re.findall(rb"^offset=(\d+) length=(\d+) ", self.listing.read_bytes(), re.M):
             one = octets[int(offset) : int(offset) + int(length)]
             words = [lib.program(), "dump", *tables]
@@ -170,7 +170,10 @@ def tries_offsets(awk: list, stream: Stream) -> None:
 
 
 def tries_speed(awk: list, text: bytes, folder: pathlib.Path) -> None:
-    """Items that were not asked for cost little more than their lines. To look at all takes 12 times as long."""
+    """Skipping items that are in no column must take little more time than reading their lines.
+
+    Processing all items would take 12 times as long.
+    """
     path = folder / "text"
     path.write_bytes(text * (16_000_000 // len(text)))
     for columns, most in [
@@ -179,18 +182,18 @@ def tries_speed(awk: list, text: bytes, folder: pathlib.Path) -> None:
     ]:
         words = [word for column in columns for word in ("-v", column)]
         commands = [*awk, *words, "-f", SCRIPT, path], [*awk, '$1 == "012101" { count++ } END { print count }', path]
-        # In this locale, a character may have several octets.
+        # In this locale, a character can have several bytes.
         spent, least = lib.least_seconds(commands, most, env={**os.environ, "LC_ALL": "C.UTF-8"})
         want(spent <= most * least, f"{awk}: {columns} takes {spent / least:.1f} times as long as a count, over {most}")
 
 
 def tries_memory(awk: list, folder: pathlib.Path) -> None:
-    """The names of items are not all cached: 100,000 take less than 10 MB more than 20,000."""
+    """table.awk must not cache all names of items: 100,000 names may need at most 10 MB more memory than 20,000."""
     sizes = []
     for count in (20_000, 100_000):
         lines = (f"012101 1  # A NAME OF AN ELEMENT OF A TABLE {number} [K]\n" for number in range(count))
         path = folder / "names"
-        with open(path, "w") as text:  # in pieces, since a child's measure begins with the memory of this process
+        with open(path, "w") as text:  # in pieces, because a child's measured memory includes that of this process
             text.writelines(itertools.chain(["message\nsubset 1\n"], lines, ["end\n"]))
         status, usage = lib.usage_of([*awk, "-f", SCRIPT, path], stdout=subprocess.DEVNULL)
         want(status == 0, f"{awk}: {count} names end with {status}")
@@ -218,7 +221,7 @@ def tries_levels(awk: list, sounding: bytes, synop: bytes) -> None:
     wanted += '1,3,2023,"SAENTIS",3,1\n1,3,2023,"SAENTIS",6,8\n'
     told = "table.awk: skipped a subset without levels: message 1, subset 1\n"
     want((status, output, errors) == (0, wanted, told), f"{awk}: the clouds are {output}: {errors}")
-    # an item behind a group of two passes or more belongs to none of them
+    # An item after a group with two or more passes does not belong to any of them.
     rows = "message,subset,012101,007004,012101,011001\n1,1,1.0,100,5.0,1\n1,1,1.0,200,,\n1,1,1.0,300,7.0,\n"
     rows += "1,1,1.0,400,9.0,\n1,1,1.0,500,9.5,\n"
     nested = run(awk, NESTED, levels="1", keep="012101", columns="007004,012101,011001")
@@ -226,7 +229,7 @@ def tries_levels(awk: list, sounding: bytes, synop: bytes) -> None:
     varied = run(awk, VARIED, levels="1", columns="007004,012101")
     rows = "".join(f"1,1,{level},{level}.0\n" for level in range(1, 7))
     want(varied == (0, "message,subset,007004,012101\n" + rows, ""), f"{awk}: levels of different lengths are {varied}")
-    # a level without the descriptor of the first column has no row
+    # A level without an item for the first column has no row.
     first = run(awk, NESTED, levels="1", columns="011001,007004")
     want(first == (0, "message,subset,011001,007004\n1,1,1,100\n", ""), f"{awk}: levels by an inner descriptor are {first}")
     behind = run(awk, NESTED, levels="1", columns="007004,012103")
@@ -238,7 +241,7 @@ def tries_levels(awk: list, sounding: bytes, synop: bytes) -> None:
     behind = run(awk, BEHIND, levels="1", columns="007004,012101,012103")
     wanted = (0, "message,subset,007004,012101,012103\n1,1,1,1.0,\n1,1,2,,2.0\n", "")
     want(behind == wanted, f"{awk}: an item behind two passes is in a row: {behind}")
-    # items of a subset without a level do not count, and no item may follow a factor
+    # Items in a subset without levels do not fill a column. A factor need not be followed by any items.
     bare = "table.awk: skipped {} message 1, subset 1\n"
     one, two = "a subset without levels:", "2 subsets without levels; the first is"
     status, _, errors = run(awk, ODD + BEHIND, levels="1", keep="001015", columns="007004,012101")
@@ -252,12 +255,12 @@ def tries_levels(awk: list, sounding: bytes, synop: bytes) -> None:
     several = outside.partition("; ")[0] + "; to get its first two values, pass -v keep=012101,012101:2\n"
     told = several + bare.format(one)
     want(errors == told, f"{awk}: without a level, a kept column is told as {errors}")
-    # the descriptor that begins a pass comes twice before an inner group
+    # The descriptor that begins a pass occurs twice before an inner group.
     again = b"message\nsubset 1\n031001 3\n" + b"007004 1\n007004 2\n031001 1\n011001 3\n" * 3 + b"end\n"
     status, output, errors = run(awk, again, levels="1", columns="007004")
     is_so = (status, output.count("\n")) == (1, 1) and "ambiguous levels: message 1, subset 1 (007004 begins a level and occurs again in it); to get its items, run " in errors
     want(is_so, f"{awk}: a descriptor that comes again gives {status}, {output}, {errors}")
-    # ambiguous passes between others: the rest is given
+    # Only the subsets with ambiguous passes are skipped.
     good = BEHIND.splitlines(True)
     both = b"".join([*good[:-1], *(ENCLOSED % 3).splitlines(True)[2:-1], *good[2:]])
     between = both + NESTED + ENCLOSED % 2 + ODD + NESTED
@@ -272,7 +275,7 @@ def tries_levels(awk: list, sounding: bytes, synop: bytes) -> None:
     status, output, _ = run(awk, after, levels="1", columns="008002,020011")
     wanted = (1, "message,subset,008002,020011\n2,1,9,5\n")
     want((status, output) == wanted, f"{awk}: after ambiguous passes, the rows are {output}")
-    # three passes, of which the second has lines that are no items
+    # Three passes, with lines that are not items before the second.
     head, one, rest = (b"".join(ODD.splitlines(True)[part]) for part in (slice(6), slice(6, 10), slice(10, None)))
     odd = head + b"031001 3\n" + one + b"\n# a note\n" + one + one + rest
     status, output, errors = run(awk, odd, levels="1", keep="centre", columns="012101,001015")

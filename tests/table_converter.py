@@ -3,7 +3,7 @@
 
     tests/table_converter.py [PROGRAM]
 
-Each row is tested in a table of its own. Next to it is the reason for leaving it out, or nothing if it is kept. Other tests
+Each row is tested in a separate table. Next to it is the reason for leaving it out, or nothing if it is kept. Other tests
 cover sources with conflicting rows, and files with an invalid layout.
 """
 import functools
@@ -95,15 +95,14 @@ SEQUENCES = """
 
 
 def wreport_row(fxy: str, name: str, unit: str, scale: str, reference: str, width: str, rest: str = "") -> str:
-    """A line of wreport's B*.txt."""
+    """Returns a line in the format of wreport's B*.txt."""
     return f" {fxy} {name:65}{unit:24}{scale:>4} {reference:>12} {width:>3}{rest}\n"
 
 
-# A file, its text, the status, what is told, and what the set then holds behind its headers.
 ELEMENT = "012101,NAME,K,2,0,16\n"
-# The elements that version 14 defines otherwise than version 13, on the first of two lines.
+# The elements whose definitions differ between versions 13 and 14: the first of two lines.
 CHANGED = "  elements changed: 13: 014001 014002 014003 014004 014011 014012 014013 014014 014017 014018 014028"
-# Two small sets, and what has changed from one to the other.
+# Two small sets, and the changes from one to the other.
 ONE = """\
 001033,A \udcff,CODE TABLE,0,0,8
 001034,B,Numeric,0,0,8
@@ -134,6 +133,7 @@ one to ot\\x1Bher
   sequences added: 0
 """
 TWICE = "source: left out %s: the source contains conflicting rows for this descriptor\n"
+# A file, its text, the exit status, the messages, and the rows of the new set without its headers.
 SOURCES = [
     ("B.csv", f"{HEADERS['B']}\n{ELEMENT}\n{ELEMENT}", 0, "", ELEMENT),
     ("B.csv", "", 2, "source/B.csv has no column 'fxy'\n", None),
@@ -195,7 +195,7 @@ SOURCES = [
     ),
     ("D.csv", "fxy\n307060\n", 2, "source/D.csv has no column 'member'\n", None),
     ("other.csv", "", 2, "source contains no tables in a known format; see convert.py --help\n", None),
-    # wreport's layout: units without spaces, a sign apart, a name that fills its columns, letters of two octets.
+    # wreport's layout: units without spaces, a space after a sign, a name that fills its columns, and two-byte letters.
     (
         "Bmade.txt",
         wreport_row("001210", "MADE UP", "CCITTIA5", "0", "0", "72")
@@ -212,7 +212,7 @@ SOURCES = [
         f"001213,A COMMON ONE,COMMON CODE TABLE C-1,0,0,16\n007030,{'N' * 65},M,1,-4000,17\n"
         "041003,DISSOLVED NITRATES,\u03bcMOL KG-1,3,0,17\n",
     ),
-    # The same sequence twice: the first counts. Counts of one, two and three digits; what stands behind a member.
+    # If a sequence occurs twice, the first one is used. Counts have one or three digits, and text can follow a member.
     (
         "Dmade.txt",
         " 307210  2 001210  of this centre\n           001211\r\n 307211  1 307210\n 307210  1 001212\n"
@@ -239,7 +239,7 @@ SOURCES = [
 
 
 def convert(place: pathlib.Path, name: str, text: str):
-    """The converter's run over a source of one file; the set is in `out`."""
+    """Runs convert.py on a source that contains one file, and returns the completed process. The new set is in `out`."""
     for folder in (place / "source", place / "out"):
         folder.mkdir(exist_ok=True)
         for path in folder.iterdir():
@@ -250,7 +250,7 @@ def convert(place: pathlib.Path, name: str, text: str):
 
 
 def behind_headers(place: pathlib.Path):
-    """The rows of both tables of the set, or none where it was not written."""
+    """Returns the rows of both tables in the new set, or None if it was not written."""
     paths = [place / "out" / f"{table}.csv" for table in HEADERS]
     if not all(path.exists() for path in paths):
         return None
@@ -258,7 +258,7 @@ def behind_headers(place: pathlib.Path):
 
 
 def wrong_row(place: pathlib.Path, table: str, row: str, reason: str) -> str:
-    """What is wrong of the row of a table: nothing where both do as they should."""
+    """Returns a complaint, or an empty string if convert.py and the program treat this row as expected."""
     texts = {name: f"{header}\n" + f"{row}\n" * (name == table) for name, header in HEADERS.items()}
     done = convert(place, f"{table}.csv", texts[table])
     kept = behind_headers(place)
@@ -275,7 +275,10 @@ def wrong_row(place: pathlib.Path, table: str, row: str, reason: str) -> str:
 
 
 def several_sources(place: pathlib.Path) -> list:
-    """What is wrong of a set of two sources: the last one counts, but for what is left out of it. Both are reported."""
+    """Returns complaints about sets from two sources. Rows in the last source take precedence, unless they are left out.
+
+    Rows that are left out must be reported for both sources.
+    """
     tables = {
         "fi\x1brst/B.csv": "012103,OLD,K,2,0,16\n064000,NAME,K,2,0,16\n012102,OLD,K,2,0,16\n012101,OLD,K,2,0,16\n",
         "fi\x1brst/D.csv": "301002,001002\n301001,001002\n301001,001001\n",
@@ -295,7 +298,7 @@ def several_sources(place: pathlib.Path) -> list:
         made = "".join((place / f"both/{name}.csv").read_text().partition("\n")[2] for name in HEADERS)
         if (done.returncode, done.stdout, done.stderr, made) != (1, "", told + more, wanted):
             wrongs.append(f"two sources: {done}, {made!r}")
-    # one folder with both tables of wreport
+    # a directory that contains both of wreport's tables
     (place / "pair").mkdir()
     (place / "pair/Bone.txt").write_text(wreport_row("001210", "MADE UP", "CCITTIA5", "0", "0", "72"))
     (place / "pair/Done.txt").write_text(" 307210  1 001210\n")
@@ -306,7 +309,10 @@ def several_sources(place: pathlib.Path) -> list:
 
 
 def failures(place: pathlib.Path) -> list:
-    """What is wrong where nothing can be written, or a folder or a column is not there: the set stays as it was."""
+    """Returns complaints about failures, such as a full disk, a missing directory or a missing column.
+
+    If convert.py cannot write a set, the old set must remain unchanged.
+    """
     wrongs = []
 
     def run(name: str, *words, **more):

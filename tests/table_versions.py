@@ -4,10 +4,10 @@ sets are needed.
 
     tests/table_versions.py
 
-The set for a version is the one with that number or, if there is none, the one with the next higher number. It must read
-each row of the version as the version defines it; rows that were added later do no harm. The versions come from ecCodes,
-and from wreport with the differences that are listed below. If either is not installed, the test says so and skips its
-versions.
+The set for a version is the one with that number or, if there is none, the one with the next higher number. It must define
+each row of the version as the version does; rows that were added later do no harm. The versions come from ecCodes and
+wreport; those of wreport differ from ours as listed below. If one of the two is not installed, the test prints a note and
+skips its versions.
 """
 import pathlib
 import re
@@ -23,13 +23,14 @@ import changes  # noqa: E402
 ECCODES = pathlib.Path("/usr/share/eccodes/definitions/bufr/tables/0/wmo")
 WREPORT = pathlib.Path("/usr/share/wreport")
 VERSIONS = range(7, 40)
-# What bufr-auto takes for read otherwise than meant, up to version 6.
+# The descriptors that, according to bufr-auto, versions up to 6 define differently.
 AUTO = (TOP / "scripts/bufr_auto.py").read_text()
 CHANGED_SINCE_6 = re.search(r'CHANGED_SINCE_6 = set\(\s*"""([^"]*)"""', AUTO)[1].split()
-# What wreport has otherwise. Of versions 12 and 13: members that are missing, or stand there twice.
+# The differences in wreport. In versions 12 and 13, members of sequences are missing or occur twice.
 MISPRINTS = "301034 307046 307052 307054 307055 307084 308008 310019 310025".split()
-# Of version 16: the reference that ecCodes has from version 17 on; nine sequences, cut in two and joined the wrong way
-# round; four that neither version 15 of ecCodes nor its version 16 has. Its file of version 15 is that of version 16.
+# In version 16, two elements have reference values that ecCodes has only since version 17, the two halves of nine sequences
+# are swapped, and four sequences are in neither version 15 nor version 16 of ecCodes. wreport's sequences for version 15 are a
+# copy of those for version 16.
 OF_16 = """
     014052 014053 305006 307045 307081 307093 309019 310027 311008 318001 340007 302067 308015 308016 315004
 """.split()
@@ -37,12 +38,12 @@ WREPORT_HAS_OTHERWISE = {12: [*MISPRINTS, "302056"], 13: MISPRINTS, 14: ["307084
 
 
 def sets() -> dict:
-    """The sets of tables/, by their versions."""
+    """Returns the table sets in tables/, by version."""
     return {int(path.name[4:]): changes.read(path) for path in sorted((TOP / "tables").glob("wmo-[0-9][0-9]"))}
 
 
 def converted(source: pathlib.Path, place: str):
-    """The tables that convert.py makes of a source; rows that it leaves out are unknown, and told as such."""
+    """Returns the tables that convert.py makes from a source. They do not contain the rows that it leaves out."""
     done = subprocess.run([TOP / "tables/convert.py", place, source], stderr=subprocess.PIPE, text=True)
     if done.returncode > 1:
         sys.exit(f"tables/convert.py does not read {source}: {done.stderr}")
@@ -50,7 +51,7 @@ def converted(source: pathlib.Path, place: str):
 
 
 def otherwise(version, served) -> set:
-    """The rows of a version that a set does not have, or has otherwise."""
+    """Returns the descriptors of a version's rows that a set lacks or defines differently."""
     return {fxy for table, other in zip(version, served) for fxy in table if other.get(fxy) != table[fxy]}
 
 
@@ -59,7 +60,7 @@ def is_of_wmo(fxy: str) -> bool:
 
 
 def check(name: str, versions: dict, known: dict) -> list:
-    """Complaints of the versions of one publisher."""
+    """Compares our sets with the versions in one package, and returns complaints."""
     shipped, complaints = sets(), []
     for version, tables in versions.items():
         number = min(number for number in shipped if number >= version)
@@ -73,13 +74,13 @@ def check(name: str, versions: dict, known: dict) -> list:
 def check_eccodes(place: str) -> list:
     tables = {version: converted(ECCODES / str(version), f"{place}/e{version}") for version in (2, 6, *VERSIONS)}
     complaints = check("ecCodes", {version: tables[version] for version in VERSIONS}, {})
-    # The sets that stand there are made of these, names and units too.
+    # Our sets are made from these tables, including the names and units.
     for number in sets():
         for name in ("B.csv", "D.csv"):
             made = pathlib.Path(f"{place}/e{number}/{name}").read_bytes()
             if made != (TOP / f"tables/wmo-{number}/{name}").read_bytes():
                 complaints.append(f"tables/wmo-{number}/{name} is not what convert.py makes of ecCodes")
-    # As few as can: each set but the last has a row that the next later one has otherwise.
+    # Every set is needed: a row of each set except the last is different in the next set, or missing from it.
     numbers = sorted(sets())
     for number, later in zip(numbers, numbers[1:]):
         if not otherwise(tables[number], tables[later]):

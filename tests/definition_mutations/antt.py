@@ -1,4 +1,4 @@
-"""Reads the crates' antt files: modules, their declarations, and what each of them imports."""
+"""Reads the `.antt` files in the crates: modules, their declarations and their imports."""
 import functools
 import re
 
@@ -6,12 +6,12 @@ from lib import TOP
 
 
 class Bad(Exception):
-    """An invalid list, or a check without a verdict."""
+    """Raised if a list of wrong rules is invalid, or if a check gives no verdict."""
 
 
 @functools.lru_cache(None)
 def crates() -> dict:
-    """The crates of crates.txt, and what each depends on."""
+    """Returns the crates in crates.txt, with the crates that each depends on."""
     lines = [line.partition("#")[0] for line in (TOP / "crates.txt").read_text(encoding="utf-8").splitlines()]
     return {name.split()[0]: uses.split() for name, _, uses in (line.partition(":") for line in lines if line.strip())}
 
@@ -31,7 +31,7 @@ SIGNATURE = re.compile(r"(?:(?:unfoldable|abbrev|pattern|pub|data|record|module)
 
 
 def parts_of(name: str) -> set:
-    """The parts of a name: for an operator, those between its places."""
+    """Returns the parts of a name. The name of an operator is split at the places of its arguments (`◌`)."""
     return {part for part in name.split("◌") if part}
 
 
@@ -40,7 +40,7 @@ def tokens(text: str) -> set:
 
 
 class Block:
-    """A declaration, or a line that imports: its text, and the names that it declares."""
+    """A declaration or an import: its text, and the names that it declares."""
 
     def __init__(self, line: str) -> None:
         self.lines, self.declares = [line], not NO_DECLARATION.match(line)
@@ -70,7 +70,7 @@ class Block:
 
 @functools.lru_cache(None)
 def blocks(text: str) -> list:
-    """The declarations and imports of a module, without comments."""
+    """Returns the declarations and imports of a module, without comments."""
     found = []
     for line in text.splitlines():
         if line.startswith("--"):
@@ -84,7 +84,7 @@ def blocks(text: str) -> list:
 
 @functools.lru_cache(None)
 def modules() -> dict:
-    """The modules of specs/ and proofs/, with those that each imports."""
+    """Returns the modules in specs/ and proofs/, with the modules that each imports."""
     texts = {}
     for path in (TOP / "crates").glob("*/*/*.antt"):
         crate, folder, _ = path.parts[-3:]
@@ -95,7 +95,7 @@ def modules() -> dict:
 
 @functools.lru_cache(None)
 def below(place: tuple) -> frozenset:
-    """A module with all that it imports, directly or not."""
+    """Returns a module and all modules that it imports, directly or indirectly."""
     seen, todo = set(), [place]
     while todo:
         one = todo.pop()

@@ -9,7 +9,7 @@ KINDS = ("example", "law", "vector", "test")
 
 
 class Change:
-    """A text in a file that is replaced by another one."""
+    """A text in a file, and the text that replaces it."""
 
     def __init__(self, folder: str, crate: str, file: str) -> None:
         self.folder, self.crate, self.file = folder, crate, file
@@ -26,7 +26,7 @@ class Change:
 
 
 class Entry:
-    """A wrong rule, and what must fail."""
+    """A wrong rule, and the example, law, vector or test that must fail."""
 
     def __init__(self, crate: str, line: int) -> None:
         self.crate, self.line = crate, line
@@ -38,12 +38,12 @@ class Entry:
         return f"{self.file}.txt:{self.line}: {' '.join(self.words)}"
 
     def text(self) -> str:
-        """The text of an entry, for --only."""
+        """Returns the text that --only searches for its word."""
         lines = [line for one in self.changes for line in (one.crate, one.file, *one.old, *one.new)]
         return "\n".join([*self.words, *lines, self.kind, self.of, self.name])
 
     def changed(self, places: set) -> dict:
-        """The changed files, by place."""
+        """Returns the changed text of each file in these folders, by place."""
         texts = {}
         for change in self.changes:
             place = change.place()
@@ -53,7 +53,7 @@ class Entry:
 
 
 def read_entries(name: str, crate: str):
-    """The entries of a list, which belong to this crate. Raises Bad for what cannot be read."""
+    """Yields the entries in a list, which apply to this crate. Raises `Bad` if the list is invalid."""
     path = HERE / f"{name}.txt"
     lines = path.read_text(encoding="utf-8").splitlines() if path.is_file() else []
     entry = None
@@ -73,7 +73,7 @@ def read_entries(name: str, crate: str):
 
 
 def every_entry() -> list:
-    """The entries of the lists of all crates."""
+    """Returns the entries in the lists of all crates."""
     return [entry for crate in crates() for entry in read_entries(crate, crate)]
 
 
@@ -110,7 +110,7 @@ def read_line(entry: Entry, line: str) -> None:
 
 
 def finished(entry: Entry) -> None:
-    """Raises Bad unless an entry is complete and its old texts occur."""
+    """Raises `Bad` unless an entry is complete and each of its old texts occurs exactly once."""
     if not entry.words:
         raise Bad("a comment must say the wrong rule, or the reason, in words")
     if entry.free:

@@ -13,7 +13,7 @@ ORDERED = {"nat_lt", "nat_le"}
 PREFIX = ORDERED | {"int_eq", "bytes_eq"}
 ENDS = set("( ) [ ] { } , ; && || = if then else in let → λ ∷ ++ ↦ | ← × ⊎ >>= : do ≡ ↔".split())
 NUMBER = re.compile(r"\d[\d_]*$|0x[\dA-Fa-f_]+$")
-BOUNDS = {"leasts", "mosts", "greatest", "greatest_values"}  # lists of bounds, each of which a comparison looks up by its index
+BOUNDS = {"leasts", "mosts", "greatest", "greatest_values"}  # lists of bounds; comparisons look up a bound by its index
 ARITHMETIC = set("∷ [ ] ( ) = ^ * + -".split())
 REFUSALS = set("Err None Invalid Refuses Stray unless only_if".split())
 ACCEPTED = set("Ok Some Continues true".split())
@@ -21,8 +21,10 @@ PROVED = "a proposition states what is proved, and refuses no input"
 
 
 class Site:
-    """A comparison, a number or an order in a definition: its words from `first` up to `last`. For an order these are the
-    first check, and `after` has the words of the second."""
+    """A comparison, a number or an order in a definition: its words from `first` up to, but not including, `last`.
+
+    For an order, these are the words of the first check, and `after` contains those of the second.
+    """
 
     def __init__(self, kind: str, words: list, first: int, last: int, after=()) -> None:
         self.kind, self.first, self.last, self.after = kind, first, last, after
@@ -41,7 +43,7 @@ class Site:
 
 
 class Definition:
-    """A definition of specs/: its words without comments, and its sites."""
+    """A definition in specs/: its words, without comments, and its sites."""
 
     def __init__(self, place: tuple, line: int, start: int, text: str) -> None:
         self.place, self.line, self.start, self.text = place, line, start, text
@@ -58,7 +60,7 @@ class Definition:
         return sum(word in "([{" for word in self.words[:at]) - sum(word in ")]}" for word in self.words[:at])
 
     def argument(self, at: int) -> int:
-        """The end of an argument that begins at a word."""
+        """Returns the end of the argument that begins at this index."""
         opened = 0
         while at < len(self.words):
             opened += (self.words[at] in "([{") - (self.words[at] in ")]}")
@@ -71,7 +73,7 @@ class Definition:
         return at == len(self.words) or self.text[: self.starts[at] - self.start].rpartition("\n")[2] == "" and at > 0
 
     def comparison(self, at: int) -> tuple:
-        """The first word of a comparison, and the end."""
+        """Returns the beginning and the end of the comparison whose operator is at this index."""
         if self.words[at] in PREFIX:
             return at, self.argument(self.argument(at + 1))
         first, opened = at, 0
@@ -104,15 +106,18 @@ class Definition:
         yield from self.orders()
 
     def is_value(self, at: int) -> bool:
-        """Whether a number is on the right of its clause, not in a pattern or a signature, and has no exponent."""
+        """Returns whether a number is on the right of an equation, not in a pattern or a signature, and has no exponent."""
         line = self.text.rfind("\n", 0, self.starts[at] - self.start) + 1
         head = self.text[line : self.starts[at] - self.start]
         is_base = self.words[at + 1 : at + 2] == ["^"]
         return not is_base and (head.startswith(" ") or " = " in head)
 
     def orders(self):
-        """Pairs of checks that can both refuse: statements of a `do` block, if the second does not need the result of the
-        first, and a condition with what is checked if it holds."""
+        """Yields pairs of checks that can both reject input.
+
+        A pair consists of two consecutive statements in a `do` block, if the second does not use the result of the first, or
+        of the condition of an `if` that rejects input and the check in its other branch.
+        """
         steps, bound, is_open = [], [], False
         for line in self.text.split("\n") if "Result" in self.words[: self.body] else []:
             told = re.match(r"( +)(?:(\S+) ← )?(\S.*)$", line)
@@ -133,7 +138,8 @@ class Definition:
                 yield from self.pairs(self.choice(at))
 
     def end_of(self, at: int, word: str) -> int:
-        """The end of an expression that begins at a word: at the next word of its own `if`, or where the expression is closed."""
+        """Returns the end of the expression that begins at this index: the index of the next `word` (`then` or `else`) of the
+        same `if`, or the end of the enclosing expression."""
         opened = inner = 0
         while not self.begins_clause(at) and not (opened == 0 and self.words[at] in (")", ",", ";")):
             if opened == 0 and self.words[at] == word:
@@ -146,7 +152,7 @@ class Definition:
         return at
 
     def choice(self, at: int) -> list:
-        """The condition of an `if` that refuses, and what is checked otherwise."""
+        """Returns the condition of an `if` that rejects input in one branch, and the check in its other branch, if any."""
         then = self.end_of(at + 1, "then")
         other = self.end_of(then + 1, "else")
         branches = self.words[then + 1 : other], self.words[other + 1 : self.end_of(other + 1, "")]
@@ -170,20 +176,20 @@ class Definition:
 
 
 def place_in(words: list, part) -> int | None:
-    """The index of a part in a list of words."""
+    """Returns the index at which a part occurs in a list of words, or None."""
     part = list(part)
     return next((at for at in range(len(words) - len(part) + 1) if words[at : at + len(part)] == part), None)
 
 
 def times(words: list, part: list, is_open: bool) -> int:
-    """How often a part occurs in a list of words. Unless it is open, an expression must end after it."""
+    """Returns how often a part occurs in a list of words. Unless `is_open` is true, an expression must end after it."""
     ends = (at + len(part) for at in range(len(words)) if words[at : at + len(part)] == part)
     return sum(is_open or words[end : end + 1] == [] or words[end] in ENDS for end in ends)
 
 
 @functools.lru_cache(None)
 def definitions(place: tuple) -> list:
-    """The definitions of a file of specs/."""
+    """Returns the definitions in a file in specs/."""
     found, start, lines = [], 0, source(place).split("\n")
     opened = None
     for number, line in enumerate([*lines, "use end"], 1):
@@ -206,7 +212,7 @@ def files() -> list:
 
 
 def cover(entries: list) -> list:
-    """Assigns to each site the entries that change it, or the reason why it has none. Returns complaints."""
+    """Assigns to each site the entries that change it, or the reason why it needs none. Returns complaints."""
     for entry in entries:
         for change in entry.changes:
             if change.folder == "specs":
@@ -220,11 +226,11 @@ def cover(entries: list) -> list:
 
 
 def note(entry: Entry, change: Change) -> None:
-    """Assigns an entry to the sites that one of its changes touches."""
+    """Assigns an entry to the sites that one of its changes affects."""
     before = source(change.place())
     start = before.find("\n".join(change.old))
     if start < 0:
-        return  # a text that an earlier pair of the entry made
+        return  # an earlier pair of the entry created the old text
     old, new = WORD.findall("\n".join(change.old)), WORD.findall("\n".join(change.new))
     places = [start + one.start() for one in WORD.finditer("\n".join(change.old))]
     touched = set()
@@ -245,14 +251,14 @@ def note(entry: Entry, change: Change) -> None:
                 if turned and entry not in site.entries:
                     site.entries.append(entry)
             elif touched & set(definition.starts[site.first : site.last]) and entry not in site.entries:
-                beside = site.kind == "number"  # a number is told from others by the words beside it
+                beside = site.kind == "number"  # the words next to a number distinguish it from equal ones
                 words = definition.words[site.first - beside : site.last + beside]
-                if not 0 < times(old, words, beside) <= times(new, words, beside):  # and not only moved
+                if not 0 < times(old, words, beside) <= times(new, words, beside):  # otherwise, the words were only moved
                     site.entries.append(entry)
 
 
 def set_free(entry: Entry, place: tuple, names: str) -> list:
-    """Assigns the reason to the sites of definitions, or of a text, that lack an entry. Returns these sites."""
+    """Assigns a reason to the sites without entries in the named definitions or in a quoted text. Returns these sites."""
     text, found = names.strip("`"), definitions(place)
     if names.startswith("`"):
         start = source(place).find(text)
@@ -276,12 +282,12 @@ def set_free(entry: Entry, place: tuple, names: str) -> list:
 
 
 def boundaries(place: tuple, name: str) -> list:
-    """The sites of a definition, without propositions."""
+    """Returns the sites in a definition, except propositions."""
     return [site for one in definitions(place) if one.name == name for site in one.sites if site.kind != "proposition"]
 
 
 def listed(crate: str, is_whole: bool) -> list:
-    """A line for each site, or for each one that is not covered."""
+    """Returns a line for each site or, unless `is_whole` is true, for each site that is not covered."""
     lines, missing = [], []
     for place in files():
         if crate and place[0] != crate:
