@@ -1,6 +1,6 @@
-//! A lister written by hand in plain Rust, to measure `bufr ls` against: it maps the file, looks for
-//! messages 64 octets at once, checks the sections and writes the same lines into one buffer. No proof, no
-//! stream, no tests: only a yardstick.
+//! A hand-written lister in plain Rust, as a baseline for `bufr ls`. It maps the file, searches for
+//! messages 64 octets at a time, checks the sections, and writes the same lines through one buffer. It has
+//! no proofs or tests, and cannot read from a pipe.
 mod by_hand;
 use by_hand::{mapped, Message, Messages, Out, Pen};
 

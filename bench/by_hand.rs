@@ -1,7 +1,6 @@
-//! What the lister, the dumper and the encoder by hand share: a file that is mapped, the messages in
-//! it, the numbers of section 1, the tables, the steps of a list of descriptors, and an output that is
-//! put together in one buffer.
-#![allow(dead_code)] // each of them has no use for some of it
+//! Code that the hand-written lister, dumper and encoder share: it maps files, finds messages in them, and
+//! reads section 1, tables and the steps of descriptor lists. It also contains a buffered output.
+#![allow(dead_code)] // each program uses only part of it
 use std::cell::{Cell, OnceCell};
 use std::fs::File;
 use std::io::Write as _;
@@ -12,7 +11,7 @@ extern "C" {
     fn mmap(at: *mut u8, length: usize, access: i32, flags: i32, file: i32, offset: i64) -> *mut u8;
 }
 
-/// The octets of a file, mapped.
+/// Maps a file and returns its octets.
 pub fn mapped(name: &str) -> &'static [u8] {
     let file = File::open(name).expect("a file that opens");
     let length = file.metadata().expect("its length").len() as usize;
@@ -32,14 +31,14 @@ pub fn number(octets: &[u8]) -> usize {
 
 // ---------------------------------------------------------------- the output
 
-/// How many octets are held back before they are handed on, and how many a line has at most.
+/// The buffer is flushed when it contains this many octets. LINE is the maximum length of a line.
 const HELD: usize = 1 << 16;
 const LINE: usize = 1 << 13;
 
-/// A piece of a text that is copied at once, whatever of it counts.
+/// A piece of text that is always copied as a whole, even if only part of it is used.
 pub type Block = [u8; 32];
 
-/// The text in whole blocks.
+/// Splits a text into blocks. The last one is padded with zeros.
 pub fn blocks(text: &[u8]) -> Vec<Block> {
     let filled = |piece: &[u8]| {
         let mut block = [0; 32];
@@ -49,11 +48,11 @@ pub fn blocks(text: &[u8]) -> Vec<Block> {
     text.chunks(32).map(filled).collect()
 }
 
-/// Eight digits `0`.
+/// The digit `0` eight times.
 const ZEROS: u64 = 0x3030_3030_3030_3030;
 
-/// The eight digits of a number under 100,000,000, the first one in the lowest octet, without the
-/// `0` that makes them text. All are found at once: two numbers of four digits, four of two, eight.
+/// Returns the eight digits of a number below 100,000,000, the first one in the lowest octet, as values
+/// from 0 to 9. Computes them in parallel: first two numbers of four digits, then four of two, then eight.
 #[inline(always)]
 fn eight_digits(n: u32) -> u64 {
     let fours = u64::from(n / 10_000) | u64::from(n % 10_000) << 32;
@@ -63,10 +62,10 @@ fn eight_digits(n: u32) -> u64 {
     tens | (twos - 10 * tens) << 8
 }
 
-/// The room that lines are put together in.
+/// The buffer in which lines are built.
 type Room = [u8; HELD + LINE];
 
-/// Where a line is put together. Its place is its own and not the room's, so that it can be in a
+/// Writes lines to a buffer. It has its own copy of the position, so that the compiler can keep it in a
 /// register.
 pub struct Pen<'r> {
     room: &'r mut Room,
@@ -74,7 +73,7 @@ pub struct Pen<'r> {
 }
 
 impl Pen<'_> {
-    /// Puts the first of some octets, and passes over as many.
+    /// Copies all N octets, but advances only past the first `many`.
     #[inline(always)]
     pub fn put_first<const N: usize>(&mut self, octets: &[u8; N], many: usize) {
         self.room[self.at..][..N].copy_from_slice(octets);
@@ -86,7 +85,7 @@ impl Pen<'_> {
         self.put_first(octets, N);
     }
 
-    /// Puts so many octets of some blocks.
+    /// Copies whole blocks, but advances only past the first `many` octets.
     #[inline(always)]
     pub fn put_blocks(&mut self, blocks: &[Block], many: usize) {
         let mut place = self.at;
@@ -108,7 +107,7 @@ impl Pen<'_> {
         self.put_padded(n, 1);
     }
 
-    /// Puts a number in at least so many digits, from one to eight.
+    /// Writes a number with at least `least` digits, from one to eight.
     #[inline(always)]
     pub fn put_padded(&mut self, n: u64, least: u32) {
         if n < 100_000_000 {
@@ -118,7 +117,7 @@ impl Pen<'_> {
         }
     }
 
-    /// Puts a number under 100,000,000 in at least so many digits, so many of them `after` the point.
+    /// Writes a number below 100,000,000 with at least `least` digits, the last `after` of them after a point.
     #[inline(always)]
     fn put_decimal(&mut self, n: u32, after: u32, least: u32) {
         let digits = eight_digits(n);
@@ -131,7 +130,7 @@ impl Pen<'_> {
         }
     }
 
-    /// Puts the decimal of a number and its scale.
+    /// Writes n / 10^scale as a decimal.
     #[inline(always)]
     pub fn put_scaled(&mut self, n: i64, scale: i32) {
         self.put_first(b"-", usize::from(n < 0));
@@ -147,7 +146,7 @@ impl Pen<'_> {
     }
 }
 
-/// Puts the decimal of a number of any size and scale; the place after it.
+/// Writes n / 10^scale as a decimal, for any n and any scale in the tables. Returns the position after it.
 #[cold]
 fn put_long(room: &mut Room, at: usize, n: u64, scale: i32) -> usize {
     let mut pen = Pen { room, at };
@@ -168,7 +167,7 @@ fn put_long(room: &mut Room, at: usize, n: u64, scale: i32) -> usize {
     pen.at
 }
 
-/// Lines that are put together in one room, and handed on to a file.
+/// A buffered output. The buffer is flushed to a file.
 pub struct Out {
     room: Box<Room>,
     at: usize,
@@ -176,7 +175,7 @@ pub struct Out {
 }
 
 impl Out {
-    /// To a file that is open already: 1 is standard output, 2 standard error.
+    /// Writes to a file descriptor that is already open: 1 is standard output, 2 is standard error.
     pub fn to(descriptor: i32) -> Out {
         let room = vec![0; HELD + LINE].into_boxed_slice().try_into().expect("of this size");
         let file = ManuallyDrop::new(unsafe { File::from_raw_fd(descriptor) });
@@ -188,7 +187,7 @@ impl Out {
         self.at = 0;
     }
 
-    /// Puts a line, or a few that are no longer together, and makes room for the next.
+    /// Writes one or more lines of at most LINE octets in total, and flushes the buffer if it is full.
     #[inline(always)]
     pub fn line(&mut self, put: impl FnOnce(&mut Pen)) {
         let mut pen = Pen { room: &mut self.room, at: self.at };
@@ -199,7 +198,7 @@ impl Out {
         }
     }
 
-    /// Makes a line without putting it.
+    /// Builds a line without writing it.
     pub fn made(&mut self, put: impl FnOnce(&mut Pen)) -> &[u8] {
         let mut pen = Pen { room: &mut self.room, at: self.at };
         put(&mut pen);
@@ -207,7 +206,7 @@ impl Out {
         &self.room[self.at..end]
     }
 
-    /// Puts octets of any length.
+    /// Writes any number of octets.
     pub fn put_all(&mut self, octets: &[u8]) {
         if octets.len() <= LINE {
             return self.line(|pen| pen.put_all(octets));
@@ -225,7 +224,7 @@ impl Drop for Out {
 
 // ---------------------------------------------------------------- the messages of a stream
 
-/// Whether `BU` begins at one of 64 octets.
+/// Returns whether `BU` begins at one of the first 64 octets.
 fn may_begin(octets: &[u8; 65]) -> bool {
     let mut found = 0;
     for place in 0..64 {
@@ -234,7 +233,7 @@ fn may_begin(octets: &[u8; 65]) -> bool {
     found != 0
 }
 
-/// The place of the next word `BUFR`.
+/// Returns the position of the next `BUFR`.
 fn find(octets: &[u8], from: usize) -> Option<usize> {
     let mut at = from;
     if octets[at..].starts_with(b"BUFR") {
@@ -252,7 +251,7 @@ fn find(octets: &[u8], from: usize) -> Option<usize> {
     octets[at..].windows(4).position(|four| four == b"BUFR").map(|ahead| at + ahead)
 }
 
-/// Puts a fault line: its text, perhaps with a number inside.
+/// Writes a fault line: the offset, `text`, the number `inside` (if there is one), and `rest`.
 fn put_fault(out: &mut Out, offset: usize, text: &str, inside: Option<u8>, rest: &str) {
     out.line(|pen| {
         pen.put(b"offset ");
@@ -267,7 +266,8 @@ fn put_fault(out: &mut Out, offset: usize, text: &str, inside: Option<u8>, rest:
     });
 }
 
-/// A message: its octets with all that come after them, and where its sections begin.
+/// A message. `octets` also contains everything after the message. `three` and `four` are the positions of
+/// sections 3 and 4.
 pub struct Message {
     pub offset: usize,
     pub length: usize,
@@ -278,7 +278,7 @@ pub struct Message {
     pub four: usize,
 }
 
-/// The messages of a stream, and its fault lines.
+/// Finds the messages in a stream and writes fault lines.
 pub struct Messages {
     octets: &'static [u8],
     at: usize,
@@ -315,7 +315,7 @@ impl Messages {
         }
     }
 
-    /// Takes a message apart, or puts its fault.
+    /// Finds the sections of a message. If they are invalid, writes a fault line and returns None.
     fn sections(&mut self, offset: usize, octets: &'static [u8], length: usize) -> Option<Message> {
         let edition = octets[7];
         let faults = &mut self.faults;
@@ -357,18 +357,18 @@ impl Messages {
     }
 }
 
-/// The octets of section 1 without those for local use.
+/// Returns the length of section 1 without octets for local use.
 pub fn least_first(edition: u8) -> usize {
     if edition == 3 { 17 } else { 22 }
 }
 
 impl Message {
-    /// The octets of the section that begins at a place.
+    /// Returns the section that begins at this position.
     pub fn section(&self, place: usize) -> &'static [u8] {
         &self.octets[place..place + number(&self.octets[place..place + 3])]
     }
 
-    /// The numbers of section 1 in the order of a dump's header, from the master table to the second.
+    /// Returns the numbers in section 1 in the order of a dump's header, from `master` to `second`.
     pub fn head(&self) -> [u64; 15] {
         let s: &[u8; 22] = self.octets[8..].first_chunk().expect("more after section 1");
         let one = |at: usize| u64::from(s[at]);
@@ -386,7 +386,7 @@ impl Message {
         }
     }
 
-    /// Section 3 without its length.
+    /// Returns the number of subsets.
     pub fn subsets(&self) -> usize {
         number(&self.octets[self.three + 4..self.three + 6])
     }
@@ -399,7 +399,7 @@ impl Message {
         self.octets[self.three + 6] & 64 != 0
     }
 
-    /// The octets of the descriptors.
+    /// Returns the octets of the descriptors.
     pub fn descriptors(&self) -> &'static [u8] {
         let listed = &self.section(self.three)[7..];
         &listed[..listed.len() / 2 * 2]
@@ -408,8 +408,8 @@ impl Message {
 
 // ---------------------------------------------------------------- the header of a text
 
-/// What comes before the numbers of a header, the line feed first: 24 octets each, and how many of them
-/// count.
+/// The texts before the numbers in a header, each of which begins with a line feed. They are padded to 24
+/// octets; the second number of each pair is the length of the text.
 pub const KEYS: [([u8; 24], usize); 19] = padded_keys();
 
 const fn padded_keys() -> [([u8; 24], usize); 19] {
@@ -433,23 +433,23 @@ const fn padded_keys() -> [([u8; 24], usize); 19] {
 
 // ---------------------------------------------------------------- the tables
 
-/// What a line of an item needs to know of its element.
+/// The properties of an element that are needed to read and write the lines of its items.
 pub struct Element {
-    /// The descriptor's six digits and a space, the first digit in the lowest octet.
+    /// The descriptor's six digits and a space, with the first digit in the lowest octet.
     pub fxy: u64,
-    /// The comment and the line feed.
+    /// The comment at the end of the line, and the line feed.
     pub comment: Vec<u8>,
     pub blocks: Vec<Block>,
     pub is_text: bool,
     pub scale: i32,
-    /// That of the table, or a new one as long as a subset lasts.
+    /// The reference value in Table B, or a redefined one until the end of a subset.
     pub reference: Cell<i64>,
     pub width: u32,
-    /// All ones where they are missing; else a number that no field has.
+    /// The raw number that means missing: all ones or, if no number does, one that does not fit in a field.
     pub missing: u64,
 }
 
-/// The number of a descriptor's six digits.
+/// Converts the six digits of a descriptor to its 16-bit number.
 pub fn word(six: &[u8]) -> u16 {
     let n = digits(six) as u32;
     ((n / 100_000) << 14 | (n / 1000 % 100) << 8 | n % 1000) as u16
@@ -462,7 +462,7 @@ pub fn digits(text: &[u8]) -> u64 {
     })
 }
 
-/// The fields of a row.
+/// Returns the fields of a CSV row.
 fn fields(row: &[u8]) -> Vec<String> {
     let row = std::str::from_utf8(row).expect("UTF-8");
     let (mut out, mut quoted, mut before) = (vec![String::new()], false, ',');
@@ -500,11 +500,11 @@ fn element(row: &[u8]) -> Element {
     }
 }
 
-/// An item. Of a factor the group comes as often as it says. Where `new` is not 0, it is a new reference
-/// of so many bits, that takes the place of `old`.
+/// An item of a template. If it is a replication factor, `group` is repeated. If `new` is not 0, the item
+/// is a redefined reference value of `new` bits, which replaces `old` until the end of the subset.
 pub struct Step<'t> {
     pub element: &'t Element,
-    /// Whether it is neither of these, nor a text.
+    /// Whether it is neither of these nor a string.
     pub is_number: bool,
     pub group: Vec<Step<'t>>,
     pub new: u32,
@@ -517,19 +517,19 @@ impl<'t> Step<'t> {
         Step { element, is_number, group, new, old: element.reference.get() }
     }
 
-    /// The number of a new reference, whose first bit is the sign.
+    /// Converts a redefined reference value, whose first bit is the sign, to a number.
     pub fn reference(&self, raw: u64) -> i64 {
         let sign = 1 << (self.new - 1);
         if raw & sign == 0 { raw as i64 } else { -((raw ^ sign) as i64) }
     }
 }
 
-/// Ends a subset: the references are again those of the table.
+/// Ends a subset: restores the reference values in Table B.
 pub fn end_subset(steps: &[Step]) {
     steps.iter().filter(|step| step.new > 0).for_each(|step| step.element.reference.set(step.old));
 }
 
-/// The two tables: rows and members by X and Y, and each element made where it is first met.
+/// Tables B and D. Rows and sequences are indexed by X and Y, and each element is created on first use.
 pub struct Tables {
     rows: Vec<&'static [u8]>,
     elements: Vec<OnceCell<Box<Element>>>,
@@ -565,7 +565,7 @@ impl Tables {
         self.elements[place].get_or_init(|| Box::new(element(self.rows[place])))
     }
 
-    /// Adds the steps of a list.
+    /// Adds the steps of a descriptor list.
     fn add_steps<'t>(&'t self, list: &[u16], steps: &mut Vec<Step<'t>>) {
         let (mut at, mut new) = (0, 0);
         while at < list.len() {
@@ -596,7 +596,7 @@ impl Tables {
         }
     }
 
-    /// The steps of a list.
+    /// Returns the steps of a descriptor list.
     pub fn steps_of<'t>(&'t self, list: &[u16]) -> Vec<Step<'t>> {
         let mut steps = Vec::new();
         self.add_steps(list, &mut steps);

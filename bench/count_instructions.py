@@ -4,15 +4,16 @@
     bench/count_instructions.py [PROGRAM]             fails if a count is too high
     bench/count_instructions.py --update [PROGRAM]    writes the file
 
-PROGRAM is crates/bufr/out/bufr by default. valgrind counts; if it is not installed, the script prints so and counts
-nothing. It simulates caches of fixed sizes, so the counts are the same on every machine.
+PROGRAM is crates/bufr/out/bufr by default. The script counts with Valgrind; if it is not installed, the script prints a note
+and counts nothing. Valgrind simulates caches of fixed sizes, so the counts hardly depend on the machine.
 
-The counts are per item: a line of an element, a message of `ls`, or a stray word. The counts of the same command
-without input are subtracted first. "no input" has these counts themselves.
+The counts are per item: per line of an element or, for `ls`, per message; in the "stray words" rows, per stray. The counts of
+the same command without input are subtracted first; the "no input" rows contain these counts.
 
-The script fails if a count is more than 1.1 times that in the file. Only misses of reads count there, because a program
-hardly waits for writes. Before they are compared, 1 is added to both counts, because small counts vary. Misses of
-writes, of the instruction cache and of branch prediction are printed only; the last two depend on how the code is laid out.
+The script fails if a count is more than 1.1 times the one in the file. The file contains the cache misses of reads, but not
+those of writes, because writes rarely slow a program down. Before the script compares cache misses, it adds 1 to both counts,
+because small counts vary. It also prints the misses of writes, the instruction cache and the branch predictor, but does not
+compare them; the last two depend on where the compiler places the code.
 """
 import concurrent.futures
 import csv
@@ -28,7 +29,7 @@ import generate
 from lib import TABLES, finish, program
 
 FILE = pathlib.Path(__file__).parent / "instructions.csv"
-# what is counted, and callgrind's events that it adds up
+# The counts, and the Callgrind events that each of them adds up.
 COUNTED = {
     "instructions": ["Ir"],
     "L1 misses": ["D1mr"],
@@ -37,10 +38,10 @@ COUNTED = {
     "I1 misses": ["I1mr"],
     "branch misses": ["Bcm", "Bim"],
 }
-# the counts in the file, and what is added to both counts before they are compared
+# The counts in the file, and the number that is added to both counts before they are compared.
 RECORDED = {"instructions": 0, "L1 misses": 1, "L2 misses": 1}
 MOST = 1.1
-# a first-level cache of 32 KiB for instructions, one for data, and a second-level cache of 1 MiB
+# First-level caches of 32 KiB each for instructions and data, and a second-level cache of 1 MiB.
 CACHES = ["--I1=32768,8,64", "--D1=32768,8,64", "--LL=1048576,16,64"]
 WORDS = b"BUFR\x10\0\0\x04" * 2_000
 STREAMS = {
@@ -54,12 +55,12 @@ STREAMS = {
 
 
 def run(words: list, given: bytes) -> bytes:
-    """What the program writes of an input."""
+    """Returns the output of a command for this input."""
     return subprocess.run(words, input=given, capture_output=True).stdout
 
 
 def counted(words: list, given: bytes) -> list:
-    """The counts of a run. Ends the script if valgrind counts nothing."""
+    """Returns the counts of a run. Exits if Valgrind counts nothing."""
     with tempfile.NamedTemporaryFile("r") as log, tempfile.TemporaryFile() as stream:
         stream.write(given)
         stream.seek(0)
@@ -74,7 +75,7 @@ def counted(words: list, given: bytes) -> list:
 
 
 def counts() -> dict:
-    """The counts per item by command and stream, and those of a run without input."""
+    """Returns the counts per item for each command and stream, and the counts of each command without input."""
     ls, dump, encode = ([program(), "ls"], [program(), "dump", *TABLES], [program(), "encode", *TABLES])
     texts = {name: run(dump, stream) for name, stream in STREAMS.items()}
     items = {name: len(re.findall(rb"^(?:R )?[0-9]{6} ", text, re.M)) for name, text in texts.items()}
@@ -94,7 +95,7 @@ def counts() -> dict:
 
 
 def recorded() -> dict:
-    """The counts in the file, by command and stream."""
+    """Returns the counts in the file for each command and stream."""
     with FILE.open(encoding="utf-8", newline="") as file:
         rows = csv.DictReader(file)
         if rows.fieldnames != ["command", "stream", *RECORDED]:

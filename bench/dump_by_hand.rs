@@ -1,14 +1,14 @@
-//! A dumper written by hand in plain Rust, to measure `bufr dump` against: it maps the file and writes
-//! the same text for messages whose templates have elements, replications and sequences, plain or
-//! compressed, of edition 3 or 4. What a template's lines begin and end with is made before, a template
-//! stays while the descriptors are the same, and of compressed data a line that all subsets share is
-//! made once. No operator but 2 03, and in compressed data neither this nor a delayed replication. No
-//! section 2, numbers in 64 bits, no check of the data but of their end, no proof: only a yardstick.
+//! A hand-written dumper in plain Rust, as a baseline for `bufr dump`. It maps the file and writes the same
+//! text for plain and compressed messages in editions 3 and 4. It prepares the beginning and the end of each
+//! line, reuses a template while the descriptors stay the same, and builds a line of compressed data only
+//! once if all subsets share it. Templates can contain elements, replications, sequences and 2 03; in
+//! compressed data, neither 2 03 nor delayed replication is supported. Section 2 is not supported either.
+//! Numbers must fit in 64 bits. The only check of the data is whether they end too early. It has no proofs.
 mod by_hand;
 use by_hand::{blocks, end_subset, least_first, mapped, number, KEYS};
 use by_hand::{Block, Element, Message, Messages, Out, Pen, Step, Tables};
 
-/// A field of 1 to 63 bits.
+/// Returns a field of 1 to 63 bits.
 #[inline(always)]
 fn field(octets: &[u8], at: usize, width: u32) -> u64 {
     match octets.get(at / 8..at / 8 + 8) {
@@ -20,7 +20,7 @@ fn field(octets: &[u8], at: usize, width: u32) -> u64 {
     }
 }
 
-/// The same for a wide field, and at the end of the file.
+/// Returns a field that is wider than 57 bits or near the end of the file.
 #[cold]
 fn field_by_octets(octets: &[u8], at: usize, width: u32) -> u64 {
     let end = at + width as usize;
@@ -29,7 +29,7 @@ fn field_by_octets(octets: &[u8], at: usize, width: u32) -> u64 {
     (window >> ((8 - end % 8) % 8)) as u64 & ((1 << width) - 1)
 }
 
-/// Puts a text of so many octets, which begins at any bit.
+/// Writes a string of `many` octets, which can begin at any bit.
 fn put_text(pen: &mut Pen, data: &[u8], at: usize, many: usize) {
     let mut octets = [0; 256];
     for (i, four) in octets[..many].chunks_mut(4).enumerate() {
@@ -78,7 +78,7 @@ fn put_number(pen: &mut Pen, element: &Element, raw: u64) {
     }
 }
 
-/// Puts what begins and what ends an item's line around its value.
+/// Writes an item's line: the descriptor, the value and the comment.
 #[inline(always)]
 fn put_item(pen: &mut Pen, element: &Element, put_value: impl FnOnce(&mut Pen)) {
     pen.put_first(&element.fxy.to_le_bytes(), 7);
@@ -86,7 +86,7 @@ fn put_item(pen: &mut Pen, element: &Element, put_value: impl FnOnce(&mut Pen)) 
     pen.put_blocks(&element.blocks, element.comment.len());
 }
 
-/// A list of descriptors, its lines and its steps.
+/// A descriptor list, its lines in a dump, and its steps.
 struct Plan<'t> {
     descriptors: &'static [u8],
     lines: Vec<u8>,
@@ -134,7 +134,7 @@ fn put_subset(out: &mut Out, subset: usize) {
     });
 }
 
-/// Puts a new reference, which holds from now on.
+/// Writes a redefined reference value, and uses it from now on.
 fn put_reference(out: &mut Out, step: &Step, raw: u64) {
     let reference = step.reference(raw);
     step.element.reference.set(reference);
@@ -146,7 +146,7 @@ fn put_reference(out: &mut Out, step: &Step, raw: u64) {
     });
 }
 
-/// Puts the items of a subset from a bit on; the bit after them.
+/// Writes the items that begin at bit `at`. Returns the bit after them.
 fn put_plain(out: &mut Out, data: &[u8], mut at: usize, steps: &[Step]) -> usize {
     for step in steps {
         let element = step.element;
@@ -169,13 +169,13 @@ fn put_plain(out: &mut Out, data: &[u8], mut at: usize, steps: &[Step]) -> usize
     at
 }
 
-/// Puts a group as often as it comes; the bit after it.
+/// Writes a group the given number of times. Returns the bit after it.
 #[inline(never)]
 fn put_group(out: &mut Out, data: &[u8], at: usize, group: &[Step], times: u64) -> usize {
     (0..times).fold(at, |at, _| put_plain(out, data, at, group))
 }
 
-/// An item of compressed data: what all subsets share, or where the first subset's increment is.
+/// An item of compressed data: the line that all subsets share, or the position of the first increment.
 struct Column<'t> {
     element: &'t Element,
     shared: Vec<Block>,
@@ -186,7 +186,7 @@ struct Column<'t> {
     missing: u64,
 }
 
-/// The item at a bit, and the bit after it.
+/// Reads the item at a bit. Returns it and the bit after it.
 fn column<'t>(out: &mut Out, data: &[u8], at: usize, element: &'t Element, subsets: usize) -> (Column<'t>, usize) {
     let first = at + element.width as usize + 6;
     let mut step = field(data, first - 6, 6) as u32 * if element.is_text { 8 } else { 1 };
@@ -207,7 +207,7 @@ fn column<'t>(out: &mut Out, data: &[u8], at: usize, element: &'t Element, subse
     (Column { element, shared: blocks(line), many: line.len(), base, at: first, step, missing }, next)
 }
 
-/// Puts one subset's text of an item, with spaces after it.
+/// Writes the string of one subset, padded with spaces.
 fn put_short_text(pen: &mut Pen, data: &[u8], at: usize, many: usize, whole: usize) {
     let mut octets = [b' '; 256];
     for (i, octet) in octets[..many].iter_mut().enumerate() {
@@ -217,7 +217,7 @@ fn put_short_text(pen: &mut Pen, data: &[u8], at: usize, many: usize, whole: usi
     put_octets(pen, if is_missing { &octets[..many] } else { &octets[..whole] });
 }
 
-/// Puts one subset's item that has increments.
+/// Writes one subset's value of an item that has increments.
 #[inline(always)]
 fn put_increased(out: &mut Out, data: &[u8], column: &Column, subset: usize) {
     let (element, at) = (column.element, column.at + subset * column.step as usize);

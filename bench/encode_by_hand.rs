@@ -1,16 +1,16 @@
-//! An encoder written by hand in plain Rust, to measure `bufr encode` against: it maps the text, goes
-//! over it once and writes the same octets for documents as `bufr dump` writes them, whose templates
-//! have elements, replications and sequences, plain or compressed, of edition 3 or 4. A template stays
-//! while the descriptors are the same, and no document does. No operator but 2 03, and in compressed
-//! data neither this nor a delayed replication. No section 2, no comments between the lines, numbers in
-//! 64 bits, no proof, and of bad input it panics: only a yardstick.
+//! A hand-written encoder in plain Rust, as a baseline for `bufr encode`. It maps the text, reads it once,
+//! and writes the same octets for the output of `bufr dump`, plain or compressed, in editions 3 and 4. It
+//! reuses a template while the descriptors stay the same. Templates can contain elements, replications,
+//! sequences and 2 03; in compressed data, neither 2 03 nor delayed replication is supported. Section 2 and
+//! comments between the lines are not supported either. Numbers must fit in 64 bits. Invalid input makes it
+//! panic. It has no proofs.
 mod by_hand;
 use by_hand::{digits, end_subset, least_first, mapped, word, Element, Out, Step, Tables, KEYS};
 
-/// What a column has for a value that is missing.
+/// Stands for a missing value.
 const MISSING: u64 = u64::MAX;
 
-/// A text, and how far it was read.
+/// A text, and the position up to which it has been read.
 struct Text {
     octets: &'static [u8],
     at: usize,
@@ -31,7 +31,7 @@ impl Text {
         assert!(self.skip(what), "{:?} at {}", String::from_utf8_lossy(what), self.at);
     }
 
-    /// What is left of the line; the line feed is passed over.
+    /// Returns the rest of the line, and skips the line feed.
     fn line(&mut self) -> &'static [u8] {
         let rest = self.rest();
         let end = rest.iter().position(|octet| *octet == b'\n').expect("a line feed");
@@ -47,7 +47,7 @@ impl Text {
         digits(&rest[..end])
     }
 
-    /// The descriptor of an item, and the space after it.
+    /// Reads the descriptor of an item and the space after it.
     #[inline(always)]
     fn item(&mut self, element: &Element) {
         let eight = self.rest().first_chunk().expect("an item");
@@ -56,7 +56,7 @@ impl Text {
         self.at += 7;
     }
 
-    /// The comment of an item and the line feed.
+    /// Reads the comment of an item and the line feed.
     #[inline(always)]
     fn comment(&mut self, element: &Element) {
         if !self.skip(&element.comment) {
@@ -65,7 +65,7 @@ impl Text {
         }
     }
 
-    /// The raw number of an item's decimal, in one pass.
+    /// Reads the value of an item in one pass, and returns its raw number.
     #[inline(always)]
     fn raw(&mut self, element: &Element) -> u64 {
         let rest = self.rest();
@@ -96,7 +96,7 @@ impl Text {
         raw
     }
 
-    /// Goes past an item's text.
+    /// Skips the string of an item.
     fn pass_quoted(&mut self) {
         if self.skip(b"MISSING") {
             return;
@@ -108,7 +108,7 @@ impl Text {
         self.at += 1;
     }
 
-    /// The octets of an item's text, with spaces up to so many, or all ones where it is missing.
+    /// Reads an item's string and appends `many` octets: padded with spaces, or all ones if it is missing.
     fn quoted(&mut self, many: usize, octets: &mut Vec<u8>) {
         let whole = octets.len() + many;
         if self.skip(b"MISSING") {
@@ -137,7 +137,7 @@ impl Text {
     }
 }
 
-/// A number with so many digits after the point, at another scale.
+/// Converts a number with `after` digits after the point to this scale.
 #[cold]
 fn scaled(mut n: i64, after: i32, scale: i32) -> i64 {
     for _ in after..scale {
@@ -150,7 +150,7 @@ fn scaled(mut n: i64, after: i32, scale: i32) -> i64 {
     n
 }
 
-/// Bits that are put together, the first ones first.
+/// Bits that have been written, the most significant bit of each number first.
 #[derive(Default)]
 struct Bits {
     octets: Vec<u8>,
@@ -159,7 +159,7 @@ struct Bits {
 }
 
 impl Bits {
-    /// Of 1 to 63 bits.
+    /// Appends a number of 1 to 63 bits.
     #[inline(always)]
     fn put(&mut self, number: u64, width: u32) {
         let free = 64 - self.count;
@@ -186,7 +186,7 @@ impl Bits {
     }
 }
 
-/// A compressed item of numbers: the least value, the bits of an increment, the increments.
+/// Writes a compressed item of numbers: the minimum, the width of the increments, and the increments.
 fn put_numbers(bits: &mut Bits, values: &[u64], element: &Element) {
     let (mut least, mut most, mut lacks) = (u64::MAX, 0, false);
     for value in values {
@@ -211,13 +211,14 @@ fn put_numbers(bits: &mut Bits, values: &[u64], element: &Element) {
     }
 }
 
-/// How many octets a text needs: those before its last spaces, and one more where they read as missing.
+/// Returns the number of octets that a string needs without the spaces at its end. It needs one more if it
+/// would otherwise read as missing.
 fn needed(text: &[u8]) -> usize {
     let many = text.iter().rposition(|octet| *octet != b' ').map_or(0, |last| last + 1);
     many + usize::from(text[..many].iter().all(|octet| *octet == 255))
 }
 
-/// A compressed item of the texts at these places.
+/// Writes a compressed item of the strings at these positions.
 fn put_texts(bits: &mut Bits, text: &mut Text, places: &[u64], element: &Element) {
     let (next, whole) = (text.at, element.width as usize / 8);
     let mut texts = Vec::with_capacity(whole * places.len());
@@ -240,7 +241,7 @@ fn put_texts(bits: &mut Bits, text: &mut Text, places: &[u64], element: &Element
     texts().for_each(|text| bits.put_octets(&text[..many]));
 }
 
-/// Puts a new reference, which holds from now on.
+/// Writes a redefined reference value, and uses it from now on.
 fn put_reference(bits: &mut Bits, text: &mut Text, step: &Step) {
     text.expect(b"R ");
     text.item(step.element);
@@ -251,7 +252,7 @@ fn put_reference(bits: &mut Bits, text: &mut Text, step: &Step) {
     bits.put(raw, step.new);
 }
 
-/// Puts the items of a subset that is not compressed.
+/// Writes items of a subset that is not compressed.
 fn put_plain(bits: &mut Bits, text: &mut Text, steps: &[Step], quoted: &mut Vec<u8>) {
     for step in steps {
         if step.is_number {
@@ -262,7 +263,7 @@ fn put_plain(bits: &mut Bits, text: &mut Text, steps: &[Step], quoted: &mut Vec<
     }
 }
 
-/// Puts a number; what it is.
+/// Writes a number, and returns its raw value.
 #[inline(always)]
 fn put_number(bits: &mut Bits, text: &mut Text, element: &Element) -> u64 {
     text.item(element);
@@ -272,7 +273,7 @@ fn put_number(bits: &mut Bits, text: &mut Text, element: &Element) -> u64 {
     raw
 }
 
-/// Puts a new reference, a text, or a factor with its group.
+/// Writes a redefined reference value, a string, or a replication factor with its group.
 #[inline(never)]
 fn put_other(bits: &mut Bits, text: &mut Text, step: &Step, quoted: &mut Vec<u8>) {
     let element = step.element;
@@ -296,7 +297,7 @@ fn begin_subset(text: &mut Text, subset: usize) {
     text.expect(b"\n");
 }
 
-/// Puts the items of compressed subsets: of each item the values are together, or their places.
+/// Writes the items of compressed subsets, after collecting the numbers or string positions of each item.
 fn put_compressed(bits: &mut Bits, text: &mut Text, steps: &[Step], subsets: usize, columns: &mut Vec<u64>) {
     let is_known = |step: &Step| step.is_number || step.element.is_text;
     assert!(steps.iter().all(is_known), "no delayed replication, no new reference");
@@ -328,12 +329,12 @@ fn three(n: usize) -> [u8; 3] {
     [a, b, c]
 }
 
-/// The octets of a section, in edition 3 made even.
+/// Returns the length of a section, which is rounded up to an even number in edition 3.
 fn even(edition: u8, many: usize) -> usize {
     if edition == 3 { many + many % 2 } else { many }
 }
 
-/// Section 1 without its length and its local use.
+/// Writes section 1 without its length and without the octets for local use.
 fn put_head(out: &mut Vec<u8>, edition: u8, values: &[u64; 19]) {
     let one = |at: usize| u8::try_from(values[at]).expect("an octet");
     let two = |at: usize| u16::try_from(values[at]).expect("two octets").to_be_bytes();
@@ -351,7 +352,7 @@ fn put_head(out: &mut Vec<u8>, edition: u8, values: &[u64; 19]) {
     }
 }
 
-/// All that comes before the data, with the lengths that come of their octets.
+/// Writes everything before the data. The lengths follow from the number of octets in the data.
 fn put_head_sections(out: &mut Vec<u8>, edition: u8, values: &[u64; 19], local: &[u8], list: &[u16], data: usize) {
     assert!(edition == 3 || edition == 4, "edition 3 or 4");
     let first = least_first(edition) + local.len();
@@ -373,19 +374,19 @@ fn put_head_sections(out: &mut Vec<u8>, edition: u8, values: &[u64; 19], local: 
     out.push(0);
 }
 
-/// The octets that a line of hexadecimal digits has.
+/// Converts hexadecimal digits to octets.
 fn hex(digits: &[u8]) -> impl Iterator<Item = u8> + '_ {
     digits.chunks(2).map(|two| u8::from_str_radix(std::str::from_utf8(two).expect("digits"), 16).expect("digits"))
 }
 
-/// The descriptors that lines of them say, and their steps.
+/// The lines of a descriptor list, its descriptors, and its steps.
 struct Plan<'t> {
     lines: &'static [u8],
     list: Vec<u16>,
     steps: Vec<Step<'t>>,
 }
 
-/// Reads the lines of descriptors; where they are those of the plan it stays.
+/// Reads descriptor lines. If they are the same as in the plan, the plan does not change.
 fn read_plan<'t>(text: &mut Text, tables: &'t Tables, plan: &mut Plan<'t>) {
     if text.rest().starts_with(plan.lines) && !text.octets[text.at + plan.lines.len()..].starts_with(b"descriptors ") {
         text.at += plan.lines.len();

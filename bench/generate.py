@@ -1,7 +1,7 @@
 #!/usr/bin/env python3
-"""Writes the streams that measure.py times, into the folder that is named.
+"""Writes the streams that measure.py times to a directory. Does not write streams that already exist.
 
-Each stream is made again only where it is missing. Sizes are in octets. A `Kind` says what its messages are like.
+Sizes are in octets. A `Kind` describes the messages of a stream.
 """
 import argparse
 import csv
@@ -20,20 +20,20 @@ STATION = b"%d STATION"
 
 
 class Kind(NamedTuple):
-    """What the messages of a stream are like."""
+    """Describes the messages of a stream."""
 
-    lists: list  # of descriptors, which come in turn
-    subsets: int = 1  # of a message
+    lists: list  # the descriptor lists, which the messages use in turn
+    subsets: int = 1  # per message
     messages: int = 1
     is_packed: bool = False
-    missing: float = 0  # the share of the items that no subset of a message has
-    alike: float = 0  # the share of those that all have with the same value
+    missing: float = 0  # the share of items that are missing in every subset of a message
+    alike: float = 0  # the share of items that have the same value in every subset of a message
     text: bytes = STATION  # the pattern of the strings
-    times: int = 100  # how often measure.py repeats the stream
+    times: int = 100  # how often the messages are repeated
 
 
 class Item(NamedTuple):
-    """A field of the data. Of a factor and of a new reference the value is fixed."""
+    """A field of the data. Replication factors and redefined reference values have a fixed value."""
 
     width: int
     is_text: bool = False
@@ -41,7 +41,7 @@ class Item(NamedTuple):
 
 
 def rows(file: str) -> list:
-    """The rows of a table."""
+    """Returns the rows of a table."""
     with open(file, encoding="utf-8", newline="") as table:
         return list(csv.DictReader(table))
 
@@ -55,7 +55,7 @@ for row in rows(TABLES[3]):
 
 @functools.cache
 def items_of(descriptors: str) -> list:
-    """The items of a list of descriptors. A delayed group comes once or twice. The one operator is 2 03."""
+    """Returns the items of a descriptor list. Delayed groups occur once or twice. 2 03 is the only supported operator."""
     todo, items, new_width = descriptors.split(), [], 0
     while todo:
         first = todo.pop(0)
@@ -79,26 +79,26 @@ def items_of(descriptors: str) -> list:
 
 
 def has_operator(descriptor: str) -> bool:
-    """Whether an operator is among the members of a descriptor, or is it."""
+    """Returns whether a descriptor is an operator or has one among its members."""
     return descriptor[0] == "2" or any(has_operator(member) for member in MEMBERS.get(descriptor, []))
 
 
-# five elements that every version of WMO's Table B has
+# Five elements that are in every version of WMO's Table B.
 FIVE = "012101 010004 011001 011002 020003"
 TEXTS = "106005 001015 001019 001011 001063 001096 025061"
-# the elements that get new references, and the lists of one sequence each
+# Elements whose reference values are redefined, and sequences that serve as descriptor lists.
 FORTY = " ".join([element for element in ELEMENTS if element.startswith("012")][:40])
 SEQUENCES = [it for it in MEMBERS if not has_operator(it) and 20 <= len(items_of(it)) <= 200]
 
 
 def turned(turn: int) -> str:
-    """One of 14 lists of 100 of the five elements."""
+    """Returns one of 14 descriptor lists. Each repeats the five elements until there are 100 items."""
     elements = FIVE.split()
     order = (elements[turn % 5 :] + elements[: turn % 5]) * (1, 2, 4)[turn // 5]
     return f"1{len(order):02}{100 // len(order):03} {' '.join(order)}"
 
 
-# README.md has what of these is in numbers, beside real messages. Each is a row of instructions.csv.
+# README.md compares these streams with real messages. instructions.csv has rows for each of them.
 KINDS = {
     "half_missing": Kind(["307080"], 8, 10, missing=0.52),
     "mostly_alike": Kind(["312071"], 128, 1, True, missing=0.31, alike=0.41),
@@ -118,7 +118,7 @@ KINDS = {
 
 
 def value(item: Item, place: int, subset: int, text: bytes = STATION):
-    """A value that changes a little from subset to subset; each 50th is missing."""
+    """Returns a value that changes slightly from subset to subset. Every 50th value is missing."""
     number = 7 * subset + 13 * place
     if item.fixed is not None or (subset + place) % 50 == 0:
         return item.fixed
@@ -128,7 +128,7 @@ def value(item: Item, place: int, subset: int, text: bytes = STATION):
 
 
 def column(kind: Kind, item: Item, place: int, subsets: range) -> list:
-    """The values of an item in all subsets. Items that are missing or alike are neighbours: four at a time."""
+    """Returns the values of an item in all subsets. Items that are missing or the same everywhere come in groups of four."""
     share = (place // 4 + 1) * 0.618034 % 1  # multiples of the golden ratio are spread evenly from 0 to 1
     if share < kind.missing and item.fixed is None:
         return [None] * kind.subsets
@@ -138,7 +138,7 @@ def column(kind: Kind, item: Item, place: int, subsets: range) -> list:
 
 
 def stream(kind: Kind) -> bytes:
-    """The messages of a kind. They ask for the version of the tables."""
+    """Returns the messages of a kind. They declare the version of the tables in tests/lib.py."""
     made = []
     for number in range(kind.messages):
         descriptors, first = kind.lists[number % len(kind.lists)], number * kind.subsets
@@ -149,14 +149,14 @@ def stream(kind: Kind) -> bytes:
 
 
 def raw(value, width: int) -> int:
-    """What a field of some bits has: of a missing value ones, of a text its octets and spaces."""
+    """Returns the raw number in a field: all ones if the value is missing, or a string's octets padded with spaces."""
     if value is None:
         return (1 << width) - 1
     return int.from_bytes(value.ljust(width // 8), "big") if isinstance(value, bytes) else value
 
 
 def pack(bits: Bits, values: list, width: int) -> None:
-    """Puts a compressed item, with the shortest increments."""
+    """Writes a compressed item with increments that are as narrow as possible."""
     there = [value for value in values if value is not None]
     if all(value == values[0] for value in values):
         bits.put(raw(values[0], width), width)
@@ -175,7 +175,7 @@ def pack(bits: Bits, values: list, width: int) -> None:
 
 
 def built(descriptors: str, columns: list, is_packed: bool = False, edition: int = 4) -> bytes:
-    """A message of the values of each item in all subsets."""
+    """Returns a message with these values. Each column contains the values of one item in all subsets."""
     bits, widths = Bits(), [item.width for item in items_of(descriptors)]
     if is_packed:
         for values, width in zip(columns, widths):
@@ -188,24 +188,24 @@ def built(descriptors: str, columns: list, is_packed: bool = False, edition: int
 
 
 def plain(subsets: int, times: int, is_packed: bool = False) -> bytes:
-    """A message of the five elements, so many times a subset."""
+    """Returns a message in which each subset contains the five elements the given number of times."""
     return stream(Kind([f"105{times:03} {FIVE}"], subsets, is_packed=is_packed))
 
 
 def packed(subsets: int, times: int) -> bytes:
-    """The same, compressed."""
+    """Returns the same message as `plain`, but compressed."""
     return plain(subsets, times, True)
 
 
 def report(edition: int) -> bytes:
-    """A short report: a station's numbers and name, a time, a place, four measurements."""
+    """Returns a short report: a station's numbers and name, a time, a position, four measurements, and a missing one."""
     descriptors = f"001001 001002 001015 004001 004002 004003 004004 004005 005001 006001 {FIVE}"
     values = [10, 381, b"BERLIN-DAHLEM", 2024, 1, 2, 6, 0, 142500, 193100, 28815, 10132, 270, 53, None]
     return built(descriptors, [[value] for value in values], edition=edition)
 
 
 def packed_reports(subsets: int) -> bytes:
-    """Short reports, compressed: half of the items are the same in all, some are texts, some are missing."""
+    """Returns a compressed message of short reports, in which 7 of the 17 items are the same in every subset."""
     descriptors = f"001001 001002 001015 001063 001011 004001 004002 004003 004004 004005 005001 006001 {FIVE}"
     stations = range(subsets)
     names = [b"STATION \\%d\\" % (n * n) for n in stations]
@@ -226,27 +226,27 @@ def repeated(piece: bytes, times: int):
 
 def streams():
     noise = random.Random(1)
-    # a block of noise in which the word does not occur
+    # a block of noise that does not contain `BUFR`
     block = bytes(noise.randrange(256) for _ in range(1 << 20)).replace(b"BUFR", b"....")
     ten_thousand = message(block[:10_000])
     million = message(block[:1_000_000])
     return {
-        # many messages of 48 octets
+        # many messages of 48 octets each
         "small": lambda: repeated(message(b"\x14"), 500_000),
-        # the same in edition 3, of 46 octets
+        # the same in edition 3, with 46 octets each
         "small_3": lambda: repeated(message(b"\x14", edition=3), 500_000),
-        # messages of 10 KB
+        # messages of 10 KB each
         "middle": lambda: repeated(ten_thousand, 25_600),
-        # messages of 1 MB
+        # messages of 1 MB each
         "large": lambda: repeated(million, 256),
-        # no message at all
+        # no messages
         "noise": lambda: repeated(block, 256),
-        # bulletins: a heading, a message of 10 KB, a trailer
+        # bulletins, each with a heading, a message of 10 KB and a trailer
         "bulletins": lambda: repeated(b"\x01\r\r\n123\r\r\nISMD01 EDZW 221200\r\r\n" + ten_thousand + b"\r\r\n\x03", 25_600),
-        # the word every eight octets, each with a stated length of 1 MB, so that nothing is decided at once
+        # a stray every eight octets, each with a declared length of 1 MB, so that none can be rejected immediately
         "hostile": lambda: repeated(b"BUFR\x10\x00\x00\x04", 6_000_000),
-        # For `dump`: short reports in each edition, and compressed 200 together. Then 1,000 subsets of 500 elements,
-        # plain and compressed, and the streams of each kind.
+        # For `dump`: short reports in each edition, and compressed messages of 200 reports. Then messages with 1,000 subsets
+        # of 500 items, plain and compressed, and a stream of each kind.
         "dump_reports": lambda: repeated(report(4), 100_000),
         "dump_reports_3": lambda: repeated(report(3), 100_000),
         "dump_packed_reports": lambda: repeated(packed_reports(200), 1_000),
@@ -257,7 +257,7 @@ def streams():
 
 
 def write_streams(folder: pathlib.Path, chosen: list | None = None) -> None:
-    """Writes the streams that are chosen, or all of them."""
+    """Writes the chosen streams, or all streams, unless they already exist."""
     folder.mkdir(parents=True, exist_ok=True)
     for name, pieces in streams().items():
         path = folder / f"{name}.bufr"

@@ -1,12 +1,12 @@
 #!/usr/bin/env python3
-"""Times `bufr dump`, and `encode` for one of them, on streams that ask for much: each shape once, twice and four times as
-large.
+"""Times `bufr dump`, and `encode` for one shape, on streams that take a lot of time or memory.
 
-    bench/hostile_shapes.py [PROGRAM]        crates/bufr/out/bufr by default
+    bench/hostile_shapes.py [PROGRAM]        PROGRAM: the program to time (default: crates/bufr/out/bufr)
 
-It prints a table in Markdown; measure.py prints it too. A shape whose seconds grow faster than its octets is marked with a
-`!`. The tables and streams are in bench/out/shapes; the tables hold 12,000 elements and 15 sequences of their own.
-Outside the gate: it wants Linux, python3 and GNU time.
+The script times each shape in three sizes: once, twice and four times as large. It prints a table in Markdown, which
+measure.py also prints. A `!` marks each shape whose time grows more than 1.5 times as fast as its size. The streams are in
+bench/out/shapes, as are their tables, which contain 12,000 elements and 15 sequences. This benchmark needs Linux and GNU
+time, and is not part of the gate.
 """
 import os
 import subprocess
@@ -25,12 +25,13 @@ def operator(x: int, y: int) -> int:
 
 
 def delayed(members: int) -> list:
-    """A delayed replication of so many members, with a factor of 16 bits."""
+    """Returns a delayed replication of the given number of members, with a factor of 16 bits."""
     return [1 << 14 | members << 8, 31 << 8 | 2]
 
 
 def tables() -> tuple:
-    """A Table B of numbers of 1 bit and the factors, and a Table D whose sequences are twice the next one each."""
+    """Writes a Table B with numbers of 1 bit and the replication factors, and a Table D in which each sequence consists of the
+    next one twice. Returns the options that name them."""
     rows = [f"{f >> 14}{f >> 8 & 63:02}{f & 255:03},ELEMENT,K,0,0,1" for f in ELEMENTS]
     rows += ["031000,SHORT FACTOR,NUMERIC,0,0,1", "031001,FACTOR,NUMERIC,0,0,8", "031002,LONG FACTOR,NUMERIC,0,0,16"]
     (FOLDER / "B.csv").write_text("fxy,name,unit,scale,reference,width\n" + "\n".join(rows) + "\n")
@@ -44,7 +45,7 @@ def listed(descriptors: list, data: bytes, subsets: int = 1, flags: int = 0x80) 
 
 
 def references(times: int) -> bytes:
-    """2,000 references that the data define, then 45,000 items of three of them"""
+    """2,000 redefined reference values, then 45,000 items that use three of them"""
     elements = ELEMENTS[: 2_000 * times]
     group = [elements[0], elements[len(elements) // 2], elements[-1]]
     bits = Bits()
@@ -57,7 +58,7 @@ def references(times: int) -> bytes:
 
 
 def redefinitions(times: int) -> bytes:
-    """2,000 references, then 36,000 of them defined anew"""
+    """2,000 redefined reference values, then 60 of them redefined again, 600 times each"""
     elements = ELEMENTS[: 2_000 * times]
     body = [operator(3, 2), *elements[:60], operator(3, 255)]
     bits = Bits()
@@ -70,7 +71,7 @@ def redefinitions(times: int) -> bytes:
 
 
 def subsets(times: int) -> bytes:
-    """16,000 subsets with a reference each"""
+    """16,000 subsets that each redefine one reference value"""
     bits = Bits()
     for _ in range(16_000 * times):
         bits.put(1, 2)
@@ -78,7 +79,7 @@ def subsets(times: int) -> bytes:
 
 
 def dropped(times: int) -> bytes:
-    """50,000 references that are defined and dropped again, 50 at a time"""
+    """50,000 reference values that are redefined and cancelled, 50 at a time"""
     body = [operator(3, 2), *ELEMENTS[:50], operator(3, 255), operator(3, 0)]
     bits = Bits()
     bits.put(1_000 * times, 16)
@@ -97,7 +98,7 @@ def items(times: int) -> bytes:
 
 
 def template(times: int) -> bytes:
-    """9,000 descriptors, each third an element"""
+    """9,000 descriptors, one third of which are elements"""
     descriptors = [d for e in ELEMENTS[: 3_000 * times] for d in (operator(1, 130), e, operator(1, 0))]
     bits = Bits()
     for _ in range(3_000 * times):
@@ -106,12 +107,12 @@ def template(times: int) -> bytes:
 
 
 def expanded(times: int) -> bytes:
-    """100 messages of 47 octets, each with one descriptor in place of 32,768, and no subsets"""
+    """100 messages of 47 octets without subsets, each with one descriptor that expands to 32,768"""
     return listed([3 << 14 | 60 << 8 | 1], b"", 0) * (100 * times)
 
 
 def together(times: int) -> bytes:
-    """300,000 items of 7 bits, compressed, one subset"""
+    """one compressed subset with 300,000 items of 7 bits"""
     bits = Bits()
     bits.put(15_000 * times, 16)
     bits.put(0, 6)
@@ -120,7 +121,7 @@ def together(times: int) -> bytes:
     return listed([*delayed(20), *ELEMENTS[:20]], bits.octets(), 1, 0xC0)
 
 
-# the header of a text, a key a line
+# the header of a dump, one key per line
 HEADER = """edition 4
 master 0
 centre 98
@@ -145,7 +146,7 @@ subsets 0
 
 
 def encoded(times: int) -> bytes:
-    """100 texts of such messages, encoded"""
+    """100 dumps without subsets, each with one descriptor that expands to 32,768, encoded"""
     return f"message\n{HEADER}descriptors 360001\nend\n".encode() * (100 * times)
 
 
@@ -153,7 +154,7 @@ SHAPES = (references, redefinitions, subsets, dropped, items, template, expanded
 
 
 def measured(words: list) -> tuple:
-    """The least processor seconds of some runs, and the KiB that one had resident at most."""
+    """Returns the lowest CPU time of RUNS runs in seconds, and the peak resident memory of another run in KiB."""
     seconds = []
     for _ in range(RUNS):
         child = subprocess.Popen(words, stdout=subprocess.DEVNULL)
@@ -166,7 +167,7 @@ def measured(words: list) -> tuple:
 
 
 def row(program: str, words: tuple, shape) -> str:
-    """A row of the table: a shape, and what it takes once, twice and four times as large."""
+    """Returns a row of the table: a shape, and the time and memory that it takes in different sizes."""
     octets, seconds, resident = [], [], []
     for times in (1, 2, 4):
         path = FOLDER / f"{shape.__name__}_{times}.bufr"

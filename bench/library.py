@@ -1,13 +1,14 @@
 #!/usr/bin/env python3
-"""Times `bufr_items` of the C library beside `bufr dump` and ecCodes on real messages.
+"""Times `bufr_items` in the C library, `bufr dump` and ecCodes on real messages.
 
-    bench/library.py FOLDER FILE [MB [PROGRAM]]    FOLDER: what library/build.sh made; MB: 20 by default
+    bench/library.py FOLDER FILE [MB [PROGRAM]]    FOLDER: the directory that library/build.sh filled
+                                                   FILE: a BUFR file; its contents are repeated to make the stream
+                                                   MB: the size of the stream in megabytes (default: 20)
 
-The messages of FILE are repeated until there are so many megabytes. It prints a table in Markdown: processor seconds, and
-the most memory that was resident, of one run each. `bufr_items` is called from Python, with room for 1,048,576 rows; its
-seconds are those of the calls, and its memory that of the process, of which Python, the stream and the outputs take a
-part. ecCodes reads a tenth of the stream, and ten times its seconds are printed. It is left out if there is no C compiler
-or no libeccodes-dev. Outside the gate: it wants GNU time.
+The script prints a table in Markdown with the CPU time and the peak resident memory of one run each. It calls `bufr_items`
+from Python, with room for 1,048,576 rows. The time for `bufr_items` includes only the calls, but the memory is that of the
+whole process, with Python, the stream and the outputs. ecCodes reads a tenth of the stream, and its time is multiplied by
+ten. It is left out if there is no C compiler or no libeccodes-dev. This benchmark needs GNU time, and is not part of the gate.
 """
 import pathlib
 import shlex
@@ -45,7 +46,7 @@ int main(int argc, char **argv) {
 
 
 def read(folder: str, name: str, *wanted: str) -> None:
-    """What a child process does: reads the items of a file, and prints the seconds of the calls."""
+    """Runs in a child process: reads the items in a file, and prints the CPU seconds that the calls took."""
     table_b, table_d = (pathlib.Path(it).read_bytes() for it in TABLES[1::2])
     library = bufr_library.Library(str(pathlib.Path(folder) / "libbufr.so"), table_b, table_d, 24 << 20)
     call, seconds = library.calls.bufr_items, 0.0
@@ -64,12 +65,12 @@ def read(folder: str, name: str, *wanted: str) -> None:
 
 
 def run(words: list) -> tuple:
-    """The seconds and the memory of a command. If it runs this file, the seconds are those that it prints."""
+    """Returns the CPU seconds and the memory of a command. If it runs this file, the seconds are those that it prints."""
     output = subprocess.PIPE if __file__ in words else subprocess.DEVNULL
     with tempfile.NamedTemporaryFile("r") as told:
         timed = ["/usr/bin/time", "-o", told.name, "-f", "%U %S %M", *map(str, words)]
         done = subprocess.run(timed, stdout=output, stderr=subprocess.DEVNULL)
-        # `bufr dump` has status 1 if it refused a message.
+        # `bufr dump` exits with status 1 if it rejected a message.
         if done.returncode not in (0, 1):
             sys.exit(f"{words[0]}: status {done.returncode}")
         user, system, memory = map(float, told.read().split()[-3:])
@@ -77,7 +78,7 @@ def run(words: list) -> tuple:
 
 
 def eccodes(work: pathlib.Path):
-    """The program that reads with ecCodes, or None."""
+    """Compiles the program that reads with ecCodes. Returns its path, or None if this is not possible."""
     source, built = work / "eccodes.c", work / "eccodes"
     source.write_text(ECCODES)
     try:

@@ -3,16 +3,16 @@
 
     bench/measure.py [PROGRAM [FOLDER [STREAM...]]]
 
-If you name streams of STREAMS, it prints only their rows of the tables of `ls`, `dump` and `encode`.
+PROGRAM is crates/bufr/out/bufr by default. FOLDER contains the streams, and is bench/out by default. If you name streams (the
+names are in STREAMS), the script prints only their rows in the tables of `ls`, `dump` and `encode`.
 
-Beside them run a lister, a dumper and an encoder written by hand, and the tools of ecCodes where they are installed.
-PROGRAM is crates/bufr/out/bufr by default, FOLDER holds the streams, bench/out by default. It prints tables in
-Markdown: one of each command, those of bench/README.md, and that of the hostile shapes. The program and the one by
-hand run in turn, fifteen rounds, their output thrown away. Of each the least processor seconds count, its own and the
-system's for it. Before that the two have to write the same octets. The memory is what one run had resident at most.
-Outside the gate: it wants Linux, python3, rustc, GNU time and 3 GB of disk.
+For comparison, the script also times a hand-written lister, dumper and encoder and, if they are installed, the tools of
+ecCodes. It prints tables in Markdown: one for each command, those in bench/README.md, and the one for the hostile shapes. It
+first checks that the program and the hand-written one write the same octets. Then the two run in turn for fifteen rounds, and
+their output is discarded. The times are the lowest CPU times (user plus system). The memory is the peak resident memory of one
+run. This benchmark needs Linux, rustc, GNU time and 3 GB of disk space, and is not part of the gate.
 
-ecCodes reads the first tenth of the streams that take it long, and ten times its seconds are printed, with a `*`.
+On streams that take ecCodes long, it reads only the first tenth. Its time is then multiplied by ten and marked with a `*`.
 """
 import os
 import pathlib
@@ -26,7 +26,7 @@ import hostile_shapes
 from lib import BUILT, TABLES, TOP
 
 ROUNDS = 15
-# by hand less is start-up for the most part
+# Seconds: if a hand-written program takes less, most of that is startup, and no ratio is printed.
 SHORT = 0.01
 
 STREAMS = {
@@ -59,33 +59,33 @@ STREAMS = {
 }
 LISTED = [name for name in STREAMS if not name.startswith("dump_")]
 DUMPED = [name for name in STREAMS if name.startswith("dump_")]
-# the streams of which ecCodes reads a tenth, and the one at which it is not timed: a tenth takes it minutes
+# The streams of which ecCodes reads a tenth, and the one that it does not read, because even a tenth takes minutes.
 SHORTENED = ("small", "small_3", "dump_reports", "dump_reports_3", "dump_plain")
 LEFT_OUT = ("hostile",)
 
 
 def seconds(words: list) -> float:
-    """The processor seconds of one run, its output thrown away."""
+    """Returns the CPU seconds of one run, whose output is discarded."""
     child = subprocess.Popen(words, stdout=subprocess.DEVNULL, stderr=subprocess.DEVNULL)
     _, _, usage = os.wait4(child.pid, 0)
     return usage.ru_utime + usage.ru_stime
 
 
 def least(*commands: list) -> list:
-    """The least processor seconds of each command; they run in turn."""
+    """Returns the lowest CPU seconds of each command. The commands run in turn."""
     rounds = [[seconds(words) for words in commands] for _ in range(ROUNDS)]
     return [min(column) for column in zip(*rounds)]
 
 
 def resident(words: list, file: pathlib.Path) -> int:
-    """The most KiB that a run had resident, as GNU time writes them to a file; it is small itself."""
+    """Returns the peak resident memory of a run in KiB. GNU time, which itself needs little memory, writes it to the file."""
     with open(os.devnull, "wb") as nowhere:
         subprocess.run(["/usr/bin/env", "time", "-q", "-f", "%M", "-o", str(file), *words], stdout=nowhere, stderr=nowhere)
     return int(file.read_text())
 
 
 def written(words: list, by_hand: list) -> int:
-    """The octets that a command writes; those of the one by hand have to be the same."""
+    """Returns the number of octets that a command writes. Exits if the hand-written program does not write the same octets."""
     ours, theirs = (subprocess.run(command, capture_output=True) for command in (words, by_hand))
     if (ours.stdout, ours.stderr) != (theirs.stdout, theirs.stderr):
         sys.exit(f"{' '.join(words)}: the one by hand writes other octets")
@@ -93,7 +93,7 @@ def written(words: list, by_hand: list) -> int:
 
 
 class Measuring:
-    """What is measured: the program, the ones by hand, and the folder of the streams."""
+    """The commands to measure (of the program and of the hand-written ones), the directory of the streams, and the results."""
 
     def __init__(self, program: str, folder: pathlib.Path) -> None:
         self.folder, self.cells = folder, {}
@@ -102,14 +102,14 @@ class Measuring:
         self.by_hand = {c: [self.built(name), *(TABLES[1::2] if c != "ls" else [])] for c, name in names.items()}
 
     def built(self, name: str) -> str:
-        """A program by hand, compiled for the processors that `rt` compiles for."""
+        """Compiles a hand-written program for the processors that `rt` compiles for. Returns its path."""
         program, source = self.folder / name, TOP / "bench" / f"{name}.rs"
         options = ["--edition", "2021", "-O", "-C", "target-cpu=x86-64-v2", "-C", "codegen-units=1"]
         subprocess.run(["rustc", *options, "-o", str(program), str(source)], check=True)
         return str(program)
 
     def row(self, command: str, stream: str, path: pathlib.Path, others=()) -> None:
-        """Prints a row of a command's table."""
+        """Prints one row in the table of a command."""
         ours, by_hand = [*self.ours[command], str(path)], [*self.by_hand[command], str(path)]
         text = written(ours, by_hand)
         times = least(ours, by_hand, *([*other, str(path)] for other in others))
@@ -139,7 +139,7 @@ class Measuring:
                 self.row("dump", stream, self.folder / f"{stream}.bufr")
 
     def encodes(self, chosen: list) -> None:
-        """Encodes the dumps; what is built has to be the stream again."""
+        """Times `encode` on the dumps. Exits if it does not restore the streams."""
         self.head("encode")
         for stream in DUMPED:
             if stream not in chosen:
@@ -152,7 +152,7 @@ class Measuring:
             self.row("encode", stream, text)
 
     def summary(self) -> None:
-        """Prints the tables of bench/README.md."""
+        """Prints the tables in bench/README.md."""
         for commands, streams in ((["ls"], LISTED), (["dump", "encode"], DUMPED)):
             columns = ["stream", *(f"`{command}` (s) | ratio | KiB" for command in commands)]
             print("\n| " + " | ".join(columns) + " |\n" + "|---" * (1 + 3 * len(commands)) + "|")
@@ -161,7 +161,7 @@ class Measuring:
                 print("| " + " | ".join([STREAMS[stream], *cells]) + " |")
 
     def eccodes(self) -> None:
-        """Prints what the tools of ecCodes take."""
+        """Prints the time and memory that the tools of ecCodes take."""
         print("\n| stream | tool | seconds | MB written | KiB |\n|---|---|---|---|---|")
         for stream in STREAMS:
             if stream in LEFT_OUT:
@@ -170,7 +170,7 @@ class Measuring:
                 print(f"| {STREAMS[stream]} | `{' '.join(words)}` | {self.eccodes_cells(words, stream)} |", flush=True)
 
     def eccodes_cells(self, words: list, stream: str) -> str:
-        """A tool's processor seconds, the size of what it wrote, and its most KiB; by the tenth where it is shortened."""
+        """Returns a tool's CPU seconds, MB written and peak KiB. Multiplies the first two by ten if it reads only a tenth."""
         path, times = self.folder / f"{stream}.bufr", 10 if stream in SHORTENED else 1
         part = self.folder / "tenth.part"
         part.write_bytes(path.read_bytes()[: path.stat().st_size // times])

@@ -5,14 +5,14 @@
 set -eu
 . "$(dirname "$0")/lib.sh"
 
-# helps FILE WORD..: the text of this file of tests/help is all that the program writes.
+# helps FILE WORD..: with these arguments, the program must print the text in tests/help/FILE.txt and nothing else.
 helps() {
     local file=$1
     shift
     gives 0 "$(cat "tests/help/$file.txt")"$'\n' '' "$@"
 }
 
-# misuses TEXT USAGE WORD..: a usage fault of this text and this usage is all that the program writes.
+# misuses TEXT USAGE WORD..: with these arguments, the program must exit with status 2 and print only this error and usage.
 misuses() {
     local text=$1 usage=$2
     shift 2
@@ -42,7 +42,7 @@ For more information, try '--help'.
 " encode "${tables[@]}" --form other examples/synop.txt
 gives 2 '' $'error: an argument is not UTF-8\n' ls $'\xff'
 
-# Without any one of its words a line has another output.
+# If any one word is left out of this command, its output must change.
 line=(encode "${tables[@]}" --form compressed examples/buoys.txt)
 run "${line[@]}"
 [ "$status" -eq 0 ] || fail "bufr ${line[*]}: status $status"

@@ -1,12 +1,13 @@
 #!/usr/bin/env bash
-# Tests outputs that are full or closed: after writing everything that was certain before the next read, the program must
-# report fault 71 and exit with status 2.
+# Tests outputs that are full or closed: if standard output cannot be written, the program must report fault 71 and exit with
+# status 2. If a fault line cannot be written, it must exit with status 2 after writing its complete standard output.
 # rule: fault-line-not-written
 set -eu
 . "$(dirname "$0")/lib.sh"
 stream=examples/bulletins.bufr
 
-# fills WORD..: standard output is full. The last line says so, behind the fault lines that were certain before.
+# fills WORD..: runs the program with standard output on a full device. The last line on standard error must report fault 71.
+# Any lines before it must be a prefix of the fault lines of a normal run.
 fills() {
     "$bufr" "$@" > "$work/whole" 2> "$work/faults" || true
     status=0
@@ -26,8 +27,8 @@ status=0
 [ "$status" -eq 2 ] && [ "$(tail -n 1 "$work/errors")" = 'bufr: 71 write failed' ] ||
     fail "bufr ls, its output closed: status $status"
 
-# Standard error is closed or full: a fault line is a failed write, of which the status alone can tell.
-# Without a fault line nothing is written there, and nothing fails.
+# If standard error is closed or full, a fault line cannot be written, and only the exit status can show this. If there is no
+# fault line, the program writes nothing to standard error, so it must succeed.
 "$bufr" ls "$stream" > "$work/lines" 2> /dev/null || true
 for errors in '2>&-' '2> /dev/full'; do
     status=0

@@ -3,12 +3,12 @@
 # installed files.
 set -eu
 . "$(dirname "$0")/lib.sh"
-# The caller's files are nobody else's, and `cd` looks elsewhere first.
+# The caller's umask and CDPATH must not affect the installation. CDPATH leads to other directories with the same names.
 top=$PWD prefix=$work/here/prefix
 mkdir -p "$work/here" "$work/other"/{prefix,source}
 ln -s "$top" "$work/here/source"
 ln -s "$bufr" "$work/here/program"
-# A set of tables, links and bytecode that the versions without a MANIFEST installed, and a set of the user's own.
+# Versions without a MANIFEST installed these table sets, links and bytecode. The set `own` belongs to the user.
 older=$prefix/share/bufr/tables doc=$prefix/share/doc/bufr
 mkdir -p "$older"/{wmo-38,wmo-39,own} "$doc/tables" "$prefix/share/bufr/__pycache__"
 cp tables/wmo-39/*.csv "$older/wmo-38"
@@ -26,7 +26,7 @@ grep -q "^installed $("$bufr" --version) (unproved; " "$work/told" || fail "inst
 [ -s "$older/own/B.csv" ] || fail "install.sh removes a set of the user's own"
 [ ! -L "$older/wmo-39/B.csv" ] && cmp "$older/wmo-39/B.csv" tables/wmo-39/B.csv || fail "another set wmo-39"
 rm -r "$older/own"
-# A second installation replaces the first one, even while its program runs, and adds nothing to it.
+# A second installation must replace the first one, even while its program is running, and must not add files.
 (cd "$prefix" && find . | sort) > "$work/once"
 mkfifo "$work/feed"
 "$prefix/bin/bufr" ls < "$work/feed" &
@@ -46,7 +46,7 @@ find "$prefix" -xtype l > "$work/links"
 test ! -s "$work/links" || fail "links to nothing: $(< "$work/links")"
 grep -q "^To enable completions in zsh.*fpath=($prefix/share/zsh/site-functions" "$work/told" || fail "install.sh names no fpath"
 
-# The documentation has each file that its pages may refer to, and each shell finds its completions.
+# The installed documentation must contain every file that its pages may refer to. Each shell must find its completions.
 for file in NOTICE *.md docs/*.md {docs/pictures,examples,library/examples}/*.* library/b* scripts/{b*,*.awk} \
     tables/*.{md,py} tables/wmo-*/*.csv; do
     cmp "$file" "$doc/$file" || fail "the documentation has no $file"
@@ -56,7 +56,8 @@ for place in bash-completion/completions/bufr:bufr.bash zsh/site-functions/_bufr
     cmp "completions/${place#*:}" "$prefix/share/${place%:*}" || fail "other completions in ${place%:*}"
 done
 
-# What was installed is what MANIFEST lists. With DESTDIR the same files are put elsewhere, and speak of the final place.
+# MANIFEST must list exactly the installed files. With DESTDIR, install.sh must install the same files there, and its output
+# must name only the final location.
 (cd "$prefix" && find . ! -type d | cut -c 3-) | sort > "$work/installed"
 grep -v '/$' "$doc/MANIFEST" | diff - "$work/installed" || fail "MANIFEST lists other files"
 ln -s "$top/install.sh" "$work/installer"
@@ -65,7 +66,7 @@ ln -s "$top/install.sh" "$work/installer"
 diff -r -x MANIFEST "$prefix" "$work/stage/usr" || fail "DESTDIR gives other files"
 mkdir "$work/temporary" "$work/stage/usr/share/bufr/__pycache__"
 touch "$work/stage/usr/share/bufr/__pycache__/bufr_text.pyc"
-# A file that somebody removed is not a changed one: another installation restores it, and --uninstall does not name it.
+# A removed file does not count as changed: installing again must restore it, and --uninstall must not report it.
 rm "$work/stage/usr/share/doc/bufr/README.md"
 DESTDIR=$work/stage "$top/install.sh" --program "$bufr" --unproved /usr > "$work/output" 2>&1 || fail "after a file was removed: $(< "$work/output")"
 cmp README.md "$work/stage/usr/share/doc/bufr/README.md"
@@ -77,7 +78,7 @@ echo 'uninstalled bufr from /usr' | cmp - "$work/output" || fail "--uninstall pr
 (cd "$prefix" && sha256sum --quiet -c share/doc/bufr/SHA256SUMS) || fail "SHA256SUMS has other sums"
 grep -qx 'commit: unknown' "$doc/BUILD" || fail "BUILD ties a program of --program to a commit: $(< "$doc/BUILD")"
 
-# Wrong words.
+# install.sh must reject invalid arguments.
 for words in '' '--wrong p' 'p --wrong' 'p q' '--program' '--uninstall'; do
     # shellcheck disable=SC2086
     "$top/install.sh" $words > "$work/output" 2> "$work/errors" && status=0 || status=$?
@@ -93,8 +94,8 @@ for word in -h --help; do "$top/install.sh" $word | grep -q '^usage: ' || fail "
 ! "$top/install.sh" --program '' --unproved "$work/none" 2> "$work/errors" && grep -qF "the program '' does not exist" "$work/errors" ||
     fail "install.sh accepts an empty FILE: $(< "$work/errors")"
 
-# What an installation did not put there is neither overwritten nor removed, whether it is a file, an edited one, or
-# behind a link in place of a folder.
+# install.sh must neither overwrite nor remove files that it did not install, files that were edited, or files that are
+# reached through a symbolic link in place of a directory.
 own=$work/own-files sets=$work/own-files/share/bufr/tables
 refuses() { # refuses PLACE: installs nothing, and names what is in the way
     find "$own" "$work/mine" -exec stat -c '%n %s %Y' {} + | sort > "$work/before"
@@ -121,7 +122,8 @@ ln -s "$work/mine" "$sets/wmo-37"
 refuses share/bufr/tables/wmo-37/B.csv
 echo '# edited' >> "$own/bin/bufr-csv"
 refuses bin/bufr-csv
-# The installer stops if MANIFEST is missing or damaged, or lists a file outside PREFIX. That of another installation replaces it.
+# --uninstall must fail if MANIFEST is missing or damaged, or lists a file outside PREFIX. If MANIFEST is not missing,
+# installing again must fail too. A MANIFEST that was copied from another installation must solve the problem.
 for bad in 'rm -f' 'truncate -s 0' 'truncate -s 3000' 'sed -i 1i../mine/D.csv' 'sed -i 1i/mine/D.csv' 'sed -i 1ibin/../../mine/D.csv'; do
     cp "$doc/MANIFEST" "$own/share/doc/bufr"
     $bad "$own/share/doc/bufr/MANIFEST"
@@ -140,7 +142,7 @@ for place in bin/bufr-csv share/bufr/tables/wmo-37/B.csv; do
 done
 [ "$(find "$own" ! -type d | wc -l)" -eq 2 ] && [ -s "$work/mine/D.csv" ] || fail "after --uninstall: $(find "$own" "$work/mine")"
 
-# An installation that is interrupted leaves no temporary files.
+# An interrupted installation must leave no temporary files.
 printf '#!/bin/sh\nexec sleep 60\n' > "$work/slow"
 chmod +x "$work/slow"
 ! TMPDIR=$work/temporary timeout 1 "$top/install.sh" --program "$work/slow" --unproved "$work/interrupted" > "$work/output" 2>&1 ||
@@ -148,8 +150,8 @@ chmod +x "$work/slow"
 [ -z "$(ls -A "$work/temporary")" ] || fail "an interrupted install.sh leaves temporary files"
 grep -q interrupted "$work/output" || fail "an interrupted install.sh says: $(< "$work/output")"
 
-# An installation that ends in the middle, as one on a full disk, says what to do: install again, or remove it. It has
-# no programs.
+# If an installation stops in the middle, for example on a full disk, install.sh must say that the user can install again or
+# uninstall. The incomplete installation must not contain any programs.
 printf '#!/bin/sh\necho bufr 0.1.0\n' > "$work/tiny"
 chmod +x "$work/tiny"
 stops_in_the_middle() {
@@ -165,12 +167,12 @@ ln -s full "$work/link"
 stops_in_the_middle
 "$top/install.sh" --program "$bufr" --unproved "$work/full" > "$work/output" || fail "a part of an installation is not repaired"
 cmp "$bufr" "$work/full/bin/bufr"
-# An upgrade that ends in the middle is repaired too.
+# Installing again must also repair an upgrade that stopped in the middle.
 ! (ulimit -f 60 && "$top/install.sh" --program "$work/tiny" --unproved "$work/full") > "$work/output" 2>&1 || fail "no limit"
 "$top/install.sh" --program "$bufr" --unproved "$work/full" > "$work/output" 2>&1 ||
     fail "an upgrade that ended in the middle is not repaired: $(< "$work/output")"
 cmp "$bufr" "$work/full/bin/bufr"
-# A full disk that stops it before it changes anything. Then there is nothing to repair.
+# If the disk is full before install.sh has changed anything, the installation must stay intact, with nothing to repair.
 ln -s /dev/full "$work/full/share/doc/bufr/MANIFEST.new"
 ! "$top/install.sh" --program "$work/tiny" --unproved "$work/full" > "$work/output" 2>&1 || fail "install.sh writes to a full disk"
 grep -q 'cannot write .*/MANIFEST (see above)' "$work/output" && ! grep -q 'did not finish' "$work/output" && cmp "$bufr" "$work/full/bin/bufr" ||
@@ -181,7 +183,7 @@ if unshare -m true 2> "$work/errors"; then
         "$work/temporary" "$top/install.sh" "$work/tiny" "$work/none" > "$work/output" 2>&1 &&
         grep -q "if $work/temporary is full, set TMPDIR" "$work/output" || fail "without temporary files: $(< "$work/output")"
 fi
-# Without a reader of its output, it still removes its temporary files.
+# install.sh must remove its temporary files even if the reader of its output has exited.
 { TMPDIR=$work/temporary "$top/install.sh" --uninstall "$work/full" || true; } 2> "$work/errors" | true
 [ -z "$(ls -A "$work/temporary")" ] || fail "install.sh without a reader leaves temporary files"
 { sleep 1 && TMPDIR=$work/temporary "$top/install.sh" --program "$bufr" --unproved /dev/null/prefix || true; } 2>&1 | true
@@ -200,7 +202,7 @@ bufr-auto "$examples/synop.bufr" | cmp - "$examples/synop.txt" || fail "bufr-aut
 bufr-lacks "$examples/synop.bufr" > lacks || fail "bufr-lacks: $(< lacks)"
 bufr dump -B "$prefix/share/bufr/tables/wmo-37/B.csv" -D "$prefix/share/bufr/tables/wmo-37/D.csv" "$examples/buoys.bufr" |
     awk -f "$prefix/share/bufr/table.awk" | grep -c '"TEMPERATURE/AIR TEMPERATURE"' > /dev/null || fail "table.awk: no temperature"
-# The command for a centre's tables is the installed one.
+# The command that bufr-lacks prints for a centre's tables must be the installed convert.py.
 python3 -c "import sys; sys.path.insert(0, '$top/tests'); import lib
 sys.stdout.buffer.write(lib.asking(lib.message(b'', lib.words('048001')), 39, 1))" > local
 ! bufr-lacks local > output 2> errors && grep -q "run: $prefix/share/bufr/tables/convert.py " errors ||
@@ -211,7 +213,7 @@ sys.stdout.buffer.write(lib.asking(lib.message(b'', lib.words('063255')), 45))" 
     fail "bufr-auto on later tables: $(< errors)"
 "$prefix/share/bufr/tables/convert.py" copy "$prefix/share/bufr/tables/wmo-39" &&
     cmp copy/D.csv "$prefix/share/bufr/tables/wmo-39/D.csv" || fail "convert.py: another set"
-# Its scripts run no other program than its own.
+# The installed scripts must run only the installed program, even if another one is on PATH.
 mv "$prefix/bin/bufr" other
 ! PATH=$work/other:$PATH bufr-auto "$examples/synop.bufr" > output 2> errors && grep -q "cannot run $prefix/bin/bufr: No such" errors ||
     fail "without its program, bufr-auto says: $(< errors)"
@@ -237,12 +239,12 @@ for script in "$prefix"/bin/bufr-* "$prefix/share/bufr/tables/convert.py" "$pref
         fail "$name has no completions"
 done
 
-# The guide's commands run where it is installed.
+# The commands in the guide must work in an installation.
 mkdir own
 ln -s "$prefix"/share/doc/bufr/* own
 "$top/tests/docs_commands.py" "$prefix/bin/bufr" "$work/own/docs/guide.md" || fail "the guide's commands in an installation"
 
-# A page's links lead to pages that are installed.
+# The links on the installed pages must lead to installed files.
 find "$prefix/share" -name '*.md' | while read -r page; do
     { grep -o '](\([^)#]*\)' "$page" || true; } | cut -c 3- | while read -r link; do
         case $link in '' | http*) continue ;; esac
@@ -254,7 +256,7 @@ for section in 'SEE ALSO' ENVIRONMENT; do
     grep -q "^\.Sh $section\$" "$prefix/share/man/man1/bufr.1" || fail "the man page has no $section"
 done
 
-# As a package of Python it has what the scripts need, but for `bufr`.
+# The Python package must contain everything that the scripts need, except `bufr` itself.
 if python3 -c 'import pip, venv' 2> errors; then
     mkdir source
     cp -r "$top/pyproject.toml" "$top/build_wheel.py" "$top/scripts" "$top/man" "$top/tables" source

@@ -25,7 +25,7 @@ refuses 'no proof'
 CC=$work/none refuses 'requires a C compiler'
 builds "exec '$PWD/library/build.sh' --archive '$work/libbufr_c.a' \"\$@\""
 
-# Two ways of linking, with what pkg-config prints.
+# This program is linked with the shared and with the static library, using the flags that pkg-config prints.
 cat > "$work/main.c" << 'END_OF_C'
 #include <bufr.h>
 #include <stdio.h>
@@ -35,10 +35,11 @@ int main(void) {
     return 0;
 }
 END_OF_C
-# runs ROOT: a program that was compiled against the library in $ROOT/lib runs. The variables of pkg-config say where it looks.
+# runs ROOT: a C program must compile and run with the library in ROOT/lib. The caller sets the variables that tell pkg-config
+# where to look.
 runs() {
     pkg-config --print-errors --cflags --libs bufr > "$work/flags" || fail 'pkg-config does not find bufr'
-    # The flags have backslashes before spaces.
+    # pkg-config puts backslashes before spaces in the flags, so the shell must evaluate them.
     eval "'${CC:-cc}' -Werror '$work/main.c' $(< "$work/flags") -o '$work/shared'"
     eval "'${CC:-cc}' -Werror '$work/main.c' $(pkg-config --cflags bufr) '$1/lib/libbufr.a' -o '$work/static'"
     [ "$(LD_LIBRARY_PATH=$1/lib "$work/shared")" = 1000 ] && [ "$("$work/static")" = 1000 ] || fail "a C program prints something else"
@@ -54,12 +55,12 @@ grep -qx "shared library: $(sha256sum < "$prefix/lib/libbufr.so.0" | cut -c 1-64
     runs "$prefix"
     [ "$(pkg-config --modversion bufr)" = "$("$bufr" --version | cut -d ' ' -f 2)" ] || fail 'pkg-config knows another version'
 )
-# An installation without the library replaces it.
+# Installing again without --library must remove the library.
 installs "$prefix"
 ! grep -q 'the library' "$work/told" || fail "install.sh without --library says: $(< "$work/told")"
 grep -qx 'library: none' "$prefix/share/doc/bufr/BUILD" && grep -qx 'shared library: none' "$prefix/share/doc/bufr/BUILD" || fail 'BUILD names a library that is not installed'
 [ ! -e "$prefix/lib" ] && [ ! -e "$prefix/include" ] || fail "install.sh without --library leaves $(find "$prefix/lib" "$prefix/include")"
-# A library of somebody else stays.
+# install.sh must not overwrite a library that it did not install.
 mkdir "$prefix/lib"
 echo other > "$prefix/lib/libbufr.a"
 ! "$clone/install.sh" --program "$bufr" --unproved --library "$prefix" > "$work/told" 2>&1 &&
@@ -69,7 +70,7 @@ installs --library "$prefix"
 "$clone/install.sh" --uninstall "$prefix" > "$work/told"
 [ ! -e "$prefix" ] || fail "--uninstall leaves $(find "$prefix")"
 
-# With DESTDIR, bufr.pc names the final place.
+# With DESTDIR, bufr.pc must name the final location.
 export DESTDIR=$work/stage
 installs --library '/a place'
 (

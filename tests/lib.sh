@@ -8,25 +8,25 @@ tables=(-B tables/wmo-39/B.csv -D tables/wmo-39/D.csv)
 work=$(mktemp -d)
 trap 'rm -r "$work"' EXIT
 
-# fail TEXT: ends the test.
+# fail TEXT: prints TEXT and ends the test with status 1.
 fail() {
     echo "$0: $1" >&2
     exit 1
 }
 
-# sources_of FOLDER: the checksum of the sources that BUILD has.
+# sources_of FOLDER: prints the checksum of the sources in this directory, as BUILD records it.
 sources_of() {
     (cd "$1" && find HANDLES crates.txt crates -name out -prune -o -type f -print0 | LC_ALL=C sort -z | xargs -0 sha256sum) | sha256sum |
         cut -c 1-64
 }
 
-# run WORD..: the program's output and errors are in $work, its status is $status.
+# run WORD..: runs the program, writes what it prints to $work/output and $work/errors, and sets $status to its exit status.
 run() {
     status=0
     "$bufr" "$@" > "$work/output" 2> "$work/errors" || status=$?
 }
 
-# gives STATUS OUTPUT ERRORS WORD..: the program has this status, output and errors.
+# gives STATUS OUTPUT ERRORS WORD..: with no input, the program must exit with STATUS and print exactly OUTPUT and ERRORS.
 gives() {
     local wanted=$1 output=$2 errors=$3
     shift 3
@@ -36,12 +36,13 @@ gives() {
     printf %s "$errors" | diff - "$work/errors" || fail "bufr $*: other errors"
 }
 
-# is_prefix FILE WHOLE: the file is the beginning of another one.
+# is_prefix FILE WHOLE: tests whether WHOLE begins with the contents of FILE.
 is_prefix() {
     cmp -n "$(stat -c %s "$1")" "$1" "$2"
 }
 
-# ends STATUS LINE WHOLE WORD..: the program has this status, this last line of errors, and a prefix of that output.
+# ends STATUS LINE WHOLE WORD..: the program must exit with STATUS, print LINE as its last line on standard error, and write a
+# prefix of the file WHOLE.
 ends() {
     local wanted=$1 line=$2 whole=$3
     shift 3
@@ -50,7 +51,7 @@ ends() {
         fail "bufr $*: status $status, $(tail -n 1 "$work/errors")"
 }
 
-# copy_tree FOLDER: copies this tree into a folder, without what was built.
+# copy_tree FOLDER: copies the repository to this directory, without Git's files and without anything that was built.
 copy_tree() {
     mkdir -p "$1"
     tar -c --exclude-vcs --exclude=out --exclude=dist --exclude=__pycache__ . | tar -x -C "$1"

@@ -5,7 +5,7 @@
 set -eu
 . "$(dirname "$0")/lib.sh"
 
-# The stream is without the word that states 7 MB: all after it would wait for those.
+# The stream omits the stray that declares a length of 7 MB, because the program would buffer everything after it.
 stream=$work/long.bufr text=$work/long.txt
 tail -c +140 examples/bulletins.bufr > "$stream"
 for _ in {1..11}; do
@@ -13,7 +13,7 @@ for _ in {1..11}; do
 done
 "$bufr" dump "${tables[@]}" "$stream" 2> "$work/faults" > "$text" || true
 
-# leaves WORD..: the reader of the output goes after one octet.
+# leaves WORD..: the reader of the output exits after one byte. The program must then report fault 71 and exit with status 2.
 leaves() {
     set +e
     "$bufr" "$@" 2> "$work/errors" | head -c 1 > "$work/output"
@@ -27,12 +27,12 @@ leaves ls "$stream"
 leaves dump "${tables[@]}" "$stream"
 leaves encode "${tables[@]}" "$text"
 
-# Both outputs go to one file: fault lines come between the lines of a text, and tear none.
+# Both outputs go to the same file: fault lines must appear between the lines of the dump, and must not split any of them.
 "$bufr" dump "${tables[@]}" "$stream" > "$work/both" 2>&1 || true
 grep -v '^offset ' "$work/both" | cmp - "$text" && grep '^offset ' "$work/both" | cmp - "$work/faults" &&
     grep -A 1 '^offset ' "$work/both" | grep -v '^offset ' > /dev/null || fail 'bufr dump: lines of the two outputs tear one another'
 
-# A signal ends the program: what it held back is lost, and what it had written is a prefix.
+# A signal kills the program: buffered output is lost, and each output must be a prefix of the complete one.
 mkfifo "$work/pipe"
 "$bufr" dump "${tables[@]}" < "$work/pipe" > "$work/output" 2> "$work/errors" &
 exec 3> "$work/pipe"

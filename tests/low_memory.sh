@@ -4,7 +4,7 @@
 set -eu
 . "$(dirname "$0")/lib.sh"
 
-# grows WORD..: runs the program in more and more memory, until its answer is whole.
+# grows WORD..: runs the program with more and more memory until its output is complete.
 grows() {
     local limit=2048 loaded='' wanted=0
     "$bufr" "$@" > "$work/whole" 2> "$work/faults" || wanted=$?

@@ -1,10 +1,10 @@
 #!/usr/bin/env bash
-# Tests release.sh: the same commit must give the same bytes in two directories, and the archive must install, run and
-# uninstall on a clean machine without compilers, toolchain or network. The release contains the program that the test is
-# given, so it says that the program is unproved. Without --unproved, release.sh does the same after proving everything.
+# Tests release.sh: it must make the same bytes from the same commit in two directories, and the archive must install, run and
+# uninstall on a clean machine without compilers, toolchain or network. The release contains the program under test, so it is
+# made with --unproved. Without this option, release.sh does the same after proving everything.
 . "$(dirname "$0")/lib.sh"
 
-# A clone of the files as they are, not of the last commit.
+# clone FOLDER: makes a repository whose only commit contains the current files, including uncommitted changes.
 clone() {
     copy_tree "$1"
     git -C "$1" init -q -b main
@@ -15,8 +15,8 @@ export GIT_COMMITTER_DATE=2020-02-02T02:02:02Z
 clone "$work/one"
 clone "$work/another/folder"
 "$work/one/release.sh" --unproved "$bufr" "$work/first" > "$work/told"
-# The second time by another user, if this one may become one, with other settings, and in memory if there is room: there
-# a folder lists its files in another order.
+# The second run has other settings, and is run by the user nobody if possible. Its output is in /dev/shm if possible, where
+# directories list their files in a different order.
 second=$(mktemp -d -p /dev/shm 2> "$work/errors" || mktemp -d)
 trap 'rm -r "$work" "$second"' EXIT
 mkdir "$work/home" "$work/program"
@@ -36,8 +36,8 @@ done
 (cd "$work/first" && sha256sum --quiet -c SHA256SUMS) || fail "the sums are not those of the files"
 archive=$(echo "$work"/first/*.tar.gz)
 [ -e "$work"/first/bufr_text-*-py3-none-any.whl ] || fail "the wheel of an unproved release: $(ls "$work/first")"
-# The wheel has the modules, scripts, man pages and tables. RECORD has the length and the checksum of each file in it, in
-# the form that installers compare.
+# The wheel must contain the modules, scripts, man pages and tables. RECORD must contain the length and the checksum of each
+# file, in the form that installers check.
 python3 - "$work"/first/*.whl "$work/one" > "$work/told" 2>&1 << 'END' || fail "the wheel: $(< "$work/told")"
 import base64, csv, hashlib, io, pathlib, sys, zipfile
 
@@ -68,13 +68,14 @@ for name in wheel.namelist():
 assert not rows, f"RECORD has {rows}"
 END
 
-# The pages of a release lead to what is there: it has each file of the repository, and its own test follows the links.
+# The links on the pages of a release must work: it must contain every file in the repository, and its own
+# tests/docs_consistency.py follows the links.
 mkdir "$work/read"
 tar -xzf "$archive" -C "$work/read" --strip-components 1
 git -C "$work/one" ls-files | (cd "$work/read" && xargs ls -d) > "$work/told" || fail "files of the repository are not in the release"
 "$work/read/tests/docs_consistency.py" "$work/read/bin/bufr" > "$work/told" || fail "the pages of the release: $(< "$work/told")"
 
-# refuses STATUS TEXT WORD..: these words fail with this status, say why, and leave the first release as it was.
+# refuses STATUS TEXT WORD..: this command must fail with STATUS, print TEXT, and leave the first release unchanged.
 refuses() {
     local wanted=$1 text=$2
     shift 2
@@ -98,7 +99,7 @@ refuses 1 'does not run' "$make" --unproved /bin/false "$work/first"
 mkdir "$work/alone" "$work/fake"
 cp "$make" "$work/alone"
 refuses 1 'not a clone of the repository' "$work/alone/release.sh" --unproved "$bufr" "$work/first"
-# A toolchain that is imitated: `rt ci` leaves a program, and a script that builds an imitated library.
+# In this stand-in for the toolchain, `rt ci` creates a program, and a build.sh that makes a stand-in for the library.
 logic=$(sed -n 's/.*`logic \([0-9a-f]\{16\}\)`.*/\1/p' README.md | head -n 1)
 printf '#!/bin/sh\n# rattle logic=%s\necho bufr 0.1.0\n' "$logic" > "$work/marked"
 printf '#!/bin/sh\necho bufr 0.1.0\n' > "$work/unmarked"
@@ -109,7 +110,7 @@ mkdir "$1" && cp library/bufr.h "$1" && cd "$1" && echo archive > libbufr.a && e
 END
 chmod +x "$work/marked" "$work/unmarked" "$work/build.sh"
 count=$(ls -d crates/*/src crates/*/must-fail/*.edit | wc -l)
-# fake LOGIC [COMMANDS]: a toolchain with this logic, whose `rt ci` runs COMMANDS before its last line.
+# fake LOGIC [COMMANDS]: creates a stand-in with this logic, whose `rt ci` runs COMMANDS before it prints its last line.
 fake() {
     cat > "$work/fake/rt" << END
 #!/bin/sh
@@ -149,8 +150,8 @@ refuses 1 'built with logic none' "$make" "$work/first"
 fake "$logic" "printf '#!/bin/sh\necho no proof of bufr_c; exit 1\n' > library/build.sh"
 refuses 1 'the C library was not built' "$make" "$work/first"
 grep -q 'no proof of bufr_c' "$work/told" || fail "release.sh hides what library/build.sh said: $(< "$work/told")"
-# A gate that takes so long that the run is interrupted: its script alone, as by `kill`, or all, as by Ctrl-C. Until it
-# ends, it makes the folders that the script removes.
+# release.sh is interrupted while `rt ci` is running. Until it is stopped, the stand-in for `rt ci` keeps creating the
+# directories that release.sh removes.
 slow="at=\$PWD; while mkdir -p \"\$at/crates/bufr/out\"; do :; done"
 ends_it() { # ends_it SIGNAL: the script ended by this signal leaves nothing
     refuses $((128 + $(kill -l "$1"))) 'no release was made' env TMPDIR="$work/temporary" "$make" "$work/first"
@@ -166,7 +167,7 @@ for number in TERM INT HUP; do
     ends_it $number
     is_over
 done
-# The library is built by a script. Its processes end too.
+# A script builds the library. The processes that the script has started must also end.
 cat > "$work/slow" << END
 #!/bin/sh
 sh -c "echo \\\$\\\$ > '$work/pid'; kill -TERM \$PPID; exec sleep 60"
@@ -178,7 +179,7 @@ is_over
 fake "$logic" "echo \$\$ > '$work/pid'; kill -KILL \$PPID; exec sleep 60"
 ! TMPDIR=$work/temporary "$make" "$work/fourth" > "$work/told" 2>&1 || fail "a killed script succeeds"
 is_over
-# All is proved.
+# Everything is proved.
 fake "$logic"
 "$make" "$work/proved" > "$work/told" || fail "release.sh: $(< "$work/told")"
 grep -q "^$count passed, 0 failed$" "$work/told" || fail "release.sh hides what the gate said: $(< "$work/told")"
@@ -189,7 +190,7 @@ for line in 'proof: proved' "kit: kit logic $logic" "gate: $count passed, 0 fail
     "shared library: $(sha256sum < "$work/unpacked/lib/libbufr.so.0" | cut -c 1-64)"; do
     grep -qx "$line" "$work/unpacked/BUILD" || fail "BUILD: no line $line"
 done
-# The wheel contains the library too, and says for which systems.
+# The wheel must also contain the library, and its tags must name the systems on which it runs.
 (cd "$work/proved" && python3 -m zipfile -e bufr_text-*-py3-none-manylinux_2_34_x86_64.whl "$work/wheel") && cmp "$work/wheel/libbufr.so.0" "$work/unpacked/lib/libbufr.so.0" ||
     fail "the wheel of a proved release has no library: $(ls "$work/proved")"
 printf '%s\n' 'Wheel-Version: 1.0' 'Generator: build_wheel' 'Root-Is-Purelib: false' 'Tag: py3-none-manylinux_2_34_x86_64' |
@@ -214,7 +215,7 @@ for file in libbufr.a libbufr.so.0; do # each file of the library is the one in 
 done
 [ ! -e "$work/installed" ] || fail "--uninstall leaves $(find "$work/installed")"
 PATH=${PATH#*:}
-# A full disk: at the archive, which is the largest file, and at once.
+# The disk becomes full while release.sh writes the archive (its largest file), or right at the start.
 refuses $((128 + $(kill -l XFSZ))) 'no release was made' bash -c 'ulimit -f "$0" && exec "$@"' \
     $(($(stat -c %s "$archive") / 1024)) "$make" --unproved "$bufr" "$work/first"
 if unshare -m true 2> "$work/errors"; then
@@ -224,13 +225,13 @@ if unshare -m true 2> "$work/errors"; then
         "$work/small" "$make" "$bufr" "$work/told" && grep -q 'No space left' "$work/told" || fail "on a full disk: $(< "$work/told")"
 fi
 
-# A change that was not committed is not released.
+# A release must not contain uncommitted changes.
 echo '# changed' | tee -a "$work/one/README.md" >> "$work/one/scripts/bufr_text.py"
 "$work/one/release.sh" --unproved "$bufr" "$work/third" > "$work/told" 2> "$work/errors"
 grep -q 'uncommitted changes' "$work/errors" || fail "release.sh does not say that it leaves changes out"
 diff "$work/first" "$work/third" || fail "an uncommitted change is in the release"
 
-# A release whose files are not those that it lists is not installed: a file is changed, is added, has no line or is missing.
+# install.sh must reject a release in which a file was changed, added or removed, or is missing from SHA256SUMS.
 mkdir "$work/damaged"
 refuses_damaged() { # refuses_damaged TEXT COMMAND: in a release after this command, install.sh fails and says TEXT
     tar -xzf "$archive" -C "$work/damaged" --strip-components 1
@@ -245,10 +246,10 @@ refuses_damaged './tables/wmo-99,' 'ln -s wmo-39 tables/wmo-99'
 refuses_damaged './tables/wmo-99,' 'mkdir tables/wmo-99'
 refuses_damaged './man/bufr.1,' 'echo x >> man/bufr.1; sed -i /man.bufr.1/d SHA256SUMS'
 refuses_damaged './docs/guide.md: ' 'rm docs/guide.md'
-# A library that BUILD does not describe.
+# install.sh must reject a library that BUILD does not describe.
 refuses_damaged 'the C library in this release is not the one that BUILD describes' \
     'mkdir lib; touch lib/libbufr.a lib/libbufr.so.0; sha256sum ./lib/* >> SHA256SUMS'
-# What Python caches beside the scripts is none of them, nor what the toolchain builds.
+# install.sh must ignore files that Python has cached next to the scripts or that the toolchain has built.
 mkdir -p "$work/damaged/crates/bufr/out"
 touch "$work/damaged/crates/bufr/out/bufr"
 tar -xzf "$archive" -C "$work/damaged" --strip-components 1
@@ -256,13 +257,13 @@ BUFR=$bufr "$work/damaged/scripts/bufr-auto" --version > "$work/told"
 [ -d "$work/damaged/scripts/__pycache__" ] || mkdir "$work/damaged/scripts/__pycache__"
 "$work/damaged/install.sh" --unproved "$work/prefix" > "$work/told" || fail "what was cached or built: $(< "$work/told")"
 
-# The clean machine.
+# From here on, the archive is tested on a clean machine.
 unshare -mnpf true 2> "$work/errors" || { echo "$0: unshare is not allowed here, so no clean machine was tried" && exit; }
 [ -x /usr/bin/python3 ] || { echo "$0: /usr/bin/python3 is not there, so no clean machine was tried" && exit; }
 mkdir "$work/root"
 cat > "$work/machine" << 'END'
 #!/bin/bash
-# machine ROOT ARCHIVE TESTS: a root without compilers and toolchain, in which the operator's commands run.
+# machine ROOT ARCHIVE TESTS OPERATOR: makes a root directory without compilers or toolchain, and runs OPERATOR there.
 set -eu
 root=$1
 mount --make-rprivate /
@@ -306,19 +307,19 @@ cmp bin/bufr $prefix/bin/bufr
 PATH=$prefix/bin:$PATH
 cd /home
 bufr-auto bufr/share/doc/bufr/examples/synop.bufr | cmp - bufr/share/doc/bufr/examples/synop.txt
-# The commands of README.
+# Runs the commands in README.md and operations.md.
 mkdir own
 ln -s $prefix/share/doc/bufr/* own
 ln -s /tests own/tests
 /usr/bin/python3 own/tests/docs_commands.py $prefix/bin/bufr own/README.md own/docs/operations.md || fail "the commands of README and operations.md"
 rm -r own
-# Another set of tables is used by the messages of its centre, and is the operator's own.
+# The operator adds two table sets: one for the messages of a centre, and one for another version.
 set=$prefix/share/bufr/tables
 cp -r $set/wmo-39 $set/wmo-39+78-0
 sed -i 's/^"\?012101"\?,.*/012101,OWN NAME,K,2,0,16/' $set/wmo-39+78-0/B.csv
 cp -r $set/wmo-39 $set/wmo-99
 bufr-auto bufr/share/doc/bufr/examples/buoys.bufr > told || fail "bufr-auto with another set"
-# A second installation into the same place, and its end.
+# Neither a second installation in the same place nor --uninstall may remove these sets.
 /tmp/bufr-*/install.sh --unproved $prefix > told
 [ -d $set/wmo-99 ] || fail 'an installation removed a set that it did not install'
 /tmp/bufr-*/install.sh --uninstall $prefix > told
@@ -326,12 +327,12 @@ grep -q 'share/bufr/tables/wmo-99/B.csv' told || fail "--uninstall does not say 
 find $prefix ! -type d ! -path "$set/wmo-99/*" ! -path "$set/wmo-39+78-0/*" > left
 [ ! -s left ] || fail "--uninstall leaves $(cat left)"
 rm -r $prefix
-# Without sets of one's own nothing remains, not even folders or what Python cached.
+# If there are no such sets, --uninstall must leave nothing, not even directories or files that Python has cached.
 /tmp/bufr-*/install.sh --unproved $prefix > told
 bufr-auto --version > told
 /tmp/bufr-*/install.sh --uninstall $prefix > told
 [ ! -e $prefix ] || fail "--uninstall leaves $(find $prefix)"
-# The page for operators: each block of its commands, the unit's commands, and the steps of its Dockerfile.
+# Tests operations.md: each block of commands, the commands in the units, and the steps in the Dockerfile.
 page=$(echo /tmp/bufr-*/docs/operations.md) examples=$(echo /tmp/bufr-*/examples)
 mkdir /home/page
 cd /home/page
@@ -343,7 +344,7 @@ awk '/^```$/ { name = "" } name { print > name } /^```sh$/ { name = "block" ++bl
     /^```crontab$/ { name = "crontab" } /^```dockerfile$/ { name = "steps" }' $page
 sed -i 's,install.sh /,install.sh --unproved /,' block* steps
 [ "$(ls block* | wc -w)" -eq 9 ] || fail "$page has other blocks"
-# In place of systemd.
+# These stand-ins replace the commands of systemd.
 mkdir /home/stubs
 printf '#!/bin/sh\necho "systemctl $*"\n' > /home/stubs/systemctl
 printf '#!/bin/sh\ncat /home/page/log\n' > /home/stubs/journalctl
@@ -354,7 +355,7 @@ types block2
 types block3
 printf '%s\n' 'systemctl restart bufr-feed' "$(/opt/bufr/bin/bufr-auto --version)" | cmp - told || fail "after an upgrade: $(cat told)"
 types block4
-# A changed link and an added file are found.
+# The fourth block must find a changed link and an added file.
 bash=/opt/bufr-0.1.0/share/bash-completion/completions/bufr-auto
 ln -sfT bufr $bash
 touch /opt/bufr-0.1.0/bin/added
@@ -362,10 +363,10 @@ bash -u block4 > told 2>&1
 [ "$(grep -cE 'bin: added|completions/bufr-auto' told)" -eq 2 ] && [ "$(wc -l < told)" -eq 2 ] || fail "$page finds: $(cat told)"
 rm /opt/bufr-0.1.0/bin/added
 ln -sfT bufr-scripts.bash $bash
-# The hourly commands print each reason to look: refused and skipped messages, a failed run, and no dump.
+# The hourly commands must report rejected and skipped messages, notes, a failed run, and an hour without a dump.
 mkdir -p /var/lib/feed /usr/local/lib/feed
 (cd /usr/local/lib/feed && sed -n '/cat > check/,/^> END/s/^[$>] //p' $page | bash && cp /home/page/block5 hourly-feed)
-# cron COMMAND: runs the line of the crontab that has this command.
+# cron COMMAND: runs the line of the crontab that contains this command.
 cron() {
     sed -n "s/^[0-9*]* [0-9*]* \* \* \* root \(.*$1\)/\1/p" crontab > line
     [ "$(wc -l < line)" -eq 1 ] && PATH=/home/stubs:$(sed -n 's/^PATH=//p' crontab) bash -eu line > told 2>&1 || fail "$1 of the crontab: $(cat line told)"
@@ -380,7 +381,7 @@ note='bufr-auto: 1 message, at offset 0: the table set wmo-99+254-9 (local versi
 cron hourly-feed
 printf '%s\n' 'messages rejected or skipped: 21' "$note" 'bufr-feed failed: exit-code' 'nothing was dumped for an hour' | cmp - told ||
     fail "the hourly commands print $(cat told)"
-# A run that was killed.
+# hourly must report the exit status of a run that was killed.
 (
     cd /usr/local/lib/feed
     printf '#!/bin/sh\nkill -KILL $$\n' > bufr-auto
@@ -391,7 +392,7 @@ printf '%s\n' 'messages rejected or skipped: 21' "$note" 'bufr-feed failed: exit
 cron 'systemctl.*'
 [ "$(cat told)" = 'systemctl restart bufr-feed' ] || fail "the crontab runs $(cat line)"
 exec_of() { sed -n "s/^$2=//p" "/home/page/unit$1" | sed 's/%%/%/g'; }
-# becomes COUNT: waits until there are so many dumps, each of which is complete.
+# becomes COUNT: waits until there are COUNT dumps that together contain the expected text. Fails after about ten seconds.
 becomes() {
     for _ in $(seq 100); do
         [ "$(ls dump.* 2> /dev/null | wc -l)" -eq "$1" ] && cat dump.* | cmp -s - expected && return
@@ -399,7 +400,7 @@ becomes() {
     done
     fail "the commands of the units: $1 dumps, $(ls -l)"
 }
-# The feed ends and starts again while a writer has the FIFO open.
+# The feed stops and restarts while a writer has the FIFO open.
 (
     cd /var/lib/feed
     exec_of 1 ExecStartPre | bash
@@ -457,7 +458,7 @@ setpriv --reuid 65534 --regid 65534 --clear-groups env -i PATH=/usr/local/bin:/u
     cmp - /home/synop.txt || fail 'the program of the Dockerfile'
 echo clean
 END
-# The units have only words that systemd knows; it says the others on standard error, with status 0.
+# systemd must know every setting in the units. systemd-analyze reports others on standard error, but exits with status 0.
 awk -v folder="$work" '/^```$/ { unit = "" } unit { print > unit }
     /^```ini$/ { unit = folder "/" (++units == 1 ? "bufr-fifo" : "bufr-feed") ".service" }' docs/operations.md
 ! command -v systemd-analyze > "$work/told" || systemd-analyze verify "$work"/bufr-*.service > "$work/told" 2>&1 && [ ! -s "$work/told" ] ||

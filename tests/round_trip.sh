@@ -4,24 +4,24 @@
 set -eu
 . "$(dirname "$0")/lib.sh"
 
-# messages FILE: the messages of a file, without what is between them.
+# messages FILE: prints the messages in a file, without anything between them.
 messages() {
     { "$bufr" ls "$1" 2> /dev/null || true; } | while read -r offset length _; do
         dd if="$1" bs=1 skip="${offset#offset=}" count="${length#length=}" status=none
     done
 }
 
-# in_form WORD TEXT: the text of a text's messages in that form.
+# in_form FORM TEXT: encodes the dump TEXT in this form, and prints the dump of the result.
 in_form() {
     "$bufr" encode "${tables[@]}" --form "$1" "$2" > "$work/in_form" && "$bufr" dump "${tables[@]}" "$work/in_form"
 }
 
-# comes_in FORM TEXT WANTED: in that form a text is the one that is wanted.
+# comes_in FORM TEXT WANTED: converting the dump TEXT to this form must give the dump WANTED.
 comes_in() {
     in_form "$1" "$2" | cmp - "$3" || fail "$file: its $1 form is another"
 }
 
-# comes_in_both: so does the text in $work, and each form of it in the other.
+# comes_in_both: converts $work/text to both forms, and each form to the other. Only the `compressed` lines may change.
 comes_in_both() {
     sed 's/^compressed [01]$/compressed 0/' "$work/text" > "$work/plain"
     sed 's/^compressed [01]$/compressed 1/' "$work/text" > "$work/compressed"
@@ -31,7 +31,8 @@ comes_in_both() {
     comes_in plain "$work/compressed" "$work/plain"
 }
 
-# comes_in_plain: factors differ in the text in $work, so it is plain and cannot be compressed.
+# comes_in_plain: the subsets in $work/text have different replication factors. It must stay the same in plain form, and
+# compressing it must fail.
 comes_in_plain() {
     comes_in plain "$work/text" "$work/text"
     run encode "${tables[@]}" --form compressed "$work/text"

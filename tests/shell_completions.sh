@@ -1,9 +1,9 @@
 #!/usr/bin/env bash
-# Tests the completions: what bash and, if it is installed, zsh offer after --form, and what bash offers for the scripts.
+# Tests the completions that bash and, if it is installed, zsh offer for `bufr` and the scripts.
 set -eu
 . "$(dirname "$0")/lib.sh"
 
-# offers WANTED WORD..: bash offers these behind the words, the last of which is begun.
+# offers WANTED WORD..: for a command line with these words, the last of which is incomplete, bash must offer WANTED.
 offers() {
     local wanted=$1
     shift
@@ -14,7 +14,7 @@ offers() {
     [ "${COMPREPLY[*]}" = "$wanted" ] || fail "bash offers '${COMPREPLY[*]}' behind '$program $*', not '$wanted'"
 }
 
-# Bash has this only while it completes.
+# The builtin `compopt` works only during a completion, so this function replaces it.
 compopt() { true; }
 
 . completions/bufr.bash
@@ -52,7 +52,7 @@ offers '--value --message --subset --help --version' map -
 offers '' map --value ''
 
 command -v zsh > /dev/null || { echo "$0: zsh is not there, its completions are skipped" && exit; }
-# A shell in a terminal of its own types the line and a tab, and is then asked what the line has become.
+# Starts zsh in a pseudo-terminal, types the line and a tab there, and prints the completed line.
 cat > "$work/zsh" << 'END'
 zmodload zsh/zpty
 zpty shell zsh -f -i
@@ -65,7 +65,7 @@ zpty -r -m shell line '*shown2:*:*'
 print -r -- ${${line##*shown2:}%%:*}
 zpty -d shell
 END
-# completes BEGUN REST: zsh completes the line that is begun by the rest.
+# completes BEGUN REST: zsh must complete the line BEGUN by adding REST.
 completes() {
     local shown
     shown=$(timeout 30 zsh -f "$work/zsh" "$1") || fail "zsh completes nothing"

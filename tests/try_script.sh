@@ -4,7 +4,7 @@
 . "$(dirname "$0")/lib.sh"
 top=$PWD
 mkdir "$work/bin" "$work/empty"
-# Like `rt try`, it runs a program in a folder with the files that --data names.
+# Like `rt try`, this stand-in runs a program in a directory that contains the files named by --data.
 cat > "$work/bin/rt" << END
 #!/usr/bin/env bash
 set -eu
@@ -22,7 +22,8 @@ exec "$bufr" "\$@"
 END
 chmod +x "$work/bin/rt"
 
-# tried PATH STATUS ERRORS WORD..: with this PATH, try.sh has this status and these errors. Its output is in $work/output.
+# tried PATH STATUS ERRORS WORD..: with this PATH, try.sh must exit with STATUS and print exactly ERRORS on standard error. Its
+# output is in $work/output.
 tried() {
     local path=$1 wanted=$2 errors=$3 status=0
     shift 3

@@ -91,7 +91,7 @@ static void print_items(const struct bufr_input *input, const struct bufr_item *
         }
 }
 
-/* Prints a line for each refused message and each stray. */
+/* Prints a line for each rejected message and each stray. */
 static void print_faults(const struct bufr_message *message, size_t messages) {
     for (; messages > 0; messages--, message++)
         if (message->fault != BUFR_FAULT_NONE)

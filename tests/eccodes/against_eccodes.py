@@ -10,8 +10,9 @@ the output of `bufr dump` and with what ecCodes reads: `bufr_dump -jf` provides 
 `bufr_filter` provides the sections, and numbers with all digits of a double. `bufr encode` then converts the dump back to a
 message, in which ecCodes must read the same values. For files, there are no expected lines; everything else is the same.
 
-If a message differs, it is saved in tests/out/eccodes, the first difference is printed, and the exit status is 1. To test a
-program other than the one that was built, set PROGRAM to its path. This test needs ecCodes, and is not part of the gate.
+If a message differs, it is saved in tests/out/eccodes, the first difference is printed, and the exit status is 1. With
+--differences, the exit status is 1 if a message does not differ. To test a program other than the one that was built, set
+PROGRAM to its path. This test needs ecCodes, and is not part of the gate.
 """
 import collections
 import json
@@ -32,12 +33,12 @@ from lib import BUILT, TABLES, Bits, message, words
 PROGRAM = os.environ.get("PROGRAM", str(BUILT))
 KEPT = TESTS / "out/eccodes"
 
-# the keys of ecCodes for the header lines of a dump, in their order; `optional` has none that says the same
+# ecCodes' keys for the header lines of a dump, in the same order.
 KEYS = """edition masterTableNumber bufrHeaderCentre bufrHeaderSubCentre updateSequenceNumber dataCategory
 internationalDataSubCategory dataSubCategory masterTablesVersionNumber localTablesVersionNumber typicalYear
 typicalMonth typicalDay typicalHour typicalMinute typicalSecond observedData compressedData section2Present
 numberOfSubsets""".split()
-# what stands in their place in edition 3, where it is another key, or nothing, which is 0 in a dump
+# The keys that are different in edition 3. Fields that edition 3 does not have are 0 in a dump.
 KEYS_3 = {
     "internationalDataSubCategory": "[dataSubCategory]",
     "dataSubCategory": "0",
@@ -46,9 +47,9 @@ KEYS_3 = {
 }
 MISSING = -1e100
 
-# What the two are known to read differently: what ecCodes 2.28 does, subsets, flags, descriptors, and the data as
-# number:width. In the first thirteen docs/format.md has the choice that `bufr` goes by; the last eight are limits of
-# ecCodes. random_messages.py draws none of them.
+# Messages that `bufr` and ecCodes are known to read differently. Each row says what ecCodes 2.28 does, and gives the number of
+# subsets, the flags, the descriptors, and the data as NUMBER:WIDTH. In the first thirteen, `bufr` follows a choice that
+# docs/format.md describes; the last eight are limits of ecCodes. random_messages.py generates none of these messages.
 DIFFERENCES = """
 applies 2 01 to replication factors | 1 | 80 | 201132 101000 031001 001001 | 2:8 10:11 11:11
 applies 2 02 to replication factors | 1 | 80 | 202130 101000 031001 001001 | 2:8 10:7 11:7
@@ -75,11 +76,11 @@ truncates some numbers longer than 57 bits | 1 | 80 | 001001 201170 012101 | 1:7
 
 
 class Different(Exception):
-    """Where two readings differ."""
+    """Two readings of a message differ, or one of them failed."""
 
 
 class Reading(NamedTuple):
-    """What a dump says: its header's numbers, its descriptors, and each subset's item lines without comments."""
+    """The contents of a dump: the header's numbers, the descriptors, and the item lines of each subset without comments."""
 
     header: list
     descriptors: list
@@ -87,7 +88,7 @@ class Reading(NamedTuple):
 
 
 class Foreign(NamedTuple):
-    """What ecCodes says: the header's numbers, and of all subsets, one after another, the numbers and the entries."""
+    """The values that ecCodes reads: the numbers in the header, and the numbers and entries of all subsets, in order."""
 
     header: list
     numbers: list
@@ -95,7 +96,7 @@ class Foreign(NamedTuple):
 
 
 def run(words: list, given: bytes = b"") -> bytes:
-    """The output of a command; a refusal is told as a difference."""
+    """Returns the output of a command. Raises Different if the command fails."""
     done = subprocess.run(words, input=given, stdout=subprocess.PIPE, stderr=subprocess.PIPE)
     if done.returncode != 0:
         told = done.stderr.decode("latin-1").strip().splitlines()
@@ -133,24 +134,27 @@ def theirs(path: pathlib.Path) -> Foreign:
 
 
 def chosen(entry: dict, subset: int) -> dict:
-    """The entry of one subset: the value of compressed data is one for all subsets, or a list. Texts are trimmed."""
+    """Returns an entry with its value in one subset, without spaces at the end of a string.
+
+    In compressed data, an entry has either one value for all subsets or a list.
+    """
     value = entry["value"][subset] if isinstance(entry["value"], list) else entry["value"]
     return {**entry, "value": value.rstrip() if isinstance(value, str) else value}
 
 
 def is_text(entry: dict) -> bool:
-    """Whether an entry is a text; its number is then a mark, 1000 times its place and its length."""
+    """Returns whether an entry is a string. The number of a string is 1000 times its index, plus its length."""
     return entry.get("units") == "CCITT IA5" or entry.get("key") == "text"
 
 
 def same_number(token: str, number: float, entry: dict) -> bool:
-    """Whether a double is the decimal but for its rounding, which is that of (raw + reference) / 10^scale."""
+    """Returns whether a double equals the decimal, apart from the rounding errors of (raw + reference) / 10^scale."""
     exact, reference = Fraction(token), Fraction(entry.get("reference", 0)) / Fraction(10) ** entry.get("scale", 0)
     return abs(Fraction(number) - exact) <= (abs(exact) + 2 * abs(reference)) / 2**51
 
 
 def same_item(line: str, number: float, entry: dict, tally: collections.Counter) -> bool:
-    """Whether ecCodes says of an item what its line says."""
+    """Returns whether the item that ecCodes reads is the one on this line."""
     fxy, token = line.split(" ", 1)
     if entry.get("code", fxy) != fxy:
         return False
@@ -166,7 +170,7 @@ def same_item(line: str, number: float, entry: dict, tally: collections.Counter)
 
 
 def compare(reading: Reading, foreign: Foreign, tally: collections.Counter) -> None:
-    """Compares all values of a dump with those of ecCodes, which shows no redefined references."""
+    """Compares all values in a dump with those from ecCodes, which does not show redefined reference values."""
     if reading.header != foreign.header:
         raise Different(f"header {reading.header}, ecCodes {foreign.header}")
     numbers, entries = iter(foreign.numbers), iter(foreign.entries)
@@ -189,12 +193,12 @@ def compare(reading: Reading, foreign: Foreign, tally: collections.Counter) -> N
 
 
 def is_local(line: str) -> bool:
-    """Whether the item is of a descriptor for local use, of which ecCodes shows the number alone."""
+    """Returns whether an item has a descriptor for local use. ecCodes shows only the numbers of these items."""
     return line[0] == "0" and (line[1:3] >= "48" or line[3:6] >= "192")
 
 
 def check(octets: bytes, expected, path: pathlib.Path, tally: collections.Counter) -> None:
-    """All comparisons of one message, which is written to the file."""
+    """Writes a message to the file and makes all comparisons."""
     path.write_bytes(octets)
     text = run([PROGRAM, "dump", *TABLES, str(path)])
     reading = ours(text)
@@ -213,7 +217,7 @@ def check(octets: bytes, expected, path: pathlib.Path, tally: collections.Counte
 
 
 def of_file(name: str):
-    """The messages of a file that `bufr ls` lists, with their names."""
+    """Yields the name and the octets of each message that `bufr ls` lists in a file. There are no expected lines."""
     octets = pathlib.Path(name).read_bytes()
     listed = subprocess.run([PROGRAM, "ls", name], stdout=subprocess.PIPE, stderr=subprocess.DEVNULL).stdout
     for line in listed.decode().splitlines():

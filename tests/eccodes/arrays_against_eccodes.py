@@ -22,14 +22,14 @@ if __name__ == "__main__":
     lib.use_python_with("numpy")
 sys.path.insert(0, str(lib.TOP / "scripts"))
 
-# before against_eccodes, which puts the folder of the tests first, where another bufr_auto.py is
+# Import these before against_eccodes, which puts tests/ first on the path: it contains another bufr_auto.py.
 import bufr
 import bufr_text
 from against_eccodes import Different, Reading, compare, theirs
 
 
 def subsets_of(found: bufr.Items) -> list:
-    """The lines of the items, without names and units, for each subset of each message."""
+    """Returns the lines of the items, without names and units, for each subset of each message."""
     subsets: list = [[[] for _ in range(row["subsets"])] for row in found.messages]
     for index, row in enumerate(found.items):
         item = bufr_text.Item(f"{row['fxy']:06}", found.exact(index), reference=row["kind"] == bufr.REFERENCE)

@@ -21,7 +21,7 @@ sys.path.insert(0, str(TOP / "library/examples"))
 
 import bufr_library
 
-# in the order of the header in a dump, without section 2, which the rows do not show
+# The fields of a row in the order of a dump's header. A row does not say whether the message contains section 2.
 HEADER = """edition master centre subcentre update category subcategory local_subcategory master_version local_version year
 month day hour minute second observed compressed subsets""".split()
 

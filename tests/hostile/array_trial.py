@@ -31,7 +31,7 @@ import random_trial
 
 
 def try_stream(number: int) -> list:
-    """How the two differ on the stream of a number."""
+    """Returns the differences between the two modules on the stream with this number."""
     rng = random.Random(f"array stream {number}")
     with tempfile.TemporaryDirectory(prefix="arrays-") as folder:
         path = pathlib.Path(folder) / "stream"

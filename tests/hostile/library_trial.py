@@ -25,7 +25,7 @@ import bufr_library
 
 
 def try_case(number: int) -> list:
-    """What is wrong in the case of a number."""
+    """Returns what is wrong in the case with this number."""
     c_library.wrongs.clear()
     rng = random.Random(f"library case {number}")
     kind = rng.choices(("stream", "text", "tables"), (60, 25, 15))[0]

@@ -50,18 +50,18 @@ def table_d() -> dict:
 
 
 B, D = table_b(), table_d()
-# what 206 makes of a descriptor that Table B lacks, but for its width
+# A descriptor that is not in Table B becomes this element after 2 06, which also sets its width.
 LOCAL = Element("coded", 0, 0, 0)
 
 # ---------------------------------------------------------------- templates
 
 
 class Unfit(Exception):
-    """A template or a message that is drawn again."""
+    """The template or its data cannot be used, so another message is drawn."""
 
 
 class Field(NamedTuple):
-    """A field of the data as its template describes it; kind is text, number, factor or reference."""
+    """A field of the data, as the template describes it. Its kind is text, number, factor or reference."""
 
     fxy: str
     kind: str
@@ -70,7 +70,7 @@ class Field(NamedTuple):
     reference: int = 0
 
     def missing(self) -> int:
-        """The raw number that says missing, or -1."""
+        """Returns the raw number of a missing value, or -1 if the field cannot be missing."""
         return -1 if self.kind in ("factor", "reference") or self.fxy.startswith("031") else (1 << self.width) - 1
 
 
@@ -80,14 +80,14 @@ def fit(holds: bool) -> None:
 
 
 class Operators:
-    """The operators in force, and how many delayed groups are open."""
+    """The active operators, and the number of delayed replications that are open."""
 
     def __init__(self, widest: int) -> None:
         self.width = self.scale = self.power = self.characters = self.defining = self.given = 0
         self.references, self.widest, self.groups = {}, widest, 0
 
     def take(self, x: int, y: int) -> None:
-        """An operator that takes no bits."""
+        """Applies an operator that has no bits in the data."""
         fit(not self.power if x in (1, 2) else not (x == 7 and (self.width or self.scale or self.references)))
         fit(x != 3 or y in (0, 255) or not (self.references or self.power))
         if x == 1:
@@ -109,7 +109,7 @@ class Operators:
         return Field(fxy, "factor", B[fxy].width)
 
     def field(self, fxy: str) -> Field:
-        """The field of an element."""
+        """Returns the field of an element under the active operators."""
         kind, scale, reference, width = B.get(fxy, LOCAL)
         if self.defining:
             fit(fxy not in self.references)
@@ -128,13 +128,13 @@ class Operators:
 
 
 def signed(raw: int, width: int) -> int:
-    """A reference that the data give: a sign and a magnitude."""
+    """Converts a reference value from the data, which consists of a sign bit and a magnitude."""
     half = 1 << width - 1
     return raw if raw < half else half - raw
 
 
 def walk(descriptors: list, operators: Operators, take) -> None:
-    """Hands each field of a template to `take`, which answers its raw number."""
+    """Passes each field of a template to `take`, which returns its raw number."""
     rest = list(descriptors)
     while rest:
         fxy = rest.pop(0)
@@ -161,14 +161,14 @@ def walk(descriptors: list, operators: Operators, take) -> None:
 
 
 def repeats_alike(body: list, operators: Operators) -> bool:
-    """Whether a delayed group is short, and the operators in force are the same before and behind it."""
+    """Returns whether a delayed group is short, and the same operators are active before and after it."""
     after, fields = copy.deepcopy(operators), []
     walk(body, after, lambda field: fields.append(field) or 1)
     return vars(after) == vars(operators) and len(fields) <= 60
 
 
 def expanded(fxy: str):
-    """The members of a sequence and of those in it, replications as they stand."""
+    """Yields the members of a sequence and of all sequences in it, without expanding replications."""
     for member in D[fxy]:
         yield member
         if member[0] == "3":
@@ -176,7 +176,7 @@ def expanded(fxy: str):
 
 
 def sequence_fits(fxy: str) -> bool:
-    """Whether a sequence is short, Tables B and D have its members, and the operators in it are made here."""
+    """Returns whether a sequence is short, and all its members are in the tables and supported by this file."""
     try:
         members = list(expanded(fxy))
     except KeyError:
@@ -254,7 +254,7 @@ LETTERS = "ABCDEFGHIJKLMNOPQRSTUVWXYZ abcdefghijklmnopqrstuvwxyz 0123456789 .,:;
 
 
 def drawn(rng: random.Random, field: Field) -> int:
-    """A raw number for a field; missing values and the ends of its range come often."""
+    """Draws a raw number for a field. Missing values and the ends of the range are frequent."""
     most = (1 << field.width) - 1
     if field.kind == "factor":
         return rng.randint(0, min(most, 3))
@@ -269,7 +269,7 @@ def drawn(rng: random.Random, field: Field) -> int:
 
 
 def near(rng: random.Random, field: Field, count: int) -> list:
-    """Raw numbers for the subsets of a compressed message: equal, close together, or any."""
+    """Draws raw numbers for the subsets of a compressed message: equal, close together, or arbitrary ones."""
     first = drawn(rng, field)
     way = rng.randrange(3)
     if field.kind in ("factor", "reference") or way == 0 or field.kind == "text" and field.width > 8 * 63:
@@ -282,7 +282,7 @@ def near(rng: random.Random, field: Field, count: int) -> list:
 
 
 def put_packed(bits: Bits, rng: random.Random, field: Field, raws: list) -> None:
-    """An item of compressed data: the least, the width of the increments, the increments."""
+    """Writes an item of compressed data: the minimum, the width of the increments, and the increments."""
     there = [raw for raw in raws if raw != field.missing()]
     if len(set(raws)) == 1 or not there:
         bits.put(raws[0], field.width)
@@ -302,7 +302,7 @@ def put_packed(bits: Bits, rng: random.Random, field: Field, raws: list) -> None
 
 
 def decimal(number: int, scale: int) -> str:
-    """The decimal that a number is at its scale, all digits written."""
+    """Returns number / 10^scale as a decimal with all its digits."""
     if scale <= 0:
         return str(number * 10**-scale)
     digits = str(abs(number)).rjust(scale + 1, "0")
@@ -310,7 +310,7 @@ def decimal(number: int, scale: int) -> str:
 
 
 def line(field: Field, raw: int) -> str:
-    """The line that the dump should have for a field, without its comment."""
+    """Returns the line that the dump should contain for a field, without the comment."""
     if field.kind == "reference":
         return f"R {field.fxy} {signed(raw, field.width)}"
     if raw == field.missing():
@@ -321,7 +321,7 @@ def line(field: Field, raw: int) -> str:
 
 
 def data(rng: random.Random, descriptors: list, subsets: int, compressed: bool):
-    """Data bits for a template, and the lines of each subset."""
+    """Draws data for a template. Returns its octets, and the lines of each subset."""
     bits, lines = Bits(), [[] for _ in range(subsets)]
 
     def take_all(field: Field) -> int:
@@ -360,7 +360,7 @@ class Message(NamedTuple):
 
 
 def section_1(rng: random.Random, optional: bool, edition: int) -> bytes:
-    """Section 1 with any numbers that are a date, and tables of version 39 without local ones."""
+    """Draws section 1 with a valid date and table version 39, without local tables."""
     centre, subcentre, update = rng.randint(1, 254), rng.randint(0, 254), rng.randint(0, 9)
     category, subcategory, local = rng.randint(0, 255), rng.randint(0, 255), rng.randint(0, 255)
     date = [rng.randint(1, 12), rng.randint(1, 28), rng.randint(0, 23), rng.randint(0, 59), rng.randint(0, 59)]
@@ -374,7 +374,7 @@ def section_1(rng: random.Random, optional: bool, edition: int) -> bytes:
 
 
 def message(number: int) -> Message:
-    """The random message of a number."""
+    """Returns the random message with this number."""
     rng = random.Random(number)
     subsets, compressed = rng.choice((1, 1, 2, 3, 7)), rng.random() < 0.4
     while True:

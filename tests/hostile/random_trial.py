@@ -5,10 +5,10 @@
                                                                FIRST: the number of the first case
 
 Each case depends only on its number. A stream or dump contains one or a few messages from examples/ or random_messages.py;
-the tables are WMO's. The trial removes, duplicates and changes octets, drops and swaps lines, and changes values, lengths
-and counts. The program then lists and dumps the stream, or encodes the dump, and must convert the result back:
+the tables are WMO's. The trial removes, duplicates and changes octets, drops and swaps lines, and changes values, lengths,
+counts and table rows. The program then lists and dumps the stream, or encodes the dump, and must convert the result back:
 
-- `ls` and `dump` print one line or text for each message, or one fault;
+- the number of messages plus the number of faults is the same for `ls` and `dump`;
 - the dump of a stream is encoded without a fault, and dumping the result gives the same dump;
 - the encoded messages are no longer than the stream, apart from two octets for each edition 3 message;
 - in the other form, unless fault 58, 59 or 60 is reported, the dump differs only in the `compressed` lines;
@@ -46,7 +46,7 @@ TABLE_D = (TOP / "tables/wmo-39/D.csv").read_bytes().splitlines(keepends=True)
 WMO = tuple(TABLES)
 EXAMPLES = sorted((TOP / "examples").glob("*.bufr"))
 TEXTS = sorted((TOP / "examples").glob("*.txt"))
-# A run's output is read up to here; then its reader goes away.
+# The trial reads at most this many octets of a command's output, and then closes the pipe.
 MOST = 8_000_000
 
 AT = rb"at subset \d+ descriptor \d{6} bit \d+"
@@ -59,11 +59,11 @@ LISTED = re.compile(rb"offset=\d+ length=(\d+) edition=[34] .* descriptors=\d+")
 
 
 class Wrong(Exception):
-    """What the program should not do."""
+    """The program does something incorrect."""
 
 
 class Long(Exception):
-    """More output than is read."""
+    """The program writes more output than the trial reads."""
 
 
 def hold(holds: bool, told: str) -> None:
@@ -75,7 +75,7 @@ def hold(holds: bool, told: str) -> None:
 
 
 def run_once(octets: bytes, arguments: tuple) -> tuple:
-    """Runs the program over these octets: its status, output, errors, whether it had more output, and its seconds."""
+    """Runs the program on these octets. Returns its status, output, errors, whether there was more output, and CPU seconds."""
     with tempfile.TemporaryFile() as source, tempfile.TemporaryFile() as told:
         source.write(octets)
         source.seek(0)
@@ -91,7 +91,7 @@ def run_once(octets: bytes, arguments: tuple) -> tuple:
 
 
 def run(seen: collections.Counter, octets: bytes, *arguments: str) -> tuple:
-    """Runs the program over these octets: its status, output and errors."""
+    """Runs the program on these octets and checks its status and CPU time. Returns its status, output and errors."""
     status, output, errors, is_long, seconds = run_once(octets, arguments)
     of_tables = 210_000 * (arguments[0] != "ls")
     most = 0.1 + 1e-6 * (len(octets) + len(output) + len(errors) + of_tables)
@@ -102,14 +102,14 @@ def run(seen: collections.Counter, octets: bytes, *arguments: str) -> tuple:
         hold(told_so, f"{name}: a closed pipe: {status} {errors[-200:]}")
         raise Long
     hold(status in (0, 1, 2), f"{name}: status {status}: {errors[-200:]}")
-    if seconds > most:  # once more, since other work on the machine counts too
+    if seconds > most:  # run it three more times, because other programs can slow it down
         seconds = min(run_once(octets, arguments)[-1] for _ in range(3))
         hold(seconds <= most, f"{name}: {seconds:.3f} s, over {most:.3f}")
     return status, output, errors
 
 
 def faults_in(seen: collections.Counter, errors: bytes, status: int, name: str) -> int:
-    """How many fault lines of a stream these are."""
+    """Checks the fault lines of a stream and the exit status. Returns the number of fault lines."""
     lines = errors.splitlines()
     for line in lines:
         hold(STREAM_FAULT.fullmatch(line), f"{name}: {line}")
@@ -119,7 +119,7 @@ def faults_in(seen: collections.Counter, errors: bytes, status: int, name: str) 
 
 
 def try_stream(seen: collections.Counter, stream: bytes, tables: tuple, form: str) -> None:
-    """Lists and dumps a stream, and has what is accepted come back."""
+    """Lists and dumps a stream, and checks that the accepted messages round-trip."""
     status, listing, errors = run(seen, stream, "ls")
     faults = faults_in(seen, errors, status, "ls")
     listed = listing.splitlines()
@@ -155,7 +155,7 @@ def try_stream(seen: collections.Counter, stream: bytes, tables: tuple, form: st
 
 
 def try_text(seen: collections.Counter, text: bytes, tables: tuple, form: str) -> None:
-    """Encodes a text, and has what is accepted come back."""
+    """Encodes a dump, and checks that the accepted documents round-trip."""
     formed = ["--form", form] if form else []
     status, octets, errors = run(seen, text, "encode", *tables, *formed)
     if status == 2:
@@ -174,12 +174,12 @@ def try_text(seen: collections.Counter, text: bytes, tables: tuple, form: str) -
     hold(run(seen, dumped, "encode", *tables) == (0, octets, b""), "the octets do not come back")
 
 
-# ---------------------------------------------------------------- what is drawn
+# ---------------------------------------------------------------- random inputs
 
 
 @functools.lru_cache(maxsize=None)
 def whole_stream(number: int) -> bytes:
-    """A stream that is accepted: an example, or a random message."""
+    """Returns an unchanged stream: an example, or the random message with this number."""
     if number < len(EXAMPLES):
         return EXAMPLES[number].read_bytes()
     return random_messages.message(number).octets
@@ -187,17 +187,17 @@ def whole_stream(number: int) -> bytes:
 
 @functools.lru_cache(maxsize=None)
 def whole_text(number: int) -> bytes:
-    """The dump of a stream that is accepted."""
+    """Returns the dump of the unchanged stream with this number."""
     return subprocess.run([PROGRAM, "dump", *WMO], input=whole_stream(number), capture_output=True).stdout
 
 
 def some(rng: random.Random) -> int:
-    """The number of a stream, mostly a random message's."""
+    """Draws the number of a stream, usually that of a random message."""
     return rng.randrange(2000) if rng.random() < 0.8 else rng.randrange(len(EXAMPLES))
 
 
 def odd_octets(rng: random.Random) -> bytes:
-    """What may stand between messages."""
+    """Draws octets to put between messages."""
     odd = (b"", b"", b"\r\r\n", b"BUFR", b"BUFR\0\0\x0B\x04", b"BUFR\xFF\xFF\xFF\x04", b"7777", rng.randbytes(9))
     return rng.choice(odd)
 
@@ -231,7 +231,7 @@ def stamped(rng: random.Random, octets: bytes) -> bytes:
 
 
 def lengths_in(octets: bytes) -> list:
-    """The places of a message's lengths: its own and those of its sections, as far as they can be told."""
+    """Returns the positions of a message's length and of its sections' lengths, as far as these can be found."""
     places, at = [], octets.find(b"BUFR")
     if at < 0 or at + 20 > len(octets):
         return places
@@ -244,7 +244,7 @@ def lengths_in(octets: bytes) -> list:
 
 
 def mislaid(rng: random.Random, octets: bytes) -> bytes:
-    """With a length turned."""
+    """Changes one of the lengths in a message."""
     places = lengths_in(octets)
     if not places:
         return octets
@@ -261,7 +261,7 @@ ODD_WORDS = """000000 001001 001015 012101 031000 031001 031002 031011 063255 10
 
 
 def resectioned(rng: random.Random, octets: bytes) -> bytes:
-    """A message with other contents in a section, and all lengths right."""
+    """Changes the contents of a section, and makes all lengths correct."""
     places = lengths_in(octets)[1:]
     if len(places) < 3 or octets[:4] != b"BUFR":
         return flipped(rng, octets)
@@ -290,7 +290,7 @@ def resectioned(rng: random.Random, octets: bytes) -> bytes:
 
 
 def stream_of(rng: random.Random) -> bytes:
-    """A hostile stream."""
+    """Draws a hostile stream."""
     pieces = []
     for _ in range(rng.choice((1, 1, 1, 2, 3))):
         message = whole_stream(some(rng))
@@ -311,7 +311,7 @@ ODD_TOKENS = [
 
 
 def other_token(rng: random.Random, line: bytes) -> bytes:
-    """A line with another word in it, or a value that is a little different."""
+    """Replaces a word in a line, or changes the last digit of a number."""
     tokens = line.split(b" ")
     at = min(rng.choice((0, 1, 1, 1, 2)), len(tokens) - 1)
     if re.fullmatch(rb"-?[0-9.]*[0-9]", tokens[at]) and rng.random() < 0.6:
@@ -322,7 +322,7 @@ def other_token(rng: random.Random, line: bytes) -> bytes:
 
 
 def relined(rng: random.Random, text: bytes) -> bytes:
-    """A text with a line dropped, doubled, swapped, changed, or another one put in."""
+    """Drops, repeats, swaps or changes a line of a dump, or inserts a new one."""
     lines = text.split(b"\n")
     at, other = rng.randrange(len(lines)), rng.randrange(len(lines))
     way = rng.randrange(8)
@@ -340,7 +340,7 @@ def relined(rng: random.Random, text: bytes) -> bytes:
 
 
 def text_of(rng: random.Random) -> bytes:
-    """A hostile text."""
+    """Draws a hostile dump."""
     text = b"".join(whole_text(some(rng)) for _ in range(rng.choice((1, 1, 1, 2, 3))))
     for _ in range(rng.choice((0, 1, 1, 1, 2, 3))):
         text = rng.choice((cut, flipped, doubled, *[relined] * 12))(rng, text)
@@ -353,14 +353,14 @@ code_table " a"b x""".split()
 
 
 def other_row(rng: random.Random, row: bytes) -> bytes:
-    """A row of a table with another cell."""
+    """Replaces a cell in a row of a table."""
     cells = row.rstrip(b"\r\n").split(b",")
     cells[rng.randrange(len(cells))] = rng.choice(ODD_CELLS).replace("_", " ").encode()
     return b",".join(cells) + b"\n"
 
 
 def table_of(rng: random.Random, rows: list, used: set) -> bytes:
-    """A hostile table: mostly rows that a message uses are changed."""
+    """Draws a hostile table. Most of the changed rows are ones that the message uses."""
     rows = list(rows)
     near = [place for place, row in enumerate(rows) if row[:6] in used] or [0]
     for _ in range(rng.choice((1, 1, 2, 5))):
@@ -379,7 +379,7 @@ def table_of(rng: random.Random, rows: list, used: set) -> bytes:
 
 
 def tables_of(rng: random.Random, text: bytes, folder: pathlib.Path) -> tuple:
-    """Hostile tables for a text: Table B, Table D, or both."""
+    """Writes tables for a dump, of which Table B, Table D or both are hostile. Returns the options that name them."""
     used = set(re.findall(rb"\b[03]\d{5}\b", text))
     which = rng.choice(("B", "D", "BD"))
     for name, rows in (("B", TABLE_B), ("D", TABLE_D)):
@@ -391,7 +391,7 @@ def tables_of(rng: random.Random, text: bytes, folder: pathlib.Path) -> tuple:
 
 
 def try_case(number: int) -> tuple:
-    """Tries the case of a number: what was seen, and what is wrong or nothing."""
+    """Tries the case with this number. Returns counts of what happened, and what is wrong (empty if nothing is)."""
     rng, seen = random.Random(f"case {number}"), collections.Counter()
     kind = rng.choices(("streams", "texts", "tables"), (50, 35, 15))[0]
     form = rng.choice(("", "", "plain", "compressed"))

@@ -1,4 +1,4 @@
-"""Makes edits that shorten the proof of a lemma. Most of them fail; the checker finds out which do not."""
+"""Makes edits that shorten the proof of a lemma. Most of them fail; the checker finds out which ones pass."""
 import re
 import sys
 from typing import Iterator, NamedTuple
@@ -6,25 +6,25 @@ from typing import Iterator, NamedTuple
 from lemmas import NAME, SIGNATURE, Declaration, ProofFile
 from line_width import OF_PROOFS, broken
 
-Change = tuple[int, int, str]  # where the old text begins and ends, and the new text
+Change = tuple[int, int, str]  # the start and end of the old text, and the new text
 Edit = tuple[Change, ...]
 
 LET = re.compile(r"(?<![^\s(\[{])let(?=\s)|(?<=\s)in(?=\s|$)")
 TACTIC = re.compile(r"(?<![^\s(\[{])(omega|grind|search|cc|simp) (?=\()")
 PATH = re.compile(r"(?<![^\s(\[{,←])c\.[^\s(){}\[\],;]+")
 WORD = re.compile(r"[^\s(){}\[\],;.`]+")
-MOST_CITED = 5  # facts of a tactic that takes the place of a term: with more, nobody sees which step fails
-LEAST_SAVED = 20  # characters: such a tactic says less than the term, so it has to be clearly shorter
-MOST_INLINE = 40  # characters: a longer `let` is not written where it is used, since that is harder to read
-LEAST_MERGED = 150  # characters that have to be saved if a tactic does the work of several clauses
-SHORT = 150  # characters: such a record, tuple or chain shows the whole proof
-SHORT_CALL = 100  # characters: so does such a lemma with its arguments
-MOST_HIDDEN = 3  # lemmas that a tactic may find beside those that it names; a tactic that names none may find one
-MOST_IDLE = 1  # `let`s that no text of the proof mentions, because a tactic finds them in scope
+MOST_CITED = 5  # facts in a tactic that replaces a term: with more, it is hard to see which step fails
+LEAST_SAVED = 20  # characters: a tactic shows less than the term that it replaces, so it must be clearly shorter
+MOST_INLINE = 40  # characters: a longer `let` is not inlined, because that would be harder to read
+LEAST_MERGED = 150  # characters that a tactic must save if it replaces several clauses
+SHORT = 150  # characters: a shorter record, tuple or chain shows the whole proof
+SHORT_CALL = 100  # characters: so does a shorter call of a lemma
+MOST_HIDDEN = 3  # lemmas that a tactic may use without naming them; a tactic that names none may use only one
+MOST_IDLE = 1  # `let`s that the proof does not mention, because a tactic finds them in scope
 
 
 def depths(text: str) -> list[int]:
-    """The number of brackets that are open before each character, and at the end."""
+    """Returns the number of open brackets before each character and at the end."""
     found, depth = [], 0
     for char in text:
         depth -= char in ")]}"
@@ -44,7 +44,7 @@ def is_balanced(text: str) -> bool:
 
 
 def split(text: str, mark: str) -> list[tuple[int, str]]:
-    """The parts of a text between the marks that are in no bracket, each with its place."""
+    """Splits a text at the marks that are outside brackets. Returns each part with its position."""
     depth, parts, start = depths(text), [], 0
     for at, char in enumerate(text):
         if char == mark and depth[at] == 0:
@@ -54,14 +54,14 @@ def split(text: str, mark: str) -> list[tuple[int, str]]:
 
 
 def equals(text: str) -> int:
-    """The place after the first ` =` that is in no bracket, or -1."""
+    """Returns the position after the first ` =` outside brackets, or -1."""
     depth = depths(text)
     found = (found.end() for found in re.finditer(r"\s=(?=\s|$)", text) if depth[found.start()] == 0)
     return next(found, -1)
 
 
 def argument_end(text: str, at: int) -> int:
-    """The end of the argument that begins at a place."""
+    """Returns the end of the argument that begins at this position."""
     if at < len(text) and text[at] in "([{":
         depth = depths(text[at:])
         close = next((place for place in range(1, len(depth)) if depth[place] == 0), len(text) - at - 1)
@@ -72,7 +72,7 @@ def argument_end(text: str, at: int) -> int:
 
 
 def bare(text: str) -> str:
-    """A term without the brackets around all of it."""
+    """Returns a term without the parentheses that enclose the whole term."""
     text = " ".join(text.split())
     while text.startswith("(") and argument_end(text, 0) == len(text) and text.endswith(")"):
         text = text[1:-1].strip()
@@ -80,11 +80,11 @@ def bare(text: str) -> str:
 
 
 class Let(NamedTuple):
-    """`let name : type = value in`, by its places. The text from `start` to `end` is the whole, with the space after it."""
+    """The positions in `let name : type = value in`. The text from `start` to `end` includes the white space after `in`."""
 
     name: str
     start: int
-    colon: int  # where ` : type` begins, or where it would
+    colon: int  # where ` : type` begins, or would begin
     value: int
     value_end: int
     end: int
@@ -114,7 +114,7 @@ def mentions(text: str, name: str) -> list[int]:
 
 
 def arguments(signature: str) -> list[tuple[str, str]]:
-    """The explicit arguments of a lemma: a name, or nothing for a hypothesis, and the type."""
+    """Returns the name and type of each explicit argument of a lemma. The name of a hypothesis is empty."""
     flat = " ".join(line.strip() for line in signature.split("\n") if not line.strip().startswith("unfolding "))
     found = SIGNATURE.match(flat)
     text, made = flat[found.end() :] if found else "", []
@@ -134,7 +134,7 @@ RELATIONS = {"≡": "is", "<": "below", "≤": "most", "≢": "is_not", "∈": "
 
 
 def hypothesis_name(statement: str) -> str:
-    """A name that says what a hypothesis is, such as `h_below`, or h_ and its first word."""
+    """Returns a name for a hypothesis: `h_`, its first word and, if known, its relation, such as `h_width_below`."""
     found = next((RELATIONS[word] for word in statement.split() if word in RELATIONS and "→" not in statement), "")
     first = re.search(r"[A-Za-z]\w*", statement)
     word = re.sub(r"(?<=[a-z])(?=[A-Z])", "_", first[0]).lower() if first else "holds"
@@ -159,7 +159,7 @@ def clauses(lemma: Declaration, body: str) -> list[Clause]:
 
 
 def patterns(text: str) -> list[str]:
-    """The arguments that a clause takes, without those in braces."""
+    """Returns the arguments of a clause, without those in braces."""
     made, at = [], 0
     while at < len(text):
         if text[at].isspace():
@@ -173,7 +173,7 @@ def patterns(text: str) -> list[str]:
 
 
 def one_head(file: ProofFile, lemma: Declaration, body: str, found: list[Clause]) -> str:
-    """The left side of a single clause in place of several, or nothing if its arguments have no good names."""
+    """Returns the left side of one clause that replaces several, or an empty string if there are no good argument names."""
     start = len("  " if lemma.block >= 0 else "") + len(lemma.name)
     taken = [patterns(body[one.start + start : one.value].rstrip()[:-1]) for one in found]
     wanted = arguments(file.signature(lemma))
@@ -190,13 +190,13 @@ def one_head(file: ProofFile, lemma: Declaration, body: str, found: list[Clause]
 
 
 def items(text: str, at: int) -> list[tuple[int, str]]:
-    """The items of the list in brackets that begins at a place."""
+    """Returns the items, with their positions, of the bracketed list that begins at this position."""
     end = argument_end(text, at)
     return [(at + 1 + place, item) for place, item in split(text[at + 1 : end - 1], ",")]
 
 
 def facts_of(text: str) -> list[str]:
-    """What a proof cites: the items of its tactics' lists, and the paths of its record of facts."""
+    """Returns the facts that a proof cites: the items in its tactics' lists, and the fields of its record of facts."""
     bound = {one.name for one in lets(text)}
     found = [item.strip() for tactic in TACTIC.finditer(text) for _, item in items(text, tactic.end())[1:]]
     words = [item for item in found + PATH.findall(text) if item not in bound and item != "common_steps" and not TACTIC.search(item)]
@@ -204,7 +204,7 @@ def facts_of(text: str) -> list[str]:
 
 
 def chain_facts(text: str) -> list[str]:
-    """The equations of a chain of `∙`, `sym` and `ap`, without these."""
+    """Returns the equations in a chain of `∙`, `sym` and `ap`."""
     found = []
     for _, part in split(text, "∙"):
         part = bare(part)
@@ -217,7 +217,7 @@ def chain_facts(text: str) -> list[str]:
 
 
 def forms(text: str, citable: set[str]) -> list[str]:
-    """Shorter proofs to try in place of a term, the shortest first."""
+    """Returns shorter proofs to try in place of a term, shortest first."""
     words = [word for word in dict.fromkeys(WORD.findall(text)) if word in citable]
     sets = ["nat_tests"] if "nat_tests" in text else []
     lemmas, facts = ", ".join([*sets, *words[:MOST_CITED]]), ", ".join(facts_of(text)[:MOST_CITED])
@@ -239,7 +239,7 @@ def forms(text: str, citable: set[str]) -> list[str]:
 
 
 def strong_edits(file: ProofFile, lemma: Declaration, body: str) -> Iterator[Edit]:
-    """Replaces the proof of all clauses, of one clause, or of what follows its `let`s by a tactic."""
+    """Yields edits that replace the proof of all clauses, of one clause, or of the part after its `let`s with a tactic."""
     citable, found = file.citable(lemma), clauses(lemma, body)
     if len(found) > 1:
         head = one_head(file, lemma, body, found)
@@ -263,8 +263,8 @@ def strong_edits(file: ProofFile, lemma: Declaration, body: str) -> Iterator[Edi
 
 
 def weak_edits(file: ProofFile, lemma: Declaration, body: str) -> Iterator[Edit]:
-    """Removes a `let` or an item of a list, or shortens what they contain. The type of a `let` that stays says what the step
-    proves, so it stays too."""
+    """Yields edits that remove, inline or shorten a `let` or an item of a list, or replace `subst` with `rw`. A `let` that
+    remains keeps its type, because the type says what the step proves."""
     citable = file.citable(lemma)
     for one in lets(body):
         text = body[one.value : one.value_end]
@@ -283,7 +283,7 @@ def weak_edits(file: ProofFile, lemma: Declaration, body: str) -> Iterator[Edit]
     for tactic in TACTIC.finditer(body):
         found = items(body, tactic.end())
         optional = [one for one in found if one[1].strip() not in ("arith", "rules")]
-        if tactic[1] == "omega":  # a field of a record, or a step of the proof, says where a bound comes from
+        if tactic[1] == "omega":  # a field of a record or a step of the proof shows where a bound comes from
             optional = [one for one in optional if "." not in one[1] and one[1].strip() not in steps]
         if len(optional) > 1 and len(optional) < len(found):
             yield tuple((place - 1, place + len(item), "") for place, item in optional)
@@ -305,7 +305,7 @@ def weak_edits(file: ProofFile, lemma: Declaration, body: str) -> Iterator[Edit]
 
 
 def without_repeats(body: str) -> str:
-    """The body without facts that a tactic's list repeats."""
+    """Returns the body without the facts that are repeated in a tactic's list."""
     for tactic in reversed(list(TACTIC.finditer(body))):
         found = items(body, tactic.end())
         for number, (place, item) in reversed(list(enumerate(found))):
@@ -315,7 +315,7 @@ def without_repeats(body: str) -> str:
 
 
 def applied(body: str, edit: Edit) -> str:
-    """The body after an edit, without doubled brackets and facts, and with no line that is too long."""
+    """Returns the body after an edit, without double brackets, repeated facts or lines that are too long."""
     for start, end, new in sorted(edit, reverse=True):
         body = body[:start] + new + body[end:]
     body = re.sub(r"(?<![^\s(\[{])(omega|grind|search|simp|rw) \(([^\s(){}\[\],;.]+)\)", r"\1 \2", body)
@@ -325,12 +325,15 @@ def applied(body: str, edit: Edit) -> str:
 
 
 def key_of(body: str, edit: Edit) -> tuple[tuple[str, str], ...]:
-    """What an edit replaces by what, and after what: if it failed, it would fail in a later body too."""
+    """Returns a key for an edit: the old text with its context, and the new text.
+
+    If an edit failed, an edit with the same key would fail in a later body too.
+    """
     return tuple((body[max(0, start - 60) : end], new) for start, end, new in edit)
 
 
 def ending(text: str) -> str:
-    """What follows the `let`s of a clause."""
+    """Returns the part of a clause after its `let`s."""
     at = len(text) - len(text.lstrip())
     for one in lets(text):
         at = one.end if one.start == at else at
@@ -342,7 +345,7 @@ BARE = re.compile("(grind|search) (arith|rules|.arith, common_steps.)$")
 
 
 def hides_steps(old: str, new: str, citable: set[str]) -> bool:
-    """Whether a tactic takes the place of a term that says more."""
+    """Returns whether the new proof hides steps that the old one shows."""
     if old == new:
         return False
     if SEARCH.match(old):
@@ -362,12 +365,12 @@ def hides_steps(old: str, new: str, citable: set[str]) -> bool:
 
 
 def idle(text: str) -> int:
-    """The number of `let`s in a clause that nothing mentions."""
+    """Returns the number of `let`s in a clause that are not mentioned after they are defined."""
     return sum(not mentions(re.sub(r"\b(?=\.)", " ", text[one.end :]), one.name) for one in lets(text))
 
 
 def is_harder(file: ProofFile, lemma: Declaration, old: str, new: str) -> bool:
-    """Whether a reader would rather keep the old proof, although the new one is shorter."""
+    """Returns whether the new proof is harder to read than the old one."""
     before, after = ([body[one.value : one.end].strip() for one in clauses(lemma, body)] for body in (old, new))
     if len(before) != len(after):
         return len(old) - len(new) < LEAST_MERGED and not re.search("= (cc|omega arith)$", new)
@@ -383,7 +386,7 @@ def is_harder(file: ProofFile, lemma: Declaration, old: str, new: str) -> bool:
 
 
 def shorter(file: ProofFile, lemma: Declaration, body: str, is_first: bool) -> list[tuple[Edit, str]]:
-    """The edits that make a body shorter and no harder to read, with what they make of it."""
+    """Returns the edits that make a body shorter and no harder to read, each with the resulting body."""
     made: dict[str, Edit] = {}
     for edit in [*strong_edits(file, lemma, body), *([] if is_first else weak_edits(file, lemma, body))]:
         text = applied(body, edit)
@@ -393,7 +396,7 @@ def shorter(file: ProofFile, lemma: Declaration, body: str, is_first: bool) -> l
 
 
 def merged(edits: list[Edit]) -> Edit:
-    """The edits that do not overlap, those that save most first."""
+    """Combines edits that do not overlap. If two overlap, the one that saves more is used."""
     made: list[Change] = []
     for edit in sorted(edits, key=lambda one: sum(len(new) - (end - start) for start, end, new in one)):
         if all(end <= first or last <= start for start, end, _ in edit for first, last, _ in made):

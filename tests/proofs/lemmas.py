@@ -7,18 +7,18 @@ from antt import parts_of, tokens
 NAME = r"[^\s(){}\[\],;.:=`]+"
 SIGNATURE = re.compile(rf"( *)((?:(?:pub|abbrev|unfoldable|rec) )*)({NAME})(?: \{{[^}}]*\}})? :(?: |$)")
 OTHER = re.compile(r"(?:(?:pub|unfoldable) )*(record|data|ruleset) ([^\s({:]+)")
-# A lemma whose type ends in one of these would be a definition.
+# A declaration whose type ends in one of these is a definition, not a lemma.
 DATA = {"Type", "ℕ", "ℤ", "Bool", "List", "Option", "Result", "Char", "String"}
 
 
 class Declaration(NamedTuple):
-    """Lines first to last - 1 declare names. A lemma's clauses begin at line `clauses`."""
+    """Lines `first` to `last` - 1, which declare these names. The clauses of a lemma begin at line `clauses`."""
 
     names: list[str]
     first: int
     clauses: int
     last: int
-    block: int  # the first line of the `module _` that it is in, or -1
+    block: int  # the first line of the `module _` that contains it, or -1
     is_lemma: bool
 
     @property
@@ -27,12 +27,12 @@ class Declaration(NamedTuple):
 
 
 class ProofFile:
-    """The declarations of a file in their order."""
+    """The imports and declarations of a proof file, in order."""
 
     def __init__(self, text: str) -> None:
         self.lines = text.split("\n")
         self.uses = [line.removeprefix("pub ") for line in self.lines if re.match("(pub )?use ", line)]
-        self.blocks: dict[int, int] = {}  # the first line of each `module _`, and the line after its head
+        self.blocks: dict[int, int] = {}  # from the first line of each `module _` to the line after its head
         self.declarations: list[Declaration] = []
         self.read()
 
@@ -60,7 +60,10 @@ class ProofFile:
             at += 1
 
     def end(self, at: int, margin: str, own: str = "") -> int:
-        """The first line from `at` that is not indented by more than the margin, nor a clause of `own`."""
+        """Returns the end of the declaration that continues at line `at`, without blank lines after it.
+
+        Its lines are indented more than the margin, close a bracket at the margin, or begin a clause of `own`.
+        """
         last = at
         while at < len(self.lines):
             line = self.lines[at]
@@ -93,7 +96,7 @@ class ProofFile:
         return self.text(lemma.clauses, lemma.last)
 
     def imported(self) -> dict[str, str]:
-        """Each name that the file imports, with the module that it is from."""
+        """Returns each imported name with the module that it comes from."""
         found = {}
         for line in self.uses:
             module, _, names = line.removeprefix("use ").partition(".{")
@@ -102,7 +105,7 @@ class ProofFile:
         return found
 
     def citable(self, lemma: Declaration) -> set[str]:
-        """The names of lemmas that a proof of this lemma can cite."""
+        """Returns the names of the lemmas that a proof of this lemma can cite."""
         found = {one.name for one in self.declarations if one.is_lemma and one.first < lemma.first}
         for name, module in self.imported().items():
             is_common = module.endswith("Common") and "-" not in name and name != "append_assoc"
@@ -111,7 +114,10 @@ class ProofFile:
         return found - {"common_steps", "arith", "nat_tests", "rules", "refl", "sym", "ap", "subst", lemma.name}
 
     def alone(self, module: str, lemma: Declaration, body: str) -> str:
-        """A module that states a lemma by itself, with a proof. It is below the module of this file, from which it imports."""
+        """Returns a submodule of this file that proves only this lemma.
+
+        It imports the declarations that it needs from the file, and copies those that are in the same `module _`.
+        """
         used, copied = tokens(self.signature(lemma) + "\n" + body), [self.signature(lemma) + "\n" + body]
         if lemma.block >= 0:
             for one in reversed(self.declarations):
@@ -133,7 +139,7 @@ class ProofFile:
         return "\n".join([*self.uses, *imports, "", *copied]) + "\n"
 
     def changed(self, bodies: dict[str, str]) -> str:
-        """The text of the file with other bodies for some lemmas, and with the imports that they need."""
+        """Returns the text of the file with new bodies for some lemmas and with the imports that these need."""
         lines = list(self.lines)
         for lemma in reversed(self.declarations):
             if lemma.is_lemma and lemma.name in bodies:
@@ -141,7 +147,7 @@ class ProofFile:
         return with_imports(lines, set(self.imported()) | tokens("\n".join(line.partition("--")[0] for line in self.lines if not is_use(line))))
 
 
-# What the shorter proofs name, and where it is.
+# Names that the shorter proofs use, with the modules that define them.
 SETS = {"arith": "Rattle.std.proofs.Common", "rules": "Rattle.std.proofs.Common", "refl": "Rattle.std.proofs.Common", "common_steps": "Rattle.std.proofs.lemmas.Grind"}
 
 
@@ -150,7 +156,7 @@ def is_use(line: str) -> bool:
 
 
 def with_imports(lines: list[str], known: set[str]) -> str:
-    """The text of these lines with the imports that they need, besides the names that are known."""
+    """Returns these lines as one text, with imports for the names in SETS that they use and that are not known."""
     used = tokens("\n".join(line.partition("--")[0] for line in lines if not is_use(line)))
     for name in SETS.keys() & used - known:
         start = f"use {SETS[name]}.{{"

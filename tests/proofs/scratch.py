@@ -12,8 +12,8 @@ from typing import NamedTuple
 from antt import Bad, crates
 from lib import TOP
 
-# Each module ends with a lemma that must pass and one that must be refused. If the checker does not refuse the last one,
-# it did not read the module.
+# Each module ends with a lemma that must pass and one that must be rejected. If the checker does not reject the last one, it
+# did not read the module.
 NEEDS = (
     "use Rattle.std.proofs.Common.{◌≡◌, zero, suc, refl, arith, rules}\n"
     "use Rattle.std.proofs.lemmas.Grind.{common_steps}\n"
@@ -48,14 +48,14 @@ class Run(NamedTuple):
 
 
 class Report(NamedTuple):
-    proved: bool  # the functions that were asked for, and all that they rest on
+    proved: bool  # whether the requested functions and everything that they depend on are proved
     outcomes: list[Outcome]
-    errors: list[tuple[str, int, str]]  # those in other files: the file, the line and the message
+    errors: list[tuple[str, int, str]]  # errors in other files: the file, the line and the message
     output: str
 
 
 def libraries(crate: str) -> list[str]:
-    """All crates that one depends on, directly or not."""
+    """Returns all crates that a crate depends on, directly or indirectly."""
     found: list[str] = []
     for used in crates()[crate]:
         found += [one for one in [used, *(libraries(used) if used in crates() else [])] if one not in found]
@@ -63,12 +63,12 @@ def libraries(crate: str) -> list[str]:
 
 
 def function(file: pathlib.PurePath) -> str:
-    """The function whose proof a file is in. A cycle of calls has no name of its own, so its module or type stands for it."""
+    """Returns the function whose proof is in this file, or the module or type of a cycle of calls, which has no name."""
     return "::".join(part for part in file.parent.parts if not part.startswith("+"))
 
 
 class Scratch:
-    """A copy of a crate in which proofs are tried. The checkout itself is only read."""
+    """A copy of a crate in which proofs are tried. In the original crate, only `out/shrink` is changed."""
 
     def __init__(self, crate: str, file: pathlib.PurePath, rlibs: pathlib.Path | None, prefix: list[str]) -> None:
         self.crate, self.rlibs, self.prefix, self.rounds = crate, rlibs, prefix, 0
@@ -78,10 +78,10 @@ class Scratch:
         self.kept = TOP / "crates" / crate / "out/shrink"
         self.kept.mkdir(parents=True, exist_ok=True)
         self.lock = open(self.kept / "lock", "w", encoding="utf-8")
-        fcntl.flock(self.lock, fcntl.LOCK_EX)  # another run on this crate would disturb the times
+        fcntl.flock(self.lock, fcntl.LOCK_EX)  # another run on this crate would affect the times
         self.path = self.top / "proofs" / file
         self.module = ".".join(["Rattle", crate, "proofs", *file.with_suffix("").parts])
-        self.users: list[str] = []  # modules that are checked too
+        self.users: list[str] = []  # modules to check as well
         self.root = "src/main.rt" if (self.top / "src/main.rt").is_file() else "src/lib.rt"
         self.is_answer = file.stem in ("Answers", "Invariants")
         if self.is_answer:
@@ -94,7 +94,7 @@ class Scratch:
             (self.top / "proofs/shrink_law/shrink_law").mkdir(parents=True)
 
     def add_user(self, path: pathlib.Path) -> None:
-        """Checks another proof file of the copy too."""
+        """Makes each check include another proof file of the copy."""
         parts = path.relative_to(self.top / "proofs").with_suffix("").parts
         if parts[-1] in ("Answers", "Invariants"):
             self.asked.append(function(path.relative_to(self.top / "proofs")))
@@ -106,7 +106,7 @@ class Scratch:
         self.lock.close()
 
     def words(self) -> list[str]:
-        """The command that checks what is asked for."""
+        """Returns the command that checks the requested functions."""
         rt = shutil.which("rt")
         if not rt:
             raise Bad("rt is not on the PATH")
@@ -127,7 +127,7 @@ class Scratch:
         return [*words, "--logic-built", f"{kit}/logic_built", "--incremental", str(self.kept), "--jobs", "1"]
 
     def check(self, text: str, modules: list[str]) -> Report:
-        """Checks the file with this text, and modules below it. Raises Bad if there is no verdict."""
+        """Checks the file with this text, and these modules below it. Raises Bad if the checker gives no verdict."""
         self.rounds += 1
         names = [f"Tried{os.getpid()}x{self.rounds}x{number}" for number in range(len(modules))]
         below = self.path.with_suffix("")
@@ -169,7 +169,7 @@ class Scratch:
         return Report(proved, outcomes, [one for one in errors if "/Tried" not in one[0]], ran.output)
 
     def times(self, names: list[str], began: float) -> dict[str, float]:
-        """The seconds that each module took. The checker writes a file for each module as soon as it has checked it."""
+        """Returns the seconds that each module took. As soon as the checker has checked a module, it writes a file for it."""
         written = []
         for path in self.kept.rglob("*.oantt"):
             changed = path.stat().st_mtime
@@ -181,7 +181,7 @@ class Scratch:
 
 
 def run(words: list[str], folder: pathlib.Path) -> Run:
-    """Runs a command in a process group of its own, and ends all of the group if this program is stopped."""
+    """Runs a command in its own process group, and kills the whole group if this program is interrupted."""
     with subprocess.Popen(words, cwd=folder, stdout=subprocess.PIPE, stderr=subprocess.STDOUT, start_new_session=True) as process:
         try:
             output, _ = process.communicate()

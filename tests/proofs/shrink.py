@@ -5,9 +5,9 @@
     tests/proofs/shrink.py --apply FILE.antt..          change the files
     tests/proofs/shrink.py --unused [FILE.antt..]       list unused lemmas (default: in all proof files)
 
-FILE is a file in the proofs/ of a crate: a file of lemmas, Answers.antt or Invariants.antt. Its crate must be proved, and the
-crates below it built (`rt lib`). The tool works in a copy of the crate. With --apply, it replaces each file only after all of
-that file's changes pass, so an interrupted run leaves no file half changed.
+FILE is in the proofs/ directory of a crate: a file of lemmas, Answers.antt or Invariants.antt. The crate must be proved, and
+the crates below it built (`rt lib`). The tool works in a copy of the crate. With --apply, it replaces each file only after all
+of that file's changes pass, so an interrupted run leaves no file half changed.
 
 For each lemma, the tool makes shorter proofs: one tactic in place of a term, fewer `let`s, shorter lists. Each of them is put
 in its own module, and one check tries up to 300 of them. If several shorter proofs of a lemma pass, the next round tries all of
@@ -40,15 +40,15 @@ from scratch import Scratch  # noqa: E402
 
 MOST_TRIALS = 300  # in one check
 LEAST_ROUND = 100  # characters: a round that saves less is the last one
-SLOWER = 2.0  # how many times its old time a proof may take
+SLOWER = 2.0  # a new proof may take this many times as long as the old one
 MOST_ADDED = 1.0  # seconds that the new proofs of a file may add
-CLOCK = 0.012  # seconds: differences below this say nothing
+CLOCK = 0.012  # seconds: smaller differences are not significant
 
 
 class Trial(NamedTuple):
     lemma: str
     body: str
-    edit: Edit  # none for the old proof, and for edits that are tried together
+    edit: Edit  # empty for the old proof, and for edits that are tried together
 
 
 def is_slow(old: float, new: float) -> bool:
@@ -56,18 +56,18 @@ def is_slow(old: float, new: float) -> bool:
 
 
 class Search:
-    """What is known of a lemma: its shortest proof so far, and what has been tried."""
+    """The search for a shorter proof of a lemma: the shortest proof so far, and everything that has been tried."""
 
     def __init__(self, lemma: Declaration, body: str) -> None:
         self.lemma, self.old, self.body = lemma, body, body
         self.options = {body: 0.0}  # proofs that pass, with the seconds that they add
-        self.measured = {body}  # those of them that were timed more than once
+        self.measured = {body}  # proofs in `options` that were timed more than once
         self.tried: set[object] = {body}
-        self.together: list[str] = []  # bodies that have several edits
+        self.together: list[str] = []  # bodies with several edits to try
         self.is_done, self.rounds, self.note = False, 0, ""
 
     def trials(self, file: ProofFile) -> list[Trial]:
-        """Shorter proofs that have not been tried. If there are none, the search is done."""
+        """Returns shorter proofs that have not been tried. If there are none, the search is finished."""
         made = self.untried(file)
         if not made and self.rounds == 0:
             self.rounds = 1
@@ -76,7 +76,7 @@ class Search:
         return made
 
     def drop(self) -> None:
-        """Takes back the proof that is chosen, and never chooses it again."""
+        """Discards the chosen proof for good, and chooses the shortest of the others."""
         del self.options[self.body]
         self.body = min(self.options, key=len)
 
@@ -91,7 +91,7 @@ class Search:
         return made
 
     def learn(self, passed: dict[Trial, float]) -> None:
-        """Takes the shortest proof that passed, and puts the other edits that passed in line."""
+        """Chooses the shortest proof that passed. The edits that passed can be tried again, alone and together."""
         base, edits = self.body, [one.edit for one in passed if one.edit]
         self.options |= {one.body: added for one, added in passed.items()}
         self.body = min(self.options, key=len)
@@ -120,7 +120,7 @@ class Shrinker:
         return [line for path in (TOP / "crates").glob("*/proofs/**/*.antt") for line in path.read_text(encoding="utf-8").splitlines()]
 
     def judge(self, trials: list[Trial]) -> list[tuple[bool, float]]:
-        """Checks the trials in one run. Each verdict comes with the seconds that the proof took."""
+        """Checks the trials in one run. For each one, returns whether it passed and how many seconds it took."""
         modules = [""] + [self.file.alone(self.scratch.module, self.searches[one.lemma].lemma, one.body) for one in trials]
         report = self.scratch.check(self.text, modules)
         self.number += len(trials)
@@ -171,12 +171,12 @@ class Shrinker:
         return {name: one.body for name, one in self.searches.items() if one.body != one.old}
 
     def added(self) -> float:
-        """The seconds that the chosen proofs add."""
+        """Returns the seconds that the chosen proofs add."""
         return sum(one.options[one.body] for one in self.searches.values())
 
     def choose(self) -> None:
-        """Takes short proofs that together add at most MOST_ADDED seconds. It begins with the shortest of each lemma, and goes
-        on to a longer one where a character saves most time."""
+        """Chooses short proofs that together add at most MOST_ADDED seconds. Starts with the shortest proof of each lemma, and
+        then replaces proofs with longer ones, beginning with those that save the most time per character."""
         for one in self.searches.values():
             one.body = min(one.options, key=len)
         while self.added() > MOST_ADDED:
@@ -189,8 +189,8 @@ class Shrinker:
             self.searches[name].body = body
 
     def measure(self) -> bool:
-        """Times each chosen proof three times beside the old one, and drops those that are too slow. Returns whether there
-        was one that had not been timed like this."""
+        """Times each chosen proof that has not been measured, three times in turn with the old one. Drops proofs that are too
+        slow. Returns whether there were any proofs to time."""
         names = [name for name, one in self.searches.items() if one.body not in one.measured]
         pairs = [Trial(name, body, ()) for name in names for body in (self.searches[name].old, self.searches[name].body) * 3]
         for start in range(0, len(pairs), MOST_TRIALS):
@@ -206,7 +206,7 @@ class Shrinker:
         return bool(names)
 
     def whole(self) -> str:
-        """The text of the file with all changes that pass together in time."""
+        """Returns the text of the file with all changes that pass together and are not too slow."""
         while True:
             self.choose()
             while self.measure():
@@ -224,7 +224,7 @@ class Shrinker:
                 self.searches[name].drop()
 
     def wrong_lemmas(self, text: str, lines: list[int]) -> set[str]:
-        """The changed lemmas at these lines."""
+        """Returns the names of the changed lemmas at these lines."""
         changed = self.bodies()
         return {one.name for one in ProofFile(text).declarations for line in lines if one.first < line <= one.last and one.name in changed}
 
@@ -246,7 +246,7 @@ class Shrinker:
         if applies:
             if self.path.read_text(encoding="utf-8") != self.text:
                 raise Bad(f"{self.name} was changed meanwhile")
-            new = self.scratch.kept / "new"  # in the same file system, so that the file changes at once
+            new = self.scratch.kept / "new"  # in the same file system, so that the file is replaced in one step
             new.write_text(text, encoding="utf-8")
             os.replace(new, self.path)
         else:
@@ -258,11 +258,11 @@ class Shrinker:
         )
 
 
-# ---------------------------------------------------------------- lemmas that nothing names
+# ---------------------------------------------------------------- unused lemmas
 
 
 def without(text: str, names: set[str]) -> str:
-    """The text of a file without some of its lemmas, and without the comments directly above them."""
+    """Returns the text of a file without some of its lemmas and the comments directly above them."""
     file = ProofFile(text)
     lines = list(file.lines)
     for one in reversed(file.declarations):
@@ -275,7 +275,7 @@ def without(text: str, names: set[str]) -> str:
 
 
 def without_imports(text: str, module: str, names: set[str]) -> str:
-    """The text of a file that no longer imports some names from a module."""
+    """Returns the text of a file without its imports of these names from a module."""
 
     def kept(found: re.Match[str]) -> str:
         left = [name for name in found[2].split(", ") if name.partition(" as ")[0] not in names]
@@ -285,7 +285,7 @@ def without_imports(text: str, module: str, names: set[str]) -> str:
 
 
 def unused_names() -> dict[pathlib.Path, set[str]]:
-    """The lemmas of each proof file that are named only where they are stated, in imports, or by other such lemmas."""
+    """Returns the unused lemmas in each proof file. Only their own text, imports, or other unused lemmas mention them."""
     folder = TOP / "crates"
     others = [*folder.glob("*/src/**/*.rt"), *folder.glob("*/specs/**/*.antt"), *folder.glob("*/must-fail/*.edit")]
     words: dict[str, int] = {}
@@ -322,7 +322,7 @@ def unused_names() -> dict[pathlib.Path, set[str]]:
 
 
 def check_unused(path: pathlib.Path, names: set[str], asked: argparse.Namespace) -> str:
-    """Whether a file and its users in the crate are proved without some of its lemmas: nothing, or what the checker says."""
+    """Checks a file and its users in the crate without some of its lemmas. Returns the errors, or an empty string."""
     crate, _, *rest = path.relative_to(TOP / "crates").parts
     scratch = Scratch(crate, pathlib.PurePath(*rest), asked.rlibs, shlex.split(asked.prefix))
     try:

@@ -22,7 +22,7 @@ def content(name: str) -> bytes:
 
 
 def unlike(program: list, case: dict) -> list:
-    """What the program answers otherwise."""
+    """Runs a case and returns how the results differ from the expected ones."""
     words = [*program, *case["words"].split()]
     pipe = subprocess.PIPE
     try:
