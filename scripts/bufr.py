@@ -390,6 +390,7 @@ def frame(
     column whose descriptor occurs only in the replication that you want. To add an element that occurs once in a subset, such
     as the station number 001002, pass it in `keep`. The repetitions of a group whose count is fixed by the template are not
     levels; to get their values, use columns such as `"013011:2"` without `levels=True`, or use `items`.
+    `bufr_text.levels` describes how the levels are inferred from the items.
 
     For an empty list of files, the result has no rows. With `faults="ignore"`, there is no warning, so you can use
     `bufr.frame([], columns, header, faults="ignore")` as `meta` in Dask.

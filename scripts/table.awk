@@ -19,10 +19,11 @@
 # replications, choose a first column whose descriptor occurs only in the replication that you want. The columns in `keep`
 # apply to the whole subset and come before the other columns.
 #
-# A dump does not mark where passes begin. The first pass begins right after the factor. Each later pass begins at the next
-# item with the descriptor that began the first pass, so a pass with two equal halves counts as two passes. A replication inside
-# a pass belongs to that pass. A subset is skipped if it has no levels, or if its levels are ambiguous because the
-# descriptor that begins a pass also occurs inside one.
+# A dump does not mark where passes begin and end. The first pass begins right after the factor. Each later pass begins at the
+# next item with the descriptor that began the first pass, so a pass with two equal halves counts as two passes, and later passes
+# are lost. The last pass is as long as the one before it. If there is only one pass, or if passes contain replications, the last
+# pass extends to the next factor or to the end of the subset. A replication inside a pass belongs to that pass. A subset is
+# skipped if it has no levels, or if its levels are ambiguous because the descriptor that begins a pass also occurs inside one.
 #
 # Strings are quoted, and trailing spaces are dropped. Strings contain the same escapes as in a dump (\", \\, \xHH). A
 # missing value is an empty field. With json=1, each row is a JSON object, a missing value is null, and \xHH becomes the
