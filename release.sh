@@ -10,6 +10,7 @@
 # unchanged. With the same commit, program and linker, every run makes identical files, in any directory and for any user.
 # Uncommitted changes are left out. The proof needs a few GB in TMPDIR (default: /tmp), and the library needs a C compiler.
 set -eu -o pipefail
+unset CDPATH  # with CDPATH, `cd` could enter another clone
 export LC_ALL=C
 
 die() {

@@ -4,6 +4,7 @@
 #
 #     ./try.sh FILE
 set -eu
+unset CDPATH  # with CDPATH, `cd` could enter another clone
 [ $# -eq 1 ] || { echo "usage: $0 FILE" >&2; exit 2; }
 command -v rt > /dev/null || { echo "$0: the toolchain (rt) is not on PATH; README.md says which toolchain you need" >&2; exit 1; }
 file=$(realpath -e -- "$1")

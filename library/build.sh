@@ -47,6 +47,7 @@ command -v rt > /dev/null || die 'the toolchain (rt) is not on PATH'
 kit=$(dirname "$(rt doc)")
 work=$(mktemp -d)
 trap 'rm -r "$work"' EXIT
+trap 'exit 1' HUP INT TERM
 
 # deps CRATE: prints the libraries that crates.txt lists for this crate.
 deps() { sed -n "s/^$1\( staticlib\)\{0,1\}: *//p" "$top/crates.txt"; }

@@ -80,7 +80,9 @@ class Conditions:
             raise ValueError(f"the value in '{word}' can never match; write it in the form {form}")
         pattern = f"(^| ){key}=({'|'.join(values)})([ T:/-]|$)"
         if key == "time" and not negated:
-            of_century = [f"00{year[2:]}" for year in values if f"00{year[2:4]}" not in {value[:4] for value in values}]
+            # Edition 3 stores 2000 as 0 or 100.
+            stored = [f"00{year[2:]}" for year in values] + [f"0100{year[4:]}" for year in values if year[2:4] == "00"]
+            of_century = [year for year in dict.fromkeys(stored) if year[:4] not in {value[:4] for value in values}]
             if of_century:
                 # The pattern also matches edition 3 messages, so that they can be counted before they are left out.
                 self.asked = self.asked or word

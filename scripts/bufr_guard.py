@@ -50,6 +50,8 @@ INTERVAL = 60
 NOWHERE = float("inf")
 # The processes that were started but have not been waited for.
 RUNNING: list[list[int]] = []
+# The files to remove if a signal ends the script.
+UNFINISHED: list[str] = []
 # Types of files that contain no messages, by the first bytes of the file. Some texts name a program that reads the type.
 KINDS_OF_FILES = {
     b"\x1f\x8b": "gzip data (use zcat)",
@@ -161,6 +163,8 @@ def hook(_kind: Type[BaseException], error: BaseException, _place: Optional[Trac
 
 def answer(question: str, text: str) -> int:
     """Prints the help or the version as UTF-8, regardless of the locale, and returns the exit status."""
+    if question == "--help" and not text:
+        raise Failed("the help is not available, because PYTHONOPTIMIZE=2 removes it")
     if question == "--help":
         output().write(text.strip().encode() + b"\n")
         return 0
@@ -203,7 +207,7 @@ def reason(error: BaseException) -> str:
         is_named = isinstance(error.filename, (str, bytes))
         if is_named:
             return f"{os.fsdecode(error.filename)}: {error.strerror}"
-        is_write = error.errno in (errno.EPIPE, errno.ENOSPC, errno.EFBIG, errno.EDQUOT, errno.EBADF)
+        is_write = error.errno in (errno.EPIPE, errno.ENOSPC, errno.EFBIG, errno.EDQUOT, errno.EBADF, errno.EAGAIN)
         return f"write failed: {error.strerror}" if is_write else error.strerror
     if isinstance(error, RuntimeError) and str(error) == "can't start new thread":
         return "cannot start a thread; free some memory, or raise the process limit (ulimit -u)"
@@ -384,6 +388,8 @@ def start(words: Sequence[str], given: int = 0, output: int = 1, errors: int = 2
         process.extend(map(spawn, [words[0]], [list(words)], [os.environ]))
     except OSError as error:
         advice = "; install bufr, or set BUFR to its path" if words[0] == program() else ""
+        if error.errno == errno.EAGAIN:
+            advice = "; raise the process limit (ulimit -u)"
         raise Failed(f"cannot run {words[0]}: {error.strerror}{advice}") from None
     return process[0]
 
@@ -432,7 +438,9 @@ def checked(status: int, has_told: bool = True, what: str = "bufr") -> int:
     if status > 128:
         raise Failed(f"{what} was killed (signal {status - 128}); output is incomplete")
     if status not in (0, 1, 2) or (status == 2 and not has_told):
-        raise Failed(f"{what} exited with status {status}; output is incomplete")
+        # What the program prints on standard error may be in a temporary file.
+        hint = f"; if {folder_of_temporary()} is full, set TMPDIR to another directory" if status == 2 else ""
+        raise Failed(f"{what} exited with status {status}; output is incomplete{hint}")
     return status
 
 
@@ -450,9 +458,14 @@ def kill(processes: Iterable[int]) -> None:
 
 
 def leave(number: int, _frame: Optional[FrameType]) -> None:
-    """Kills the programs that are still running and then ends this script with the signal that it received."""
+    """Kills the programs that are still running, removes unfinished files, and then ends this script with this signal."""
     signal.signal(signal.SIGUSR1, signal.SIG_IGN)  # bufr-csv uses this signal to report that awk has stopped
     stop()
+    for path in UNFINISHED:
+        try:
+            os.unlink(path)
+        except OSError:
+            pass  # it is finished, or was not begun
     Progress.clear()
     signal.signal(number, signal.SIG_DFL)
     os.kill(os.getpid(), number)

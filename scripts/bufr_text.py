@@ -511,6 +511,11 @@ def levels(
     column contains the value of the first item with its descriptor in the level. Each column in `keep` contains the value of
     the first item with its descriptor in the whole subset. In all other respects, `levels` works like `rows`.
 
+    A dump does not mark where levels begin and end, so `levels` infers this from the items. A level begins with the
+    descriptor that begins the first level, so a level that consists of two equal halves counts as two levels, and later
+    levels are lost. The last level is as long as the one before it. If there is only one level, or if levels contain
+    replications, the last level extends to the next replication or to the end of the subset.
+
     A subset is skipped if it has no levels, or if its levels are ambiguous because the descriptor that begins a level
     occurs again in the same level. After the last row, a `DumpWarning` for each of these two reasons says how many subsets
     were skipped and where the first of them is.
@@ -1006,6 +1011,8 @@ class _Told:
         for line in errors.splitlines():
             fault, note = _FAULT.fullmatch(line), _NOTE.fullmatch(line)
             if fault:
+                if int(fault[1]) not in offsets:
+                    raise RunError(2, "the file has changed while it was being read; try again")
                 offset = offsets[int(fault[1])]
                 refused[offset] = Fault(offset, int(fault[2]), fault[3].decode(), self.name)
             else:

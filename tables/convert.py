@@ -290,6 +290,7 @@ def work(words: list) -> int:
     out.mkdir(parents=True, exist_ok=True)
     # Both tables are written under temporary names first, so that a failure leaves an earlier set unchanged.
     tables = {out / name: out / f".{name}.{os.getpid()}" for name in ("B.csv", "D.csv")}
+    bufr_guard.UNFINISHED += map(str, tables.values())
     try:
         for (path, aside), header, rows in zip(
             tables.items(), (OURS_B, OURS_D), ((elements[fxy] for fxy in sorted(elements)), members)

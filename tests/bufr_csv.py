@@ -516,7 +516,8 @@ def failures(folder: pathlib.Path) -> None:
     holds("awk ends early", done.returncode == 2 and len(lines) == 1 and lines[0].endswith(b"gone stopped before the end of its input; output is incomplete"), done)
     silent = script("silent", "cat > /dev/null; exit 2")
     done = run("-c", "001015", SYNOP, awk=[silent])
-    told = f"bufr-csv: {silent} exited with status 2; output is incomplete\n".encode()
+    hint = f"; if {os.environ.get('TMPDIR') or '/tmp'} is full, set TMPDIR to another directory"
+    told = f"bufr-csv: {silent} exited with status 2; output is incomplete{hint}\n".encode()
     holds("awk fails without a word", (done.returncode, done.stderr) == (2, told), done)
     done = run("-c", "001015", SYNOP, awk=["/nosuch/awk"])
     told = b"bufr-csv: cannot run /nosuch/awk: No such file or directory\n"

@@ -237,6 +237,11 @@ def tells_years_of_the_century(folder: pathlib.Path) -> None:
         want((done.returncode, done.stdout) == (0, wanted), f"{words} takes other messages")
         told = f"bufr-extract: left out {told}\n" if told else ""
         want(done.stderr.decode() == told, f"{words} prints {done.stderr}")
+    path.write_bytes(of(3, 0, 1) + of(3, 100, 1))  # both years mean 2000
+    done = run(["time=2000", path])
+    told = f"bufr-extract: left out 2 edition 3 messages{two_digits} time=2000,0000,0100\n"
+    want((done.stdout, done.stderr.decode()) == (b"", told), f"time=2000 prints {done.stderr}")
+    want(run(["time=2000,0000,0100", path]).stdout == path.read_bytes(), "time=2000,0000,0100 leaves out edition 3 messages")
 
 
 def tells_that_there_is_no_message(path: pathlib.Path) -> None:

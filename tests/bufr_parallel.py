@@ -88,6 +88,8 @@ def same_as_one_run(program: str, folder: pathlib.Path) -> None:
     with (folder / "text").open("ab") as text:
         subprocess.run([*PARALLEL, "dump", *TABLES, path], stdout=text, stderr=subprocess.DEVNULL)
     want((folder / "text").read_bytes() == one[1], "onto the end of a file something else is written")
+    with path.open("rb") as stream:
+        want(run([*PARALLEL, "dump", *TABLES, "-", "-"], stdin=stream) == one, "standard input is read twice")
     empty = run([*PARALLEL, "dump", *TABLES], stdin=subprocess.DEVNULL)
     told = b"bufr-parallel: standard input contains no messages: it is empty\n"
     want(empty == (0, b"", told), f"of nothing comes {empty}")
@@ -113,6 +115,16 @@ def tells_what_fails(program: str, folder: pathlib.Path) -> None:
         run([*PARALLEL, "dump", *swapped, path]) == run([program, "dump", *swapped, path]),
         "swapped tables are told otherwise",
     )
+    replaced = folder / "replaced.bufr"
+    replaced.write_bytes((lib.TOP / "examples/synop.bufr").read_bytes() * 20_000)  # over several parts
+    (folder / "other.bufr").write_bytes(bytes(replaced.stat().st_size))
+    pipes = dict(stdout=subprocess.PIPE, stderr=subprocess.PIPE)
+    with subprocess.Popen([*PARALLEL, "-P", "1", "dump", *TABLES, replaced], **pipes) as child:
+        child.stdout.read(1)
+        (folder / "other.bufr").replace(replaced)
+        errors = child.communicate()[1].decode()
+    told = f"bufr-parallel: {replaced} was replaced while it was being read; try again\n"
+    want((child.returncode, errors) == (2, told), f"a replaced file ends with {child.returncode}: {errors}")
     want(
         run([*PARALLEL, "dump", *TABLES, "nosuch"]) == (2, b"", b"bufr-parallel: cannot open nosuch: No such file or directory\n"),
         "a missing file is told otherwise",

@@ -273,7 +273,7 @@ def killed(trial: Trial) -> None:
                     holds(f"{trial.name}: {command} and {how}", trial.name in ("bufr-extract", "bufr-lacks"), done)
     if trial.name == "bufr-parallel":  # it buffers fault lines in a file, and the disk may be too full for the last one
         done = trial.run([SYNOP], environment=trial.program('if [ "$1" = ls ]; then printf "offset 2" >&2; exit 2; fi'))
-        told = "bufr-parallel: bufr exited with status 2; output is incomplete\n"
+        told = f"bufr-parallel: bufr exited with status 2; output is incomplete; if {trial.environment['TMPDIR']} is full, set TMPDIR to another directory\n"
         holds("bufr-parallel, a fault line that is cut", (done.returncode, done.stderr.decode()) == (2, told), done)
     done = trial.run([SYNOP], environment={"BUFR": "/nosuch"})
     trial.fails("no program", done, "cannot run /nosuch: No such file or directory")
