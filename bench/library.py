@@ -91,7 +91,7 @@ def eccodes(work: pathlib.Path):
 
 def main(folder: str, name: str, megabytes: str = "20", program: str = str(BUILT)) -> None:
     octets = pathlib.Path(name).read_bytes()
-    times = int(megabytes) * 1_000_000 // len(octets)
+    times = max(10, int(megabytes) * 1_000_000 // len(octets))  # ecCodes reads a tenth
     with tempfile.TemporaryDirectory() as place:
         stream, tenth = pathlib.Path(place) / "stream", pathlib.Path(place) / "tenth"
         stream.write_bytes(octets * times)
