@@ -6,7 +6,7 @@
 #     ./release.sh --unproved PROGRAM [DIST]      packs this program, without the C library, and records in BUILD that
 #                                                 it is unproved
 #
-# The files are written to the directory DIST (default: dist). If a step fails or is interrupted, the files there remain
+# The files are written to the directory DIST (default: dist). If a step fails or is interrupted, any files there remain
 # unchanged. With the same commit, program and linker, every run makes identical files, in any directory and for any user.
 # Uncommitted changes are left out. The proof needs a few GB in TMPDIR (default: /tmp), and the library needs a C compiler.
 set -eu -o pipefail

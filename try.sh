@@ -1,6 +1,6 @@
 #!/bin/sh
 # Dumps a BUFR file with a trial build of the program. This takes one or two minutes, and does not prove or install anything.
-# The dump must be smaller than 1 MiB, and the tables are always those of version 39.
+# The dump must be smaller than 1 MiB, and the tables are always those for version 39.
 #
 #     ./try.sh FILE
 set -eu

@@ -1,6 +1,6 @@
-//! A hand-written lister in plain Rust, as a baseline for `bufr ls`. It maps the file, searches for
-//! messages 64 octets at a time, checks the sections, and writes the same lines through one buffer. It has
-//! no proofs or tests, and cannot read from a pipe.
+//! A hand-written lister in plain Rust, as a baseline for `bufr ls`. It maps the file into memory, searches
+//! for messages 64 octets at a time, checks the sections, and writes the same lines as `bufr ls` through one
+//! buffer. It has no proofs or tests, and cannot read from a pipe.
 mod by_hand;
 use by_hand::{mapped, Message, Messages, Out, Pen};
 

@@ -1,5 +1,5 @@
-//! Code that the hand-written lister, dumper and encoder share: it maps files, finds messages in them, and
-//! reads section 1, tables and the steps of descriptor lists. It also contains a buffered output.
+//! Code shared by the hand-written lister, dumper and encoder. It maps files into memory, finds messages,
+//! reads section 1 and the tables, expands descriptor lists into steps, and buffers output.
 #![allow(dead_code)] // each program uses only part of it
 use std::cell::{Cell, OnceCell};
 use std::fs::File;
@@ -11,7 +11,7 @@ extern "C" {
     fn mmap(at: *mut u8, length: usize, access: i32, flags: i32, file: i32, offset: i64) -> *mut u8;
 }
 
-/// Maps a file and returns its octets.
+/// Maps a file into memory and returns its octets.
 pub fn mapped(name: &str) -> &'static [u8] {
     let file = File::open(name).expect("a file that opens");
     let length = file.metadata().expect("its length").len() as usize;
@@ -31,7 +31,7 @@ pub fn number(octets: &[u8]) -> usize {
 
 // ---------------------------------------------------------------- the output
 
-/// The buffer is flushed when it contains this many octets. LINE is the maximum length of a line.
+/// The buffer is flushed as soon as it contains at least HELD octets. LINE is the maximum length of a line.
 const HELD: usize = 1 << 16;
 const LINE: usize = 1 << 13;
 
@@ -48,11 +48,12 @@ pub fn blocks(text: &[u8]) -> Vec<Block> {
     text.chunks(32).map(filled).collect()
 }
 
-/// The digit `0` eight times.
+/// Eight `0` digits.
 const ZEROS: u64 = 0x3030_3030_3030_3030;
 
-/// Returns the eight digits of a number below 100,000,000, the first one in the lowest octet, as values
-/// from 0 to 9. Computes them in parallel: first two numbers of four digits, then four of two, then eight.
+/// Returns the eight digits of a number below 100,000,000 as values from 0 to 9, with the first digit in the
+/// lowest octet. Splits the number into two four-digit numbers, then into four two-digit numbers, and then
+/// into digits. Each step handles all parts in parallel.
 #[inline(always)]
 fn eight_digits(n: u32) -> u64 {
     let fours = u64::from(n / 10_000) | u64::from(n % 10_000) << 32;
@@ -65,8 +66,8 @@ fn eight_digits(n: u32) -> u64 {
 /// The buffer in which lines are built.
 type Room = [u8; HELD + LINE];
 
-/// Writes lines to a buffer. It has its own copy of the position, so that the compiler can keep it in a
-/// register.
+/// Writes lines to a buffer. A pen has its own copy of the write position, so that the compiler can keep the
+/// position in a register.
 pub struct Pen<'r> {
     room: &'r mut Room,
     at: usize,
@@ -117,7 +118,7 @@ impl Pen<'_> {
         }
     }
 
-    /// Writes a number below 100,000,000 with at least `least` digits, the last `after` of them after a point.
+    /// Writes a number below 100,000,000 with at least `least` digits, and a point before the last `after`.
     #[inline(always)]
     fn put_decimal(&mut self, n: u32, after: u32, least: u32) {
         let digits = eight_digits(n);
@@ -146,7 +147,7 @@ impl Pen<'_> {
     }
 }
 
-/// Writes n / 10^scale as a decimal, for any n and any scale in the tables. Returns the position after it.
+/// Writes n / 10^scale as a decimal, for any n and any scale in the tables. Returns the new write position.
 #[cold]
 fn put_long(room: &mut Room, at: usize, n: u64, scale: i32) -> usize {
     let mut pen = Pen { room, at };
@@ -167,7 +168,7 @@ fn put_long(room: &mut Room, at: usize, n: u64, scale: i32) -> usize {
     pen.at
 }
 
-/// A buffered output. The buffer is flushed to a file.
+/// A buffered writer to a file.
 pub struct Out {
     room: Box<Room>,
     at: usize,
@@ -175,7 +176,7 @@ pub struct Out {
 }
 
 impl Out {
-    /// Writes to a file descriptor that is already open: 1 is standard output, 2 is standard error.
+    /// Returns a writer to an open file descriptor: 1 is standard output, 2 is standard error.
     pub fn to(descriptor: i32) -> Out {
         let room = vec![0; HELD + LINE].into_boxed_slice().try_into().expect("of this size");
         let file = ManuallyDrop::new(unsafe { File::from_raw_fd(descriptor) });
@@ -251,7 +252,7 @@ fn find(octets: &[u8], from: usize) -> Option<usize> {
     octets[at..].windows(4).position(|four| four == b"BUFR").map(|ahead| at + ahead)
 }
 
-/// Writes a fault line: the offset, `text`, the number `inside` (if there is one), and `rest`.
+/// Writes a fault line: the offset, `text`, the number `inside` (if any), and `rest`.
 fn put_fault(out: &mut Out, offset: usize, text: &str, inside: Option<u8>, rest: &str) {
     out.line(|pen| {
         pen.put(b"offset ");
@@ -357,7 +358,7 @@ impl Messages {
     }
 }
 
-/// Returns the length of section 1 without octets for local use.
+/// Returns the length of a section 1 that contains no octets for local use.
 pub fn least_first(edition: u8) -> usize {
     if edition == 3 { 17 } else { 22 }
 }
@@ -408,8 +409,8 @@ impl Message {
 
 // ---------------------------------------------------------------- the header of a text
 
-/// The texts before the numbers in a header, each of which begins with a line feed. They are padded to 24
-/// octets; the second number of each pair is the length of the text.
+/// The text before each number in a header. Each text begins with a line feed and is padded to 24 octets.
+/// The second member of each pair is the length of the text without the padding.
 pub const KEYS: [([u8; 24], usize); 19] = padded_keys();
 
 const fn padded_keys() -> [([u8; 24], usize); 19] {
@@ -433,19 +434,20 @@ const fn padded_keys() -> [([u8; 24], usize); 19] {
 
 // ---------------------------------------------------------------- the tables
 
-/// The properties of an element that are needed to read and write the lines of its items.
+/// The properties of an element that are needed to read and write the lines of items.
 pub struct Element {
     /// The descriptor's six digits and a space, with the first digit in the lowest octet.
     pub fxy: u64,
-    /// The comment at the end of the line, and the line feed.
+    /// The comment at the end of the line, including the line feed.
     pub comment: Vec<u8>,
     pub blocks: Vec<Block>,
     pub is_text: bool,
     pub scale: i32,
-    /// The reference value in Table B, or a redefined one until the end of a subset.
+    /// The reference value from Table B or, until the end of a subset, a redefined one.
     pub reference: Cell<i64>,
     pub width: u32,
-    /// The raw number that means missing: all ones or, if no number does, one that does not fit in a field.
+    /// The raw number that means missing: all ones or, for elements without a missing value, a number that
+    /// does not fit in the field.
     pub missing: u64,
 }
 
@@ -500,11 +502,11 @@ fn element(row: &[u8]) -> Element {
     }
 }
 
-/// An item of a template. If it is a replication factor, `group` is repeated. If `new` is not 0, the item
-/// is a redefined reference value of `new` bits, which replaces `old` until the end of the subset.
+/// An item of a template. If the item is a replication factor, `group` is repeated. If `new` is not 0, the
+/// item is a redefined reference value of `new` bits, which replaces `old` until the end of the subset.
 pub struct Step<'t> {
     pub element: &'t Element,
-    /// Whether it is neither of these nor a string.
+    /// Whether the item is not a replication factor, a redefined reference value or a string.
     pub is_number: bool,
     pub group: Vec<Step<'t>>,
     pub new: u32,

@@ -2,17 +2,17 @@
 """Counts instructions and simulated cache misses on small streams, and compares them with instructions.csv.
 
     bench/count_instructions.py [PROGRAM]             fails if a count is too high
-    bench/count_instructions.py --update [PROGRAM]    writes the file
+    bench/count_instructions.py --update [PROGRAM]    writes instructions.csv
 
 PROGRAM is crates/bufr/out/bufr by default. The script counts with Valgrind; if it is not installed, the script prints a note
 and counts nothing. Valgrind simulates caches of fixed sizes, so the counts hardly depend on the machine.
 
-The counts are per item: per line of an element or, for `ls`, per message; in the "stray words" rows, per stray. The counts of
-the same command without input are subtracted first; the "no input" rows contain these counts.
+Each count is an average per item. An item is a line of an element or, for `ls`, a message; in the "stray words" rows, it is a
+stray. The counts of the same command without input are subtracted first; the "no input" rows contain these counts.
 
 The script fails if a count is more than 1.1 times the one in the file. The file contains the cache misses of reads, but not
 those of writes, because writes rarely slow a program down. Before the script compares cache misses, it adds 1 to both counts,
-because small counts vary. It also prints the misses of writes, the instruction cache and the branch predictor, but does not
+because small counts vary. It also prints write misses, instruction cache misses and mispredicted branches, but does not
 compare them; the last two depend on where the compiler places the code.
 """
 import concurrent.futures
@@ -29,7 +29,7 @@ import generate
 from lib import TABLES, finish, program
 
 FILE = pathlib.Path(__file__).parent / "instructions.csv"
-# The counts, and the Callgrind events that each of them adds up.
+# The counts, and the Callgrind events that are added up for each of them.
 COUNTED = {
     "instructions": ["Ir"],
     "L1 misses": ["D1mr"],
@@ -60,7 +60,7 @@ def run(words: list, given: bytes) -> bytes:
 
 
 def counted(words: list, given: bytes) -> list:
-    """Returns the counts of a run. Exits if Valgrind counts nothing."""
+    """Returns the counts of a run. Exits if the run fails or Valgrind counts nothing."""
     with tempfile.NamedTemporaryFile("r") as log, tempfile.TemporaryFile() as stream:
         stream.write(given)
         stream.seek(0)

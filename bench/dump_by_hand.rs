@@ -1,9 +1,10 @@
-//! A hand-written dumper in plain Rust, as a baseline for `bufr dump`. It maps the file and writes the same
-//! text for plain and compressed messages in editions 3 and 4. It prepares the beginning and the end of each
-//! line, reuses a template while the descriptors stay the same, and builds a line of compressed data only
-//! once if all subsets share it. Templates can contain elements, replications, sequences and 2 03; in
-//! compressed data, neither 2 03 nor delayed replication is supported. Section 2 is not supported either.
-//! Numbers must fit in 64 bits. The only check of the data is whether they end too early. It has no proofs.
+//! A hand-written dumper in plain Rust, as a baseline for `bufr dump`. It maps the file into memory and
+//! writes the same text as `bufr dump` for plain and compressed messages in editions 3 and 4. It prepares the
+//! beginning and the end of each line, reuses a template while the descriptors stay the same, and builds a
+//! line of compressed data only once if all subsets share it. Templates can contain elements, replications,
+//! sequences and 2 03; in compressed data, neither 2 03 nor delayed replication is supported. Section 2 is
+//! not supported either. Numbers must fit in 64 bits. The only check of the data is that they do not end too
+//! early. The dumper has no proofs.
 mod by_hand;
 use by_hand::{blocks, end_subset, least_first, mapped, number, KEYS};
 use by_hand::{Block, Element, Message, Messages, Out, Pen, Step, Tables};
@@ -134,7 +135,7 @@ fn put_subset(out: &mut Out, subset: usize) {
     });
 }
 
-/// Writes a redefined reference value, and uses it from now on.
+/// Writes a redefined reference value, and uses it from then on.
 fn put_reference(out: &mut Out, step: &Step, raw: u64) {
     let reference = step.reference(raw);
     step.element.reference.set(reference);
@@ -146,7 +147,7 @@ fn put_reference(out: &mut Out, step: &Step, raw: u64) {
     });
 }
 
-/// Writes the items that begin at bit `at`. Returns the bit after them.
+/// Writes the items that begin at bit `at`. Returns the position of the bit after them.
 fn put_plain(out: &mut Out, data: &[u8], mut at: usize, steps: &[Step]) -> usize {
     for step in steps {
         let element = step.element;
@@ -169,7 +170,7 @@ fn put_plain(out: &mut Out, data: &[u8], mut at: usize, steps: &[Step]) -> usize
     at
 }
 
-/// Writes a group the given number of times. Returns the bit after it.
+/// Writes a group the given number of times. Returns the position of the bit after the last one.
 #[inline(never)]
 fn put_group(out: &mut Out, data: &[u8], at: usize, group: &[Step], times: u64) -> usize {
     (0..times).fold(at, |at, _| put_plain(out, data, at, group))
@@ -186,7 +187,7 @@ struct Column<'t> {
     missing: u64,
 }
 
-/// Reads the item at a bit. Returns it and the bit after it.
+/// Reads the item that begins at bit `at`. Returns the item and the position of the bit after it.
 fn column<'t>(out: &mut Out, data: &[u8], at: usize, element: &'t Element, subsets: usize) -> (Column<'t>, usize) {
     let first = at + element.width as usize + 6;
     let mut step = field(data, first - 6, 6) as u32 * if element.is_text { 8 } else { 1 };
@@ -217,7 +218,7 @@ fn put_short_text(pen: &mut Pen, data: &[u8], at: usize, many: usize, whole: usi
     put_octets(pen, if is_missing { &octets[..many] } else { &octets[..whole] });
 }
 
-/// Writes one subset's value of an item that has increments.
+/// Writes the value of one subset for an item with increments.
 #[inline(always)]
 fn put_increased(out: &mut Out, data: &[u8], column: &Column, subset: usize) {
     let (element, at) = (column.element, column.at + subset * column.step as usize);

@@ -1,13 +1,13 @@
-//! A hand-written encoder in plain Rust, as a baseline for `bufr encode`. It maps the text, reads it once,
-//! and writes the same octets for the output of `bufr dump`, plain or compressed, in editions 3 and 4. It
-//! reuses a template while the descriptors stay the same. Templates can contain elements, replications,
-//! sequences and 2 03; in compressed data, neither 2 03 nor delayed replication is supported. Section 2 and
-//! comments between the lines are not supported either. Numbers must fit in 64 bits. Invalid input makes it
-//! panic. It has no proofs.
+//! A hand-written encoder in plain Rust, as a baseline for `bufr encode`. It maps a text into memory and
+//! reads it once. For the output of `bufr dump`, plain or compressed, in edition 3 or 4, it writes the same
+//! octets as `bufr encode`. It reuses a template as long as the descriptors stay the same. Templates can
+//! contain elements, replications, sequences and operator 2 03; in compressed data, neither 2 03 nor delayed
+//! replication is supported. Section 2 and comments between lines are not supported either. Numbers must fit
+//! in 64 bits. The encoder panics if the input is invalid. It has no proofs.
 mod by_hand;
 use by_hand::{digits, end_subset, least_first, mapped, word, Element, Out, Step, Tables, KEYS};
 
-/// Stands for a missing value.
+/// The raw number that stands for a missing value.
 const MISSING: u64 = u64::MAX;
 
 /// A text, and the position up to which it has been read.
@@ -47,7 +47,7 @@ impl Text {
         digits(&rest[..end])
     }
 
-    /// Reads the descriptor of an item and the space after it.
+    /// Checks the descriptor of an item, and skips it and the space after it.
     #[inline(always)]
     fn item(&mut self, element: &Element) {
         let eight = self.rest().first_chunk().expect("an item");
@@ -56,7 +56,7 @@ impl Text {
         self.at += 7;
     }
 
-    /// Reads the comment of an item and the line feed.
+    /// Skips the comment of an item and the line feed.
     #[inline(always)]
     fn comment(&mut self, element: &Element) {
         if !self.skip(&element.comment) {
@@ -65,7 +65,7 @@ impl Text {
         }
     }
 
-    /// Reads the value of an item in one pass, and returns its raw number.
+    /// Reads the value of an item in one pass, and returns its raw number or MISSING.
     #[inline(always)]
     fn raw(&mut self, element: &Element) -> u64 {
         let rest = self.rest();
@@ -108,7 +108,7 @@ impl Text {
         self.at += 1;
     }
 
-    /// Reads an item's string and appends `many` octets: padded with spaces, or all ones if it is missing.
+    /// Reads an item's string and appends it as `many` octets: padded with spaces, or all ones if missing.
     fn quoted(&mut self, many: usize, octets: &mut Vec<u8>) {
         let whole = octets.len() + many;
         if self.skip(b"MISSING") {
@@ -137,7 +137,7 @@ impl Text {
     }
 }
 
-/// Converts a number with `after` digits after the point to this scale.
+/// Converts a number from `after` digits after the point to `scale` digits.
 #[cold]
 fn scaled(mut n: i64, after: i32, scale: i32) -> i64 {
     for _ in after..scale {
@@ -186,7 +186,7 @@ impl Bits {
     }
 }
 
-/// Writes a compressed item of numbers: the minimum, the width of the increments, and the increments.
+/// Writes the numbers of a compressed item: the minimum, the width of the increments, and the increments.
 fn put_numbers(bits: &mut Bits, values: &[u64], element: &Element) {
     let (mut least, mut most, mut lacks) = (u64::MAX, 0, false);
     for value in values {
@@ -211,14 +211,14 @@ fn put_numbers(bits: &mut Bits, values: &[u64], element: &Element) {
     }
 }
 
-/// Returns the number of octets that a string needs without the spaces at its end. It needs one more if it
-/// would otherwise read as missing.
+/// Returns the number of octets that a string needs without its trailing spaces. A string that would
+/// otherwise read as missing needs one more.
 fn needed(text: &[u8]) -> usize {
     let many = text.iter().rposition(|octet| *octet != b' ').map_or(0, |last| last + 1);
     many + usize::from(text[..many].iter().all(|octet| *octet == 255))
 }
 
-/// Writes a compressed item of the strings at these positions.
+/// Writes a compressed item whose strings are at these positions in the text.
 fn put_texts(bits: &mut Bits, text: &mut Text, places: &[u64], element: &Element) {
     let (next, whole) = (text.at, element.width as usize / 8);
     let mut texts = Vec::with_capacity(whole * places.len());
@@ -241,7 +241,7 @@ fn put_texts(bits: &mut Bits, text: &mut Text, places: &[u64], element: &Element
     texts().for_each(|text| bits.put_octets(&text[..many]));
 }
 
-/// Writes a redefined reference value, and uses it from now on.
+/// Writes a redefined reference value, and uses it for the items that follow.
 fn put_reference(bits: &mut Bits, text: &mut Text, step: &Step) {
     text.expect(b"R ");
     text.item(step.element);
@@ -252,7 +252,7 @@ fn put_reference(bits: &mut Bits, text: &mut Text, step: &Step) {
     bits.put(raw, step.new);
 }
 
-/// Writes items of a subset that is not compressed.
+/// Writes items of an uncompressed subset.
 fn put_plain(bits: &mut Bits, text: &mut Text, steps: &[Step], quoted: &mut Vec<u8>) {
     for step in steps {
         if step.is_number {
@@ -334,7 +334,7 @@ fn even(edition: u8, many: usize) -> usize {
     if edition == 3 { many + many % 2 } else { many }
 }
 
-/// Writes section 1 without its length and without the octets for local use.
+/// Writes section 1, except its length and the octets for local use.
 fn put_head(out: &mut Vec<u8>, edition: u8, values: &[u64; 19]) {
     let one = |at: usize| u8::try_from(values[at]).expect("an octet");
     let two = |at: usize| u16::try_from(values[at]).expect("two octets").to_be_bytes();
@@ -352,7 +352,7 @@ fn put_head(out: &mut Vec<u8>, edition: u8, values: &[u64; 19]) {
     }
 }
 
-/// Writes everything before the data. The lengths follow from the number of octets in the data.
+/// Writes everything before the data, whose length in octets is `data`.
 fn put_head_sections(out: &mut Vec<u8>, edition: u8, values: &[u64; 19], local: &[u8], list: &[u16], data: usize) {
     assert!(edition == 3 || edition == 4, "edition 3 or 4");
     let first = least_first(edition) + local.len();

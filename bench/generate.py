@@ -1,8 +1,5 @@
 #!/usr/bin/env python3
-"""Writes the streams that measure.py times to a directory. Does not write streams that already exist.
-
-Sizes are in octets. A `Kind` describes the messages of a stream.
-"""
+"""Creates the streams for measure.py in a directory. Streams that already exist are left unchanged."""
 import argparse
 import csv
 import functools
@@ -29,7 +26,7 @@ class Kind(NamedTuple):
     missing: float = 0  # the share of items that are missing in every subset of a message
     alike: float = 0  # the share of items that have the same value in every subset of a message
     text: bytes = STATION  # the pattern of the strings
-    times: int = 100  # how often the messages are repeated
+    times: int = 100  # how many times the messages are repeated
 
 
 class Item(NamedTuple):
@@ -55,7 +52,10 @@ for row in rows(TABLES[3]):
 
 @functools.cache
 def items_of(descriptors: str) -> list:
-    """Returns the items of a descriptor list. Delayed groups occur once or twice. 2 03 is the only supported operator."""
+    """Returns the items of a descriptor list. 2 03 is the only supported operator.
+
+    A delayed replication repeats its group twice, or only once if its factor is one bit wide.
+    """
     todo, items, new_width = descriptors.split(), [], 0
     while todo:
         first = todo.pop(0)
@@ -92,7 +92,7 @@ SEQUENCES = [it for it in MEMBERS if not has_operator(it) and 20 <= len(items_of
 
 
 def turned(turn: int) -> str:
-    """Returns one of 14 descriptor lists. Each repeats the five elements until there are 100 items."""
+    """Returns one of 14 descriptor lists. Each repeats the five elements to make 100 items."""
     elements = FIVE.split()
     order = (elements[turn % 5 :] + elements[: turn % 5]) * (1, 2, 4)[turn // 5]
     return f"1{len(order):02}{100 // len(order):03} {' '.join(order)}"
@@ -128,8 +128,11 @@ def value(item: Item, place: int, subset: int, text: bytes = STATION):
 
 
 def column(kind: Kind, item: Item, place: int, subsets: range) -> list:
-    """Returns the values of an item in all subsets. Items that are missing or the same everywhere come in groups of four."""
-    share = (place // 4 + 1) * 0.618034 % 1  # multiples of the golden ratio are spread evenly from 0 to 1
+    """Returns the values of an item in all subsets.
+
+    Items that are missing or have the same value in every subset come in groups of four.
+    """
+    share = (place // 4 + 1) * 0.618034 % 1  # modulo 1, multiples of the golden ratio are spread evenly
     if share < kind.missing and item.fixed is None:
         return [None] * kind.subsets
     if share < kind.missing + kind.alike:
@@ -138,7 +141,7 @@ def column(kind: Kind, item: Item, place: int, subsets: range) -> list:
 
 
 def stream(kind: Kind) -> bytes:
-    """Returns the messages of a kind. They declare the version of the tables in tests/lib.py."""
+    """Returns a stream of messages of this kind. They declare the version of the tables that tests/lib.py names."""
     made = []
     for number in range(kind.messages):
         descriptors, first = kind.lists[number % len(kind.lists)], number * kind.subsets
@@ -149,7 +152,10 @@ def stream(kind: Kind) -> bytes:
 
 
 def raw(value, width: int) -> int:
-    """Returns the raw number in a field: all ones if the value is missing, or a string's octets padded with spaces."""
+    """Returns the raw number that encodes a value.
+
+    The bits are all ones if the value is missing. A string is padded with spaces.
+    """
     if value is None:
         return (1 << width) - 1
     return int.from_bytes(value.ljust(width // 8), "big") if isinstance(value, bytes) else value
@@ -198,7 +204,7 @@ def packed(subsets: int, times: int) -> bytes:
 
 
 def report(edition: int) -> bytes:
-    """Returns a short report: a station's numbers and name, a time, a position, four measurements, and a missing one."""
+    """Returns a short report: a station's numbers and name, a time, a position, and five measurements, one of them missing."""
     descriptors = f"001001 001002 001015 004001 004002 004003 004004 004005 005001 006001 {FIVE}"
     values = [10, 381, b"BERLIN-DAHLEM", 2024, 1, 2, 6, 0, 142500, 193100, 28815, 10132, 270, 53, None]
     return built(descriptors, [[value] for value in values], edition=edition)
@@ -243,10 +249,10 @@ def streams():
         "noise": lambda: repeated(block, 256),
         # bulletins, each with a heading, a message of 10 KB and a trailer
         "bulletins": lambda: repeated(b"\x01\r\r\n123\r\r\nISMD01 EDZW 221200\r\r\n" + ten_thousand + b"\r\r\n\x03", 25_600),
-        # a stray every eight octets, each with a declared length of 1 MB, so that none can be rejected immediately
+        # a stray every eight octets; each declares a length of 1 MB, so it cannot be rejected immediately
         "hostile": lambda: repeated(b"BUFR\x10\x00\x00\x04", 6_000_000),
         # For `dump`: short reports in each edition, and compressed messages of 200 reports. Then messages with 1,000 subsets
-        # of 500 items, plain and compressed, and a stream of each kind.
+        # of 500 items, plain and compressed, and a stream of each kind in `KINDS`.
         "dump_reports": lambda: repeated(report(4), 100_000),
         "dump_reports_3": lambda: repeated(report(3), 100_000),
         "dump_packed_reports": lambda: repeated(packed_reports(200), 1_000),
@@ -257,7 +263,7 @@ def streams():
 
 
 def write_streams(folder: pathlib.Path, chosen: list | None = None) -> None:
-    """Writes the chosen streams, or all streams, unless they already exist."""
+    """Writes the chosen streams (default: all of them) that do not exist yet."""
     folder.mkdir(parents=True, exist_ok=True)
     for name, pieces in streams().items():
         path = folder / f"{name}.bufr"

@@ -1,12 +1,12 @@
 #!/usr/bin/env python3
-"""Times `bufr dump`, and `encode` for one shape, on streams that take a lot of time or memory.
+"""Times `bufr dump` (and, for one shape, `bufr encode`) on streams that take a lot of time or memory.
 
     bench/hostile_shapes.py [PROGRAM]        PROGRAM: the program to time (default: crates/bufr/out/bufr)
 
-The script times each shape in three sizes: once, twice and four times as large. It prints a table in Markdown, which
-measure.py also prints. A `!` marks each shape whose time grows more than 1.5 times as fast as its size. The streams are in
-bench/out/shapes, as are their tables, which contain 12,000 elements and 15 sequences. This benchmark needs Linux and GNU
-time, and is not part of the gate.
+The script times each shape at three sizes: the base size, twice the base size and four times the base size. It prints a
+table in Markdown, which measure.py also prints. A `!` marks each shape whose time grows more than 1.5 times as fast as its
+size. The streams are in bench/out/shapes, together with their tables, which contain 12,000 elements and 15 sequences. This
+benchmark needs Linux and GNU time, and is not part of the gate.
 """
 import os
 import subprocess
@@ -25,13 +25,13 @@ def operator(x: int, y: int) -> int:
 
 
 def delayed(members: int) -> list:
-    """Returns a delayed replication of the given number of members, with a factor of 16 bits."""
+    """Returns a delayed replication of the given number of members, with a 16-bit factor."""
     return [1 << 14 | members << 8, 31 << 8 | 2]
 
 
 def tables() -> tuple:
-    """Writes a Table B with numbers of 1 bit and the replication factors, and a Table D in which each sequence consists of the
-    next one twice. Returns the options that name them."""
+    """Writes a Table B that contains 1-bit numbers and the replication factors, and a Table D in which each sequence consists
+    of the next sequence twice. Returns the command-line options for both tables."""
     rows = [f"{f >> 14}{f >> 8 & 63:02}{f & 255:03},ELEMENT,K,0,0,1" for f in ELEMENTS]
     rows += ["031000,SHORT FACTOR,NUMERIC,0,0,1", "031001,FACTOR,NUMERIC,0,0,8", "031002,LONG FACTOR,NUMERIC,0,0,16"]
     (FOLDER / "B.csv").write_text("fxy,name,unit,scale,reference,width\n" + "\n".join(rows) + "\n")
@@ -107,12 +107,12 @@ def template(times: int) -> bytes:
 
 
 def expanded(times: int) -> bytes:
-    """100 messages of 47 octets without subsets, each with one descriptor that expands to 32,768"""
+    """100 messages of 47 octets without subsets, each with one descriptor that expands to 32,768 elements"""
     return listed([3 << 14 | 60 << 8 | 1], b"", 0) * (100 * times)
 
 
 def together(times: int) -> bytes:
-    """one compressed subset with 300,000 items of 7 bits"""
+    """one compressed subset with 300,000 items of 7 bits each"""
     bits = Bits()
     bits.put(15_000 * times, 16)
     bits.put(0, 6)
@@ -146,7 +146,7 @@ subsets 0
 
 
 def encoded(times: int) -> bytes:
-    """100 dumps without subsets, each with one descriptor that expands to 32,768, encoded"""
+    """encoding 100 dumps without subsets, each with one descriptor that expands to 32,768 elements"""
     return f"message\n{HEADER}descriptors 360001\nend\n".encode() * (100 * times)
 
 
@@ -154,7 +154,7 @@ SHAPES = (references, redefinitions, subsets, dropped, items, template, expanded
 
 
 def measured(words: list) -> tuple:
-    """Returns the lowest CPU time of RUNS runs in seconds, and the peak resident memory of another run in KiB."""
+    """Returns the lowest CPU time in RUNS runs, in seconds, and the peak resident memory of one more run, in KiB."""
     seconds = []
     for _ in range(RUNS):
         child = subprocess.Popen(words, stdout=subprocess.DEVNULL)
@@ -167,7 +167,7 @@ def measured(words: list) -> tuple:
 
 
 def row(program: str, words: tuple, shape) -> str:
-    """Returns a row of the table: a shape, and the time and memory that it takes in different sizes."""
+    """Returns a row of the table: a shape, and the time and memory that it takes at each size."""
     octets, seconds, resident = [], [], []
     for times in (1, 2, 4):
         path = FOLDER / f"{shape.__name__}_{times}.bufr"

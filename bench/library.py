@@ -5,10 +5,11 @@
                                                    FILE: a BUFR file; its contents are repeated to make the stream
                                                    MB: the size of the stream in megabytes (default: 20)
 
-The script prints a table in Markdown with the CPU time and the peak resident memory of one run each. It calls `bufr_items`
-from Python, with room for 1,048,576 rows. The time for `bufr_items` includes only the calls, but the memory is that of the
-whole process, with Python, the stream and the outputs. ecCodes reads a tenth of the stream, and its time is multiplied by
-ten. It is left out if there is no C compiler or no libeccodes-dev. This benchmark needs GNU time, and is not part of the gate.
+The script prints a Markdown table with the CPU time and the peak resident memory of a single run of each. It calls
+`bufr_items` from Python, with room for 1,048,576 rows. The time for `bufr_items` includes only the calls, but the memory is
+that of the whole process, including Python, the stream and the outputs. ecCodes reads a tenth of the stream, and its time is
+multiplied by ten. ecCodes is left out if there is no C compiler or no libeccodes-dev. This benchmark needs GNU time, and is
+not part of the gate.
 """
 import pathlib
 import shlex
@@ -65,7 +66,7 @@ def read(folder: str, name: str, *wanted: str) -> None:
 
 
 def run(words: list) -> tuple:
-    """Returns the CPU seconds and the memory of a command. If it runs this file, the seconds are those that it prints."""
+    """Returns the CPU seconds and the memory of a command. If the command runs this file, it prints the seconds itself."""
     output = subprocess.PIPE if __file__ in words else subprocess.DEVNULL
     with tempfile.NamedTemporaryFile("r") as told:
         timed = ["/usr/bin/time", "-o", told.name, "-f", "%U %S %M", *map(str, words)]

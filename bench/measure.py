@@ -3,16 +3,18 @@
 
     bench/measure.py [PROGRAM [FOLDER [STREAM...]]]
 
-PROGRAM is crates/bufr/out/bufr by default. FOLDER contains the streams, and is bench/out by default. If you name streams (the
-names are in STREAMS), the script prints only their rows in the tables of `ls`, `dump` and `encode`.
+PROGRAM is crates/bufr/out/bufr by default. FOLDER contains the streams, and is bench/out by default. If you name streams (see
+STREAMS for the names), the script prints only their rows in the tables for `ls`, `dump` and `encode`.
 
 For comparison, the script also times a hand-written lister, dumper and encoder and, if they are installed, the tools of
-ecCodes. It prints tables in Markdown: one for each command, those in bench/README.md, and the one for the hostile shapes. It
-first checks that the program and the hand-written one write the same octets. Then the two run in turn for fifteen rounds, and
-their output is discarded. The times are the lowest CPU times (user plus system). The memory is the peak resident memory of one
-run. This benchmark needs Linux, rustc, GNU time and 3 GB of disk space, and is not part of the gate.
+ecCodes. It prints tables in Markdown: one for each command, those in bench/README.md, one for the hostile shapes, and one for
+ecCodes. For each row, it first checks that the program and the hand-written one write the same octets. Then the two run in
+turn for fifteen rounds, and their output is discarded. The times are the lowest CPU times (user plus system). The memory is
+the peak resident memory of one run. This benchmark needs Linux, rustc, GNU time and 3 GB of disk space, and is not part of
+the gate.
 
-On streams that take ecCodes long, it reads only the first tenth. Its time is then multiplied by ten and marked with a `*`.
+If a stream takes ecCodes a long time, ecCodes reads only the first tenth of it. The time and the output size in the table are
+then ten times those measured, and are marked with a `*`.
 """
 import os
 import pathlib
@@ -26,7 +28,7 @@ import hostile_shapes
 from lib import BUILT, TABLES, TOP
 
 ROUNDS = 15
-# Seconds: if a hand-written program takes less, most of that is startup, and no ratio is printed.
+# If a hand-written program takes less than this many seconds, most of the time is startup, so no ratio is printed.
 SHORT = 0.01
 
 STREAMS = {
@@ -59,7 +61,8 @@ STREAMS = {
 }
 LISTED = [name for name in STREAMS if not name.startswith("dump_")]
 DUMPED = [name for name in STREAMS if name.startswith("dump_")]
-# The streams of which ecCodes reads a tenth, and the one that it does not read, because even a tenth takes minutes.
+# The streams of which ecCodes reads only a tenth, and the one that ecCodes does not read at all, because even a tenth of it
+# takes minutes.
 SHORTENED = ("small", "small_3", "dump_reports", "dump_reports_3", "dump_plain")
 LEFT_OUT = ("hostile",)
 
@@ -78,7 +81,7 @@ def least(*commands: list) -> list:
 
 
 def resident(words: list, file: pathlib.Path) -> int:
-    """Returns the peak resident memory of a run in KiB. GNU time, which itself needs little memory, writes it to the file."""
+    """Returns a run's peak resident memory in KiB, which GNU time writes to the file. GNU time itself needs little memory."""
     with open(os.devnull, "wb") as nowhere:
         subprocess.run(["/usr/bin/env", "time", "-q", "-f", "%M", "-o", str(file), *words], stdout=nowhere, stderr=nowhere)
     return int(file.read_text())
@@ -93,7 +96,7 @@ def written(words: list, by_hand: list) -> int:
 
 
 class Measuring:
-    """The commands to measure (of the program and of the hand-written ones), the directory of the streams, and the results."""
+    """The commands to measure (those of our program and the hand-written ones), the directory of the streams, and results."""
 
     def __init__(self, program: str, folder: pathlib.Path) -> None:
         self.folder, self.cells = folder, {}
@@ -102,7 +105,7 @@ class Measuring:
         self.by_hand = {c: [self.built(name), *(TABLES[1::2] if c != "ls" else [])] for c, name in names.items()}
 
     def built(self, name: str) -> str:
-        """Compiles a hand-written program for the processors that `rt` compiles for. Returns its path."""
+        """Compiles a hand-written program for the same processors that `rt` targets. Returns its path."""
         program, source = self.folder / name, TOP / "bench" / f"{name}.rs"
         options = ["--edition", "2021", "-O", "-C", "target-cpu=x86-64-v2", "-C", "codegen-units=1"]
         subprocess.run(["rustc", *options, "-o", str(program), str(source)], check=True)
@@ -139,7 +142,7 @@ class Measuring:
                 self.row("dump", stream, self.folder / f"{stream}.bufr")
 
     def encodes(self, chosen: list) -> None:
-        """Times `encode` on the dumps. Exits if it does not restore the streams."""
+        """Times `encode` on the dumps of the streams. Exits if encoding a dump does not restore its stream."""
         self.head("encode")
         for stream in DUMPED:
             if stream not in chosen:
@@ -152,7 +155,7 @@ class Measuring:
             self.row("encode", stream, text)
 
     def summary(self) -> None:
-        """Prints the tables in bench/README.md."""
+        """Prints the tables that appear in bench/README.md."""
         for commands, streams in ((["ls"], LISTED), (["dump", "encode"], DUMPED)):
             columns = ["stream", *(f"`{command}` (s) | ratio | KiB" for command in commands)]
             print("\n| " + " | ".join(columns) + " |\n" + "|---" * (1 + 3 * len(commands)) + "|")
@@ -170,7 +173,7 @@ class Measuring:
                 print(f"| {STREAMS[stream]} | `{' '.join(words)}` | {self.eccodes_cells(words, stream)} |", flush=True)
 
     def eccodes_cells(self, words: list, stream: str) -> str:
-        """Returns a tool's CPU seconds, MB written and peak KiB. Multiplies the first two by ten if it reads only a tenth."""
+        """Returns a tool's CPU seconds, MB written and peak KiB. If it reads only a tenth, the first two are scaled up."""
         path, times = self.folder / f"{stream}.bufr", 10 if stream in SHORTENED else 1
         part = self.folder / "tenth.part"
         part.write_bytes(path.read_bytes()[: path.stat().st_size // times])

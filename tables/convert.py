@@ -288,7 +288,7 @@ def work(words: list) -> int:
             left_out += count
     members = ([fxy, member] for fxy in sorted(sequences) for member in sequences[fxy][1:])
     out.mkdir(parents=True, exist_ok=True)
-    # Both tables are written under temporary names first, so that a failure leaves an earlier set unchanged.
+    # Both tables are written under temporary names first, so that a failure leaves an existing set unchanged.
     tables = {out / name: out / f".{name}.{os.getpid()}" for name in ("B.csv", "D.csv")}
     bufr_guard.UNFINISHED += map(str, tables.values())
     try:

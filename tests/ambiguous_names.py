@@ -4,7 +4,7 @@
     tests/ambiguous_names.py
 
 The test reads each `pub struct`, `pub enum` and `pub trait` in src/, and each public definition in specs/. Within a crate,
-a type and its definition share a name. No name may end in `So`, because it would not say what holds.
+a type and its definition may share a name. No name may end in `So`, because such a name does not say what holds.
 """
 import collections
 import re

@@ -26,8 +26,9 @@ CALLS = {
 }
 
 
-# What the output for a function or law must contain. The rows cover the ways in which a contract can use a name: a re-export,
-# a private type, traits and their ghost items, a field's type, an operator, an import in an impl, a crate without headings.
+# What the output for a function or law must contain. The rows cover different kinds of names in a contract: re-exports,
+# private types, traits and their ghost items, types of fields, operators, imports in an impl, and definitions in a crate
+# without headings.
 NAMED = {
     "run": ["enum QuotedToken", "enum NoJob", "pub trait Inputs", "ghost standard_octets:", "pub trait Source", "pub trait Sink",
             "abbrev pub failures_after", "pub enum OpenFault", "pub struct Failed"],
@@ -42,7 +43,7 @@ NAMED = {
     "steps_compose": ["pub fn steps_compose()", "ReadsAndPasses"],
     "Source::read": ["ghost left: "],
 }
-# Names that match no function, or several functions.
+# A name that matches no function and a name that matches several, each with part of the error message.
 WRONG = {"nothing_of_this_name": "no crate has a function", "held": "crates/bufr_frame/src/finder.rt"}
 
 
@@ -51,7 +52,7 @@ def run(program: pathlib.Path, calls: str) -> "subprocess.CompletedProcess[str]"
 
 
 def printed(calls: str) -> str:
-    """Returns what docs/believed.py prints for these calls. Ends the test if docs/believed.py fails."""
+    """Returns the output of docs/believed.py for these functions and laws. Ends the test if docs/believed.py fails."""
     done = run(TOP / "docs/believed.py", calls)
     if done.returncode:
         finish([done.stderr])
@@ -59,7 +60,7 @@ def printed(calls: str) -> str:
 
 
 def of_copies() -> "list[str]":
-    """Returns complaints about a copy without crates, like a release, and about a definition that another file re-exports."""
+    """Tests copies of the repository: one without crates, like a release, and one in which a file re-exports a definition."""
     wrongs = []
     with tempfile.TemporaryDirectory() as folder:
         copy = pathlib.Path(folder)
@@ -93,7 +94,7 @@ def of_every_function() -> "list[str]":
 
 
 def of_first_lines() -> "list[str]":
-    """Returns complaints about files in specs/ whose first line is wrong about whether `run` needs the file."""
+    """Returns a complaint for each file in specs/ whose first line is wrong about whether `run` needs the file."""
     module = runpy.run_path(str(TOP / "docs/believed.py"))
     needed = {item.path for item in module["reached"]([module["contract"]("run")], module["House"]())}
     wrongs = []

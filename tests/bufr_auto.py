@@ -3,9 +3,9 @@
 
     tests/bufr_auto.py [PROGRAM]
 
-For each message, bufr-auto must write what the program writes for that message alone with the right table set, and must do
-so as soon as the whole message has arrived. Other tests check that --encode chooses table sets in the same way, that
-bufr-auto is fast, and that it leaves no files or processes behind. script_failures.py tests how bufr-auto fails.
+For each message, bufr-auto must write the same output as `bufr dump` for that message alone with the right table set, as soon
+as the whole message has arrived. Other tests check that --encode chooses table sets in the same way, that bufr-auto is fast,
+and that it leaves no files or processes behind. script_failures.py tests how bufr-auto handles failures.
 """
 import contextlib
 import fcntl
@@ -28,13 +28,13 @@ from lib import TOP, finish, program
 
 AUTO = [sys.executable, str(TOP / "scripts/bufr-auto")]
 TABLES = TOP / "tables"
-# 0 12 101 has 16 bits; 0 13 164 is unknown in the sets up to wmo-18; 0 14 001 is wider from version 14 on.
 NEWER = "; get newer tables from WMO (wmo-im/BUFR4 on GitHub), and convert them with tables/convert.py"
+# Descriptor lists. 0 12 101 has 16 bits, 0 13 164 is unknown in sets up to wmo-18, and 0 14 001 is wider from version 14 on.
 LISTS = ["012101", "001001 012101", "014001", "013164", "102002 001001 012101", "063255"]
 
 
 def made(version: int, descriptors: str, data: bytes, centre: int = 98, local: int = 0, section_2=b"") -> bytes:
-    """Returns an edition 4 message with this centre and these table versions. A section 2 is added if it is not empty."""
+    """Returns an edition 4 message with this centre and these table versions, and with section 2 unless it is empty."""
     message = lib.asking(lib.message(data, lib.words(descriptors)), version, local, centre)
     if section_2:
         optional = (4 + len(section_2)).to_bytes(3, "big") + b"\0" + section_2
@@ -96,7 +96,7 @@ class Trial:
         return subprocess.CompletedProcess([], child.returncode, *given)
 
     def compare(self, what: str, stream: bytes) -> None:
-        """Checks that bufr-auto, apart from notes, gives the results of `one_by_one` for a pipe, a file and small writes."""
+        """Checks that bufr-auto gives the results of `one_by_one`, apart from notes, for a pipe, a file and small writes."""
         (self.place / "stream").write_bytes(stream)
         runs = {"a pipe": self.auto(stream=stream), "a file": self.auto(str(self.place / "stream"))}
         if len(stream) < 10_000:
@@ -106,12 +106,12 @@ class Trial:
             self.same(f"{what}, {form}", (done.stdout, told, done.returncode), self.one_by_one(stream))
 
     def same(self, what: str, given: tuple, wanted: tuple) -> None:
-        """Checks that the output, the errors and the status are as wanted."""
+        """Checks that the output, the errors and the status are as expected."""
         for part, one, other in zip(("the output", "the errors", "the status"), given, wanted):
             self.holds(f"{what}: {part}", one == other, (one, other))
 
     def same_as_one_by_one(self) -> None:
-        """`bufr-auto` dumps each message as `bufr` would dump it alone, in random streams, in long ones, and around strays."""
+        """In random streams, long streams and around strays, `bufr-auto` dumps each message as `bufr` would dump it alone."""
         random.seed(44)
         for number in range(12):
             versions = random.sample(range(4, 42), random.randint(1, 6))
@@ -155,7 +155,7 @@ class Trial:
             told = f"table B: 45 csv\nbufr-auto: cannot use {shown}/wmo-17/B.csv: 45 csv\n"
             wanted = (begun[0], begun[1] + told.encode(), 2)
             self.holds("a table at fault", (done.stdout, done.stderr, done.returncode) == wanted, (done, wanted))
-        # If a directory lacks a table, a note says so, and bufr-auto continues without this set.
+        # If the directory of a set lacks a table, bufr-auto prints a note and ignores the set.
         for version in (40, 21, 36, 25):
             (tables / f"wmo-{version}").mkdir()
         (tables / "wmo-17/D.csv").unlink()
@@ -182,7 +182,7 @@ class Trial:
     def encodes(self) -> None:
         """`bufr-auto --encode` encodes each document with its own table set, up to the first invalid one.
 
-        The line number in the fault line is counted from the beginning of the input.
+        The line number in a fault line is relative to the beginning of the input.
         """
         random.seed(67)
         for number in range(12):
@@ -222,7 +222,7 @@ class Trial:
             what = f"an end line that is cut behind {cut} bytes"
             self.same(what, (done.stdout, done.stderr, done.returncode), (b"".join(wanted), b"", 0))
         (self.place / "long").unlink()
-        # An invalid document in the middle of the input, whose parts need several table sets.
+        # An invalid document in the middle of an input that needs several table sets.
         text = text + text.replace(b"001001 0 ", b"001001 0x ", 1) + text
         line = text[: text.index(b"0x")].count(b"\n") + 1
         done = self.auto("--encode", stream=text)
@@ -240,7 +240,7 @@ class Trial:
             told = [line.partition(b": ")[2] for line in done.stderr.splitlines() if line.startswith(b"bufr-auto: ")]
             starts = [line.startswith(b"1 document, at line 1: " + reason) for line, reason in zip(told, reasons)]
             self.holds(f"notes on {descriptors}", starts == [True, True], done)
-        # An invalid header says nothing about the tables, so no note does.
+        # If a header is invalid, bufr-auto prints only the fault line, without a note about tables.
         text = (TOP / "examples/synop.txt").read_bytes()
         for changed, number in (
             (text.replace(b"\n", b"\r\n"), b"1: 50 line"),
@@ -250,12 +250,12 @@ class Trial:
         ):
             done = self.auto("--encode", stream=changed)
             self.same(f"{number}", (done.stdout, done.stderr, done.returncode), (b"", b"line %s\n" % number, 1))
-        # A line can be 4,096 bytes long, and a document can follow a comment of that length.
+        # A line can contain up to 4,096 bytes, and a comment of that length can precede a document.
         one = made(39, LISTS[1], b"\1\1\0")
         for length, wanted in ((4096, (one, b"", 0)), (4097, (b"", b"line 1: 50 line\n", 1))):
             done = self.in_pieces(b"#".ljust(length, b"x") + b"\n" + self.one_by_one(one)[0], "--encode")
             self.same(f"a comment of {length} bytes", (done.stdout, done.stderr, done.returncode), wanted)
-        # The first 4,096 bytes of the comment arrive separately.
+        # The line feed after a comment of 4,096 bytes arrives in a separate read.
         pipes = dict(stdin=subprocess.PIPE, stdout=subprocess.PIPE, stderr=subprocess.PIPE, bufsize=0)
         with subprocess.Popen([*AUTO, "--encode"], **pipes, env=self.environment) as child:
             child.stdin.write(b"#".ljust(4096, b"x"))
@@ -274,14 +274,14 @@ class Trial:
         note = b"line 1: 50 line\nbufr-auto: standard input is not a dump: it looks like gzip data (use zcat)\n"
         done = self.auto("--encode", stream=b"\x1f\x8b\x08\0\n")
         self.same("gzip data", (done.stdout, done.stderr, done.returncode), (b"", note, 1))
-        # BUFR data is rejected before the end of the input, and a note names the option to leave out.
+        # BUFR data is rejected without waiting for the end of the input, and a note says which option to leave out.
         note = b"bufr-auto: standard input is BUFR, not a dump; to dump it, leave out --encode\n"
         for begin in (b"BUFR", b"\1\r\r\n001\r\r\nIUSK01 ENMI 010000\r\r\nBUFR"):
             steps = [(begin + bytes(100) + b"\n", b"", b"line 1: 50 line\n" + note)]
             self.feed("no text", ["--encode"], steps, (b"", b""), 1)
 
     def encoded_one_by_one(self, text: bytes):
-        """Encodes documents separately, up to the first invalid one. Returns the messages, the fault line and the status."""
+        """Encodes each document separately, up to the first invalid one. Returns the messages, fault line and exit status."""
         messages, before = [], 0
         for document in re.findall(rb".*?^end(?:\n|\Z)|.+", text, re.S | re.M):
             version = re.search(rb"^masterversion (\d+)$", document, re.M)
@@ -342,7 +342,7 @@ class Trial:
         self.feed("notes", [], steps, (b"", b""), 0)
         seconds = time.monotonic() - begin
         self.holds("two notes come after two seconds", seconds >= 2, seconds)
-        # The same applies to a note on an incomplete set.
+        # A note on an incomplete set is also printed only once.
         sets = self.place / "incomplete"
         (sets / "wmo-40").mkdir(parents=True)
         (sets / "wmo-39").symlink_to(TABLES / "wmo-39")
@@ -351,7 +351,8 @@ class Trial:
         synop, text = ((TOP / f"examples/synop.{kind}").read_bytes() for kind in ("bufr", "txt"))
         self.feed("an incomplete set", [], [(synop, text, note), (synop, text, b"")], (b"", b""), 0)
         del self.environment["BUFR_TABLES"]
-        # This feed does not pause, and its first part has 16,384 messages. For a file, the notes are printed at the end.
+        # This feed does not pause, but the interval between notes is 0, so the note is printed after the first part of the
+        # feed, which contains 16,384 messages. For a file, the note is printed at the end.
         minute = "import sys; sys.path.insert(0, sys.argv[1]); import bufr_auto, bufr_guard; bufr_guard.INTERVAL = 0; "
         (self.place / "many").write_bytes(later * 20_000)
         for file, told in ((None, b"16384 messages so far"), (str(self.place / "many"), b"20000 messages")):
@@ -361,7 +362,7 @@ class Trial:
             self.holds(f"notes on {file or 'a feed'} without a pause", note in done.stderr, done.stderr)
 
     def few_files(self) -> None:
-        """`bufr-auto` can read 40 parts of a feed with at most 32 open files, and 60 files with at most 40."""
+        """`bufr-auto` can read a feed in 40 parts with at most 32 open files, and can read 60 files with at most 40 open."""
         message = made(39, LISTS[1], b"\1\1\0")
         text = self.one_by_one(message)[0]
         self.feed("40 parts", [], [(message, text, b"")] * 40, (b"", b""), 0, 32)
@@ -410,7 +411,7 @@ class Trial:
         self.holds("one that is skipped", done.stderr == b"bufr-auto: offset 0: skipped a message that declares a length of 156 bytes\n", done)
 
     def conditions(self) -> None:
-        """`bufr_auto.dump` dumps only messages that meet the conditions, each after a comment with its place."""
+        """`bufr_auto.dump` dumps only messages that meet the conditions, each after a comment that gives its place."""
         code = "import sys; sys.path.insert(0, sys.argv[1]); import bufr_auto, bufr_conditions, bufr_guard\n"
         code += "def work(words): return bufr_auto.dump(words[2:], 1, None, bufr_conditions.Conditions(words[1].split()), True)\n"
         code += "bufr_guard.run(work, '')"
@@ -432,7 +433,7 @@ class Trial:
             self.same("a condition", (done.stdout, done.stderr.decode(), done.returncode), (wanted, told, 1))
 
     def feed(self, what: str, words: list, steps: list, last: tuple, status: int, files: int = 256) -> None:
-        """Writes the input of each step to a pipe and waits for its output and errors. At most `files` files may be open."""
+        """Writes each step's input to a pipe and waits for the expected output and errors. Limits open files to `files`."""
         pipes = dict(stdin=subprocess.PIPE, stdout=subprocess.PIPE, stderr=subprocess.PIPE, bufsize=0)
         limit = lambda: resource.setrlimit(resource.RLIMIT_NOFILE, (files, files))  # noqa: E731
         with subprocess.Popen([*AUTO, *words], **pipes, env=self.environment, preexec_fn=limit) as child:
@@ -452,7 +453,7 @@ class Trial:
         self.holds(f"a feed of {what}: the end", (rest, child.returncode) == (b"", status), (rest, child.returncode))
 
     def files(self) -> None:
-        """Fault lines give the file and the offset in it. `bufr-auto` skips unreadable files and reports them at the end."""
+        """Fault lines give a file and an offset in it. `bufr-auto` skips unreadable files, and reports them at the end."""
         texts, messages = [], [made(39, LISTS[1], b"\1\1\0"), made(13, LISTS[1], b"\2\1\0")]
         for number, message in enumerate(messages):
             (self.place / f"file {number}").write_bytes(b"BUFR" + message + made(41, LISTS[0], b"\1\1"))
@@ -466,7 +467,7 @@ class Trial:
             b"\nbufr-auto: cannot open nosuch: No such file or directory\nbufr-auto: cannot read folder: Is a directory\n"
         )
         self.same("files", (done.stdout, done.stderr, done.returncode), (b"".join(texts), told, 2))
-        # The progress line counts the bytes in all files.
+        # The progress line counts the bytes of all files together.
         code = "import sys; sys.path.insert(0, sys.argv[1]); import bufr_auto, bufr_guard\n"
         code += "bufr_guard.Progress.at = lambda self, octets: bufr_guard.say(b'%d of %d\\n' % (octets, self.total))\n"
         code += "bufr_guard.run(lambda words: bufr_auto.dump(words[1:]), '')"
@@ -479,7 +480,7 @@ class Trial:
         for number, text in enumerate(texts):
             (self.place / f"text {number}").write_bytes(text)
         (self.place / "text 1").write_bytes(texts[1].replace(b"\n012101 ", b"\n012101 x", 1))
-        names = ["text 0", "text 1", "nosuch"]  # the last one is not opened
+        names = ["text 0", "text 1", "nosuch"]  # the last one is not opened, because encoding stops in the second
         done = subprocess.run([*AUTO, "--encode", *names], cwd=self.place, env=self.environment, capture_output=True)
         line = texts[1][: texts[1].index(b"\n012101 ") + 1].count(b"\n") + 1
         wanted = messages[0] + made(41, LISTS[0], b"\1\1")
@@ -489,7 +490,7 @@ class Trial:
         self.holds("texts: the status", done.returncode == 1, done)
 
     def no_message(self) -> None:
-        """If a file contains no messages, `bufr-auto` says so and guesses its type. The exit status is that of `bufr`."""
+        """If a file contains no messages, `bufr-auto` says so, guesses its type, and exits with the same status as `bufr`."""
         synop = TOP / "examples/synop.bufr"
         for begin, kind, status in (
             (subprocess.run(["gzip", "-c", synop], stdout=subprocess.PIPE).stdout, "looks like gzip data (use zcat)", 0),
@@ -520,7 +521,7 @@ class Trial:
         file.write_bytes(b"x" * 300 + b"\0")
         note = f"bufr-auto: {self.place}/a\\x1B[31mb contains no messages: it looks like text\n".encode()
         self.holds("a name with an escape", self.auto(str(file)).stderr == note, self.auto(str(file)))
-        # The guess is based on the data from both reads.
+        # If the data arrives in two reads, the guess is based on both.
         pipes = dict(stdin=subprocess.PIPE, stdout=subprocess.PIPE, stderr=subprocess.PIPE, bufsize=0)
         with subprocess.Popen(AUTO, **pipes, env=self.environment) as child:
             child.stdin.write(b"\x1f")
@@ -534,7 +535,7 @@ class Trial:
         self.holds("no text", done.stderr == b"bufr-auto: standard input contains no documents: it is empty\n", done)
 
     def notes(self) -> None:
-        """`bufr-auto` prints one note per reason, with a count and the first offset, if an affected descriptor is used."""
+        """For each reason, `bufr-auto` prints one note with the number of messages that use an affected descriptor."""
         for descriptor, is_local in (("001191", False), ("001192", True), ("047001", False), ("048001", True)):
             done = self.auto(stream=made(13, descriptor, b"\1", local=102))
             self.holds(f"{descriptor} is local", (b"the table set wmo-13+98-102" in done.stderr) == is_local, done)
@@ -542,7 +543,7 @@ class Trial:
         edition_3[12:14], edition_3[18:20] = b"\7\x62", b"\x0d\x66"
         done = self.auto(stream=bytes(edition_3))
         self.holds("edition 3", b"the table set wmo-13+98-102 (local version 102 of centre 98) is missing" in done.stderr, done)
-        # There is no note on a version of nine digits, because `bufr` rejects the document.
+        # bufr-auto prints no note on a version with nine digits, because `bufr` rejects the document.
         done = self.auto("--encode", stream=b"message\nmasterversion 999999999\ndescriptors 012101\nsubset 1\nend\n")
         self.holds("a version of nine digits", done.stderr == b"line 2: 50 line\n", done)
         exact = made(14, LISTS[0], b"\1" * 2) + made(37, LISTS[0], b"\1" * 2) + made(7, "012073", b"\1\1")
@@ -565,7 +566,7 @@ class Trial:
         told = [line for line in self.auto(stream=stream).stderr.decode().splitlines() if line.startswith("bufr-auto: ")]
         rest = "bufr-auto: 299 messages, the first at offset 48000: no table set matches exactly; only the first 1,000 reasons are listed"
         self.holds("kinds of notes", (len(told), told[-1]) == (1001, rest), (len(told), told[-1]))
-        # There are two possible reasons, but only one of them affects this descriptor.
+        # This message gives two possible reasons for a note, but only one of them affects its descriptor.
         done = self.auto(stream=made(41, "012101", b"\1\1", local=102))
         note = b"bufr-auto: 1 message, at offset 0: table version 41 is later than that of the table set wmo-39" + NEWER.encode() + b"\n"
         self.holds("one of two reasons", done.stderr == note, done)
@@ -579,7 +580,7 @@ class Trial:
             self.holds("a master table", done.stderr == note, done)
 
     def command_line(self) -> None:
-        """`bufr-auto` prints help and its version, and reports invalid options, table directories, files and programs."""
+        """`bufr-auto` prints its help and version, and reports invalid options, table directories, files and programs."""
         for word in ("--help", "-h"):
             done = self.auto(word)
             self.holds("help", done.returncode == 0 and b"\n    bufr-auto [--max-length BYTES] [FILE...]\n" in done.stdout, done)
@@ -607,7 +608,7 @@ class Trial:
         self.holds("a word behind --", self.auto("--", "--help").returncode == 2)
         done = self.auto("--version", PYTHONIOENCODING="utf-16")
         self.holds("another encoding", done.stdout == version, done)
-        # If bufr-auto is run directly, its first line (python3 -S) keeps Python from loading sitecustomize.
+        # If bufr-auto is executed directly, its first line (python3 -S) keeps Python from loading sitecustomize.
         (self.place / "sitecustomize.py").write_text("raise SystemExit(7)")
         done = subprocess.run([AUTO[1], file], env={**self.environment, "PYTHONPATH": str(self.place)}, capture_output=True)
         self.holds("started as a program", done.stdout == (TOP / "examples/synop.txt").read_bytes(), done)
@@ -643,7 +644,7 @@ class Trial:
             self.holds(f"{words} {environment}", (done.returncode, done.stdout, done.stderr) == wanted, done)
 
     def blocks(self) -> None:
-        """`bufr_auto` gives the same results with blocks of a few bytes, which split each document and each message."""
+        """`bufr_auto` gives the same results if it reads blocks of a few bytes, so that documents and messages are split."""
         code = "import sys; sys.path.insert(0, sys.argv[1]); import bufr_auto; bufr_auto.BLOCK = int(sys.argv[2]); "
         code += "bufr_auto.Work(getattr(bufr_auto, sys.argv[3]), [None]).do()"
         lengths = (0, 50, 9)
@@ -656,13 +657,13 @@ class Trial:
                 self.same(f"{kind} by blocks of {size}", (done.stdout, done.stderr, done.returncode), (wanted, b"", 0))
 
     def signals(self) -> None:
-        """A signal ends `bufr-auto` and the programs it runs. Neither a signal nor a normal exit leaves temporary files."""
+        """A signal ends `bufr-auto` and the programs it runs. No temporary files remain after a signal or a normal exit."""
         temporary = self.place / "temporary"
         # A program that records its process ID and then keeps running.
         slow = self.place / "slow"
         slow.write_text(f'#!/bin/sh\necho $$ > "{self.place}/begun"\nmv "{self.place}/begun" "{self.place}/number"\nexec sleep 60\n')
         slow.chmod(0o755)
-        # If this test is a background job, it ignores some signals, and its child processes would, too.
+        # If this test is a background job, it ignores some signals, and its child processes would inherit that.
         for number in (signal.SIGINT, signal.SIGHUP):
             signal.signal(number, signal.SIG_DFL)
         for number in (signal.SIGINT, signal.SIGTERM, signal.SIGHUP):
@@ -690,9 +691,9 @@ class Trial:
         self.holds("the end: what is left", not list(temporary.iterdir()), list(temporary.iterdir()))
 
     def ends(self) -> None:
-        """`bufr-auto` reports closed pipes, truncated files and truncated output of `bufr`.
+        """`bufr-auto` reports closed pipes, files that are truncated, and output of `bufr` that is truncated.
 
-        It also works if standard input does not block, or if SIGCHLD is ignored.
+        It also works if standard input is in non-blocking mode, or if SIGCHLD is ignored.
         """
         many = b"".join(made(version, LISTS[1], b"\1\1\0", section_2=bytes(60_000)) for version in (13, 39))
         for stream, told in ((many * 20, b"bufr-auto: write failed: Broken pipe\n"), (many[: len(many) // 2] * 20, b"bufr: 71 write failed\n")):
@@ -736,7 +737,7 @@ class Trial:
                 told += (more := os.read(child.stdout.fileno(), 1 << 16))
                 if not more:
                     break
-            time.sleep(0.2)  # until the next read has begun
+            time.sleep(0.2)  # so that the next read begins before the input arrives
             with contextlib.suppress(BrokenPipeError):
                 os.write(pipe, message)
             os.close(pipe)
@@ -754,7 +755,7 @@ class Trial:
         """
         environment = {**self.environment, "PYTHONPYCACHEPREFIX": str(self.place / "cache")}
         environment.pop("PYTHONDONTWRITEBYTECODE", None)
-        # bufr-auto itself reads a table only for a note, and only if the descriptor list alone does not decide the matter.
+        # bufr-auto itself reads a table only if the descriptor list alone does not show whether a note is needed.
         for list_of, is_read in (("012101", False), ("048001 301001", False), ("301001", True)):
             words = [sys.executable, "-S", "-X", "importtime", AUTO[1]]
             stream = made(13, list_of, b"", local=102)

@@ -3,9 +3,8 @@
 
     tests/bufr_csv.py [PROGRAM]
 
-For random messages, the rows in CSV and JSON must contain the values that bufr_text returns, with each installed awk. Other
-tests cover the options, several files with faults in the middle one, live feeds, arguments that must be rejected, and
-failures.
+With each installed awk, the rows for random messages must contain the values that bufr_text returns, both in CSV and in JSON.
+Other tests cover the options, several files of which the middle one has faults, live feeds, invalid arguments, and failures.
 """
 import csv
 import functools
@@ -32,7 +31,7 @@ import bufr_text  # noqa: E402
 
 EXAMPLES = TOP / "examples"
 SYNOP, SOUNDING, BUOYS, FAULTY = (EXAMPLES / f"{name}.bufr" for name in ("synop", "sounding", "buoys", "bulletins"))
-# Numbers with few and many digits, with and without a sign; strings; and elements of levels.
+# Short and long numbers, with and without a sign; strings; and elements that occur within levels.
 ELEMENTS = "001001 001002 001015 001011 012101 005001 006001 015025 033002 020003 002001 013011 011002 007004".split()
 COLUMNS = [*ELEMENTS, "012101:2", "001015:2", "007004:3", "centre", "year", "subsets", "file", "offset", "length"]
 complaints = []
@@ -56,7 +55,7 @@ def run(*words, awk=None, environment=None, **streams):
     return done
 
 
-# The rows that bufr_text gives.
+# The rows that are expected, computed with bufr_text.
 
 
 class Number(str):
@@ -93,7 +92,7 @@ def messages_of(file) -> list:
 
 
 def subsets_of(files: list):
-    """Yields for each subset: the file, the message, the number of the message, the number of the subset, and the subset."""
+    """Yields, for each subset, the file, the message, the message number, the subset number and the subset."""
     count = 0
     for file in files:
         for message in messages_of(file):
@@ -149,7 +148,7 @@ def field_of(found, is_plain: bool):
 
 
 def rows_of_csv(output: bytes) -> tuple:
-    """Returns the heading and the rows. Names, units and files are not escaped, and descriptors are not numbers."""
+    """Returns the heading and the rows. Names, units and file names contain no escapes, and descriptors become bytes."""
     lines = output.decode().splitlines()
     heading = next(csv.reader(lines[:1]))
     rows = []
@@ -188,7 +187,7 @@ def alike(what: str, done, heading: list, wanted: list, as_json: bool) -> None:
 
 
 def elements() -> dict:
-    """Returns the rows of the latest Table B by descriptor."""
+    """Returns the rows of the latest Table B, indexed by descriptor."""
     with open(TOP / "tables/wmo-39/B.csv", encoding="utf-8", newline="") as file:
         return {row["fxy"]: row for row in csv.DictReader(file)}
 
@@ -203,7 +202,7 @@ def put_value(bits: lib.Bits, row: dict, chance: random.Random) -> None:
 
 
 def random_message(table: dict, chance: random.Random) -> bytes:
-    """Returns a message with random elements, which may repeat, and sometimes a group with a delayed replication."""
+    """Returns a message with random elements, which may repeat, and sometimes with a group in a delayed replication."""
     chosen = [chance.choice(ELEMENTS) for _ in range(chance.randrange(1, 6))]
     # The group contains each descriptor only once, so that levels are not ambiguous.
     group = chance.sample(["007004", "012101", "011002", "001015"], 3) if chance.random() < 0.6 else []
@@ -231,7 +230,7 @@ def against_bufr_text(folder: pathlib.Path) -> None:
     awks = [awk for awk in AWKS if shutil.which(awk[0])]
     for turn in range(6):
         awk, as_json = awks[turn % len(awks)], turn % 2 > 0
-        options, status = ["--json"] * as_json, 1  # because of the strays
+        options, status = ["--json"] * as_json, 1  # the files contain strays, so the status is 1
         what = f"{' '.join(awk)}, {'JSON' if as_json else 'CSV'}"
         columns = chance.sample(COLUMNS, chance.randrange(1, 9))
         done = run("-c", ",".join(columns), *options, *names, awk=awk)
@@ -296,7 +295,7 @@ def names(folder: pathlib.Path) -> None:
 
 
 def selection(_folder: pathlib.Path) -> None:
-    """`--where` selects messages like bufr-extract, and `--max-length` skips them like bufr-auto, also from a pipe."""
+    """`--where` selects the messages that bufr-extract selects, and `--max-length` skips those that bufr-auto skips."""
     files = sorted(EXAMPLES.glob("*.bufr"))
     stream = b"".join(path.read_bytes() for path in files)
     whole = run("-c", "year,001015", *files)
@@ -321,7 +320,7 @@ def selection(_folder: pathlib.Path) -> None:
 
 
 def several_files(folder: pathlib.Path) -> None:
-    """`bufr-csv` names the middle one of three files in its fault lines, and continues if it cannot read that file."""
+    """If the middle one of three files has faults, `bufr-csv` names it. If that file is unreadable, `bufr-csv` continues."""
     environment = {**os.environ, "BUFR": program()}
     files = [SYNOP, FAULTY, BUOYS]
     wanted = subprocess.run([TOP / "scripts/bufr-auto", *files], stdout=subprocess.PIPE, stderr=subprocess.PIPE, env=environment)
@@ -357,7 +356,7 @@ def notes(folder: pathlib.Path) -> None:
     done = run("--levels", "-c", "020013,020011", SYNOP)
     told = b"bufr-csv: skipped a subset without levels: message 1, subset 1\n"
     holds("a subset without levels", (done.returncode, done.stderr) == (0, told), done)
-    # Columns that occur only outside the levels, and columns that occur nowhere. bufr.levels issues the same warnings.
+    # These columns occur only outside the levels, or occur nowhere. bufr.levels issues the same warnings.
     outside = "bufr-csv: column {0} is empty because {0} occurs only outside the levels; pass --keep {0} instead\n"
     empty = "bufr-csv: column {} is empty because no row contains this item\n"
     one = "bufr-csv: skipped a subset without levels: message 1, subset 1\n"
@@ -567,7 +566,7 @@ def feed(awk: list, _folder: pathlib.Path) -> None:
             process.stdin.close()
             process.stdout.read()
         if complaints:
-            return  # waiting for missing rows takes a long time
+            return  # further waits for missing rows would take a long time
     # Notes are printed when the feed pauses: those on tables by bufr-auto, and those on subsets without levels by awk.
     environment, told = {**os.environ, "BUFR": program(), "AWK": " ".join(awk)}, b""
     command = [sys.executable, TOP / "scripts/bufr-csv", "--levels", "-c", "020011"]
@@ -587,7 +586,7 @@ def feed(awk: list, _folder: pathlib.Path) -> None:
 
 
 def note_on_years(_folder: pathlib.Path) -> None:
-    """In a live feed, the note on messages that were left out says that it counts only those so far."""
+    """In a live feed, the note on messages that were left out says that the count covers only the messages so far."""
     command, pipe = [sys.executable, TOP / "scripts/bufr-csv", "-c", "001006", "--where", "time=2006"], subprocess.PIPE
     environment, told = {**os.environ, "BUFR": program()}, b""
     with subprocess.Popen(command, stdin=pipe, stdout=subprocess.DEVNULL, stderr=pipe, env=environment) as process:
@@ -601,7 +600,7 @@ def note_on_years(_folder: pathlib.Path) -> None:
 
 
 def few_files(_folder: pathlib.Path) -> None:
-    """`bufr-csv --where` can read 40 parts of a live feed with at most 32 open files."""
+    """`bufr-csv --where` can read a live feed in 40 parts with at most 32 open files."""
     command = [sys.executable, TOP / "scripts/bufr-csv", "--where", "edition=4", "-c", "001015"]
     limit = lambda: resource.setrlimit(resource.RLIMIT_NOFILE, (32, 32))  # noqa: E731
     with subprocess.Popen(command, stdin=subprocess.PIPE, stdout=subprocess.PIPE, preexec_fn=limit) as process:
@@ -639,7 +638,7 @@ def main() -> None:
     with tempfile.TemporaryDirectory() as place:
         folder = pathlib.Path(place)
         feeds = [functools.partial(feed, awk) for awk in AWKS if shutil.which(awk[0])]
-        if shutil.which("mawk"):  # under another name, like awk on Debian
+        if shutil.which("mawk"):  # also run it under another name, because Debian installs it as awk
             (folder / "other").symlink_to(shutil.which("mawk"))
             feeds.append(functools.partial(feed, [str(folder / "other")]))
         parts = [names, selection, several_files, notes, refusals, failures, note_on_years, few_files]

@@ -38,7 +38,7 @@ def made(number: int, octets: int = 8) -> bytes:
     return bytes(message)
 
 
-# the arguments for a condition, and whether a message meets it (n: its number, m: its octets)
+# the arguments for a condition, and whether a message meets the condition (n: the message's number, m: its octets)
 CONDITIONS = [
     ([], lambda n, m: True),
     (["category=0"], lambda n, m: n % 5 == 0),
@@ -88,7 +88,7 @@ REFUSED = [
     (["nosuch"], "cannot open nosuch"),
     (["/"], "cannot read /: Is a directory"),
 ]
-# Awk conditions that do more than select lines.
+# Awk conditions that must be rejected, because they do more than select lines.
 NO_CONDITIONS = [
     "1;1",
     'BEGIN { print "x" } 1',
@@ -111,7 +111,7 @@ def run(words: list, **streams) -> subprocess.CompletedProcess:
 
 def takes_what_is_asked(program: str, path: pathlib.Path) -> None:
     messages = [made(number) for number in range(300)]
-    # strays among the messages, and an incomplete message at the end (n is odd, so refused[0] is never used)
+    # messages with an unknown edition and strays among the messages, and an incomplete message at the end
     refused = [messages[7][:7] + b"\x02" + messages[7][8:], b"BUFR\0\0\x40\x04" + bytes(60)]
     path.write_bytes(
         b"".join(HEADING + message + refused[n // 50 % 2] * (n % 50 == 9) for n, message in enumerate(messages))
@@ -130,7 +130,7 @@ def takes_what_is_asked(program: str, path: pathlib.Path) -> None:
             }
         for name, done in runs.items():
             want(done.stdout == wanted, f"{words} over {name} takes other messages")
-            if name != "standard input":  # which begins after the first heading, so its offsets differ
+            if name != "standard input":  # the offsets differ, because reading begins after the first heading
                 want(
                     (done.returncode, done.stderr) == (1, listed.stderr),
                     f"{words} over {name}: {done.returncode}, {done.stderr}",
@@ -160,7 +160,7 @@ def refuses_what_it_cannot(path: pathlib.Path) -> None:
     done = run(["--awk", 'NR == 2 { system("kill -9 $PPID") } 1', path])
     told = b"bufr-extract: awk was killed (signal 9); output is incomplete\n"
     want((done.returncode, done.stderr) == (2, told), f"of an awk that is killed: {done}")
-    # A grep that is killed, or that is not executable.
+    # grep is killed, or is not executable.
     (path.parent / "bin").mkdir()
     (path.parent / "bin/grep").write_text("#!/bin/sh\nkill -9 $$\n")
     killed, denied = "grep was killed (signal 9); output is incomplete", "cannot run grep: Permission denied"
@@ -204,7 +204,7 @@ def refuses_what_it_cannot(path: pathlib.Path) -> None:
 
 
 def tells_years_of_the_century(folder: pathlib.Path) -> None:
-    """If a year leaves out edition 3 messages, whose years have two digits, `bufr-extract` says how many."""
+    """If a `time` condition leaves out edition 3 messages, whose years have two digits, `bufr-extract` says how many."""
 
     def of(edition: int, year: int, month: int) -> bytes:
         message = bytearray(lib.message(b"\x14", edition=edition))
@@ -245,7 +245,7 @@ def tells_years_of_the_century(folder: pathlib.Path) -> None:
 
 
 def tells_that_there_is_no_message(path: pathlib.Path) -> None:
-    """`bufr-extract` prints a note if the input contains no messages, but not if it only selects none."""
+    """`bufr-extract` prints a note if the input contains no messages, but not if it contains some and none is selected."""
     zipped, cut = gzip.compress(made(1)), b"BUFR\0\0\x40\x04" + bytes(60)
     for octets, told, status in (
         (zipped, ": it looks like gzip data (use zcat)", 0),
@@ -263,7 +263,7 @@ def tells_that_there_is_no_message(path: pathlib.Path) -> None:
 
 
 def begins_after_a_message(path: pathlib.Path) -> None:
-    """`bufr-extract` reads standard input from its current position, even if it is after the only message in a file."""
+    """`bufr-extract` reads standard input from the current position, even if that is after the only message in a file."""
     path.write_bytes(made(1) + b"\ntext\n")
     with path.open("rb", buffering=0) as stream:
         stream.seek(len(made(1)))
@@ -273,7 +273,7 @@ def begins_after_a_message(path: pathlib.Path) -> None:
 
 
 def ignores_the_locale(folder: pathlib.Path) -> None:
-    """An awk condition means the same in every locale, although gawk counts characters in some and bytes in C."""
+    """An awk condition means the same in every locale, although gawk counts bytes in the C locale and characters in others."""
     gawk = shutil.which("gawk")
     if not gawk:
         print("bufr_extract: skipped, gawk is not there to try a locale")
@@ -286,7 +286,7 @@ def ignores_the_locale(folder: pathlib.Path) -> None:
 
 
 def skips_what_is_too_long(folder: pathlib.Path) -> None:
-    """`bufr-extract --max-length` skips messages that declare more bytes, prints notes, and continues inside them."""
+    """`bufr-extract --max-length` skips messages that declare more bytes, prints notes, and finds messages inside them."""
     inner, stray = made(3), b"BUFR\xff\xff\xff\x04"
     longer = lib.message(inner, lib.words("205056"))
     octets = made(1) + HEADING + longer + stray + made(2) + longer[:-4]

@@ -100,7 +100,7 @@ def differences(path: pathlib.Path, tables: tuple, rng: random.Random) -> list:
         wanted, skipped = told_by(lambda: list(getattr(bufr_text, name)(messages, *words)))
         same(f"{name} {words}", shown(found), shown(wanted))
         same(f"{name}: faults", faults, wanted_faults)
-        # bufr_text gets messages here, so it does not know the file
+        # Here, bufr_text is given messages, so it cannot name their file.
         notes = [note.replace(f" in {path}", "") for note in notes]
         same(f"{name}: notes", sorted(map(short, notes)), sorted(map(short, wanted_notes + skipped)))
     with warnings.catch_warnings():
@@ -128,17 +128,17 @@ def differences(path: pathlib.Path, tables: tuple, rng: random.Random) -> list:
 
 
 def short(note: str) -> str:
-    """Returns a note without its end, which names the tables that do not define a column."""
+    """Removes the end of a note, which names the tables that do not define a column."""
     return re.sub("; .* does not define .*", "", note)
 
 
 def number_of(cell):
-    """Returns a number as a float, a missing value as None, and a string as it is."""
+    """Converts a number to a float and a missing value to None. Returns a string unchanged."""
     return cell if isinstance(cell, str) else None if cell is None or pandas.isna(cell) else float(cell)
 
 
 def escaped(cell):
-    """Returns a string in a frame escaped as in a dump, and any other value as it is."""
+    """Escapes a string from a frame as in a dump. Returns any other value unchanged."""
     return bufr_text.text_cell(cell.encode("latin-1")) if isinstance(cell, str) else cell
 
 
@@ -147,7 +147,7 @@ def cell_of(cell):
 
 
 def item_lines(found: bufr.Items, messages: list) -> tuple:
-    """Returns comparable tuples for the items that `bufr` found and for the items in the messages."""
+    """Returns two lists of tuples to compare: for the items that `bufr` found, and for the items in the messages."""
     given = []
     for index, (row, offset) in enumerate(zip(found.items, found.messages["offset"][found.items["message_row"]].tolist())):
         value, fxy = found.exact(index), f"{row['fxy']:06}"
@@ -164,12 +164,15 @@ def item_lines(found: bufr.Items, messages: list) -> tuple:
 
 
 def item_values(found: bufr.Items) -> list:
-    """Returns the exact value of each item, after the offset of its message."""
+    """Returns a pair for each item: the offset of its message, and its exact value."""
     return [(found.messages["offset"][row["message_row"]], found.exact(index)) for index, row in enumerate(found.items)]
 
 
 def message_lines(rows, listed: list, faults: list) -> tuple:
-    """Returns the headers and faults in message rows, and those in a listing and a list of faults, as tuples."""
+    """Returns two lists of tuples to compare.
+
+    The first is made from the headers and faults in rows of messages, and the second from a listing and a list of faults.
+    """
     names = [name for name in bufr_text.Listed._fields if name != "descriptors"]
     given = [tuple(row[name].item() for name in names) for row in rows if row["edition"]]
     wanted = [tuple(getattr(one, name) for name in names) for one in listed]
@@ -192,7 +195,7 @@ class WithFolder(unittest.TestCase):
 
 
 class Same(WithFolder):
-    """`bufr` returns the same as bufr_text."""
+    """`bufr` returns the same results as bufr_text."""
 
     def alike(self, name: str, octets: bytes, tables: tuple) -> None:
         self.stream.write_bytes(octets)
@@ -203,7 +206,7 @@ class Same(WithFolder):
         for path in EXAMPLES:
             self.alike(path.name, path.read_bytes(), ())
         self.alike("all", b"".join(path.read_bytes() for path in EXAMPLES), ())
-        # tables that lack some sequences and elements, so that messages are rejected
+        # These tables lack some sequences and elements, so some messages are rejected.
         old = tuple(table.replace("wmo-39", "wmo-13") for table in TABLES)
         self.alike("all by old tables", b"BUFR".join(path.read_bytes() for path in EXAMPLES), old)
 
@@ -214,9 +217,9 @@ class Same(WithFolder):
     def test_hostile_streams(self):
         streams = [random_trial.stream_of(random.Random(f"arrays {number}")) for number in range(HOSTILE)]
         for number in range(0, HOSTILE, 10):
-            # ten streams together, with the tables that each message needs
+            # Ten streams are joined, and each message is read with the tables that it needs.
             self.alike(f"hostile streams from {number} on", b"\r\n".join(streams[number : number + 10]), ())
-        # each stream alone, with the tables in wmo-39
+        # Each stream is read separately, with the tables in wmo-39.
         for number, stream in enumerate(streams):
             self.alike(f"hostile stream {number}", stream, TABLES)
 
@@ -229,12 +232,12 @@ class Same(WithFolder):
         said = "^skipped 2 subsets with ambiguous levels; the first is subset 1 of the message at offset 0 in {} .008002 begins a level"
         said += " and occurs again in it.; to get their items, use bufr.items or bufr_text.dump$"
         self.stream.write_bytes(octets)
-        # pieces cause this warning, too, because soundings are lost
+        # This warning is also issued for pieces, because these soundings are missing from the result.
         for source, name in (([octets, octets], "bytes 1"), (bufr.pieces([self.stream] * 2), self.stream)):
             with self.assertWarnsRegex(bufr.DumpWarning, said.format(name)) as one:
                 self.assertEqual(list(bufr.levels(source, ["008002"])), [])
             self.assertEqual(one.filename, __file__)
-        # the reported offset depends neither on the conditions nor on the piece
+        # The reported offset must not depend on the conditions or on the piece.
         self.stream.write_bytes(SYNOP.read_bytes() + octets)
         told = f"skipped a subset with ambiguous levels: subset 1 of the message at offset 595 in {self.stream} (008002 begins a level"
         told += " and occurs again in it); to get its items, use bufr.items or bufr_text.dump"
@@ -324,7 +327,7 @@ class Sources(WithFolder):
         rows = list(bufr.rows([SYNOP, io.BytesIO(octets), octets], [], ["file", "message", "subset"]))
         self.assertEqual(rows[::3], [(str(SYNOP), 1, 1), ("stream", 2, 1), ("bytes", 3, 1)])
         self.assertEqual(len(bufr.pieces(pandas.Series(paths))), 2)
-        with tempfile.TemporaryFile() as file:  # its name is a number
+        with tempfile.TemporaryFile() as file:  # the `name` of this file object is a number
             file.write(octets)
             file.seek(0)
             self.assertEqual(next(bufr.rows(file, [], ["file"])), ("stream",))
@@ -341,7 +344,7 @@ class Sources(WithFolder):
             ([*two, memoryview(octets)], three),
             ([stream, one, SYNOP, two], ["stream", "bytes 1", str(SYNOP), *three[1:]]),
             (pandas.Series(two), three[:2]),
-            # the number of bytes objects is unknown until they have been read
+            # The length of an iterator is unknown, so even a single bytes object is numbered.
             (iter(one), three[:1]),
         ]:
             self.assertEqual([*dict.fromkeys(file for [file] in bufr.rows(source, [], ["file"]))], names)
@@ -408,7 +411,7 @@ class Sources(WithFolder):
             with self.assertRaisesRegex(bufr.BufrError, f"^{told}$") as error:
                 call([], faults="raise")
             self.assertEqual((error.exception.file, error.exception.offset), (None, None))
-        # a list of pieces is not empty, even if they contain no messages
+        # A list of pieces does not count as empty, even if the pieces contain no messages.
         self.assertEqual(told_by(lambda: len(bufr.messages([bufr.Piece(str(SYNOP), 0, 0)]))), (0, []))
 
     def test_a_file_without_messages_is_warned_of(self):
@@ -433,7 +436,7 @@ class Sources(WithFolder):
         with self.assertRaisesRegex(bufr.BufrError, "^bytes: the file contains no messages: it is empty$") as error:
             bufr.frame([SYNOP, b""], ["012101"], faults="raise")
         self.assertEqual((error.exception.file, error.exception.offset, error.exception.number), ("bytes", None, None))
-        # but there is no warning for a piece of a file
+        # A piece of a file that contains no messages causes no warning.
         self.stream.write_bytes(SYNOP.read_bytes() + b"BUFR\0\0\1" * 9)
         *_, last = bufr.pieces(self.stream, 1)
         rows, told = told_by(lambda: bufr.messages(last, faults=[]))
@@ -517,7 +520,7 @@ class Sources(WithFolder):
                 if where is not None or call is bufr.rows:
                     with self.assertRaisesRegex(error, told):
                         call(self.stream, ["012101"], where=where)
-        # there is a warning if no message in any file meets the conditions
+        # There must be a warning if no message in any file meets the conditions, but only then.
         (self.folder / "empty").touch()
         for call in (bufr.rows, bufr_text.rows):
             for where, wanted in ((["category=99"], 1), (["category=0"], 0), (["category!=99"], 0), ([], 0)):
@@ -529,7 +532,7 @@ class Sources(WithFolder):
         _, told = told_by(lambda: bufr.messages(self.folder / "empty", where=["category=0"]))
         self.assertEqual(len(told), 1)
         self.assertIn("the file contains no messages", told[0])
-        # each file has its own note
+        # A separate note is issued for each file.
         old = self.folder / "old"
         one = next(one for one in bufr_text.listing(self.stream, []) if one.edition == 3)
         old.write_bytes(octets[one.offset :][: one.length])
@@ -539,7 +542,7 @@ class Sources(WithFolder):
 
 class Values(WithFolder):
     def test_exact(self):
-        """`bufr` reads wide numbers, scales of 127 and -127, and numbers that a float division would not round correctly."""
+        """`bufr` reads wide numbers, scales of 127 and -127, and numbers that a float division would round incorrectly."""
         rows = [f"0010{at:02},N,M,{scale},{reference},{width}\n" for at, (scale, reference, width) in enumerate(NUMBERS)]
         tables = self.folder / "B.csv", self.folder / "D.csv"
         tables[0].write_text("fxy,name,unit,scale,reference,width\n" + "".join(rows))
@@ -733,7 +736,7 @@ class Values(WithFolder):
         self.assertEqual([found.exact(index) for index in air[:2]], [Decimal("259.35"), Decimal("282.55")])
 
     def test_names_and_units_of_each_version(self):
-        """`bufr` takes names, units and column types from the table with which it read a value."""
+        """`bufr` takes names, units and column types from the tables with which it reads the values."""
         words = ["012101", "022191", "022179", "033066"]
 
         def octets(version: int, *values) -> bytes:
@@ -917,7 +920,7 @@ class Faults(WithFolder):
         pieces = bufr.pieces(SYNOP)
         for source in (pieces, [*pieces, SYNOP]):
             self.assertEqual(told_by(lambda: [bufr.frame(source, ["012104"]), bufr.items(source, ["012104"])])[1], [])
-        # but there is one for a descriptor that no set defines; 002192 is in a local set, and 002191 only in an old one
+        # A descriptor that no set defines does cause a warning. 002192 is in a local set, and 002191 only in an old one.
         folder = self.folder / "sets"
         for name in ("wmo-39", "wmo-13", "wmo-13+98-7"):
             shutil.copytree(TOP / "tables" / name[:6], folder / name)
@@ -934,7 +937,7 @@ class Faults(WithFolder):
         for call in (bufr.frame, bufr.items):
             _, told = told_by(lambda: call(pieces, ["012104", "063255"], tables=TABLES))
             self.assertEqual(told, [f"this piece contains no item for 063255, and {TABLES[0]} does not define it"])
-            # without messages, there is no warning
+            # A piece without messages causes no warning.
             self.assertEqual(told_by(lambda: call([bufr.Piece(str(SYNOP), 0, 0)], ["063255"]))[1], [])
         for call in (bufr.frame, bufr.items):
             _, told = told_by(lambda: call(SYNOP, ["012104"], where=["centre=1"]))
@@ -962,12 +965,12 @@ class Faults(WithFolder):
         three = "skipped 3 subsets without levels; the first is subset 1 of the message at offset {} in {}"
         for call in (bufr.levels, bufr_text.levels, lambda *words: bufr.frame(*words[:2], keep=words[3], levels=True)):
             for source, columns, keep, wanted in [
-                # without a row, there is no warning about the columns in keep=
+                # If there are no rows, the columns in keep= cause no warning.
                 (SYNOP, ["012104"], ["012103"], [empty.format("012104"), three.format(0, SYNOP)]),
                 # 001001 occurs twice before the levels, and 001002 once
                 (self.stream, ["007004", "001001", "001002"], [], [several.format("001001"), outside.format("001002"), one.replace(str(sounding), str(self.stream))]),
                 (sounding, ["012104"], ["001002"], [empty.format("012104"), one]),
-                # there is no warning about the other columns, because they have values in the levels
+                # The other columns cause no warning, because they have values in the levels.
                 (sounding, ["001002", "007004", "012101"], [], [outside.format("001002"), one]),
                 (sounding, ["007004", "001002"], [], [outside.format("001002"), one]),
                 (sounding, ["007004", "012101", "001002"], [], [outside.format("001002")]),
@@ -1033,7 +1036,7 @@ class Faults(WithFolder):
             bufr.messages(SYNOP)
 
 
-# Several processes. A worker creates a file before it kills itself, so that no other worker does.
+# Several processes. The worker that creates the file `mark` kills itself. The others find that file and continue.
 
 
 def read(piece: bufr.Piece, mark: str = ""):
@@ -1054,7 +1057,7 @@ def read_by_dask(folder: str) -> None:
     import distributed
 
     pieces, mark, meta = pickle.loads(pathlib.Path(folder, "given").read_bytes())
-    sys.path.insert(0, str(SCRIPTS))  # workers inherit this path, and tests/ contains another bufr_auto
+    sys.path.insert(0, str(SCRIPTS))  # before tests/, which contains another bufr_auto; workers inherit this path
     times = ("distributed.comm.timeouts.connect", "distributed.comm.timeouts.tcp", "distributed.scheduler.worker-ttl")
     local = {"n_workers": 2, "threads_per_worker": 1, "dashboard_address": ":0", "silence_logs": 50}
     with dask.config.set(dict.fromkeys(times, f"{DASK_SECONDS}s")), distributed.Client(local_directory=folder, **local):
@@ -1071,7 +1074,7 @@ def read_by_dask(folder: str) -> None:
 class Processes(WithFolder):
     def setUp(self):
         super().setUp()
-        # without bulletins.bufr, because its strays declare large lengths
+        # bulletins.bufr is left out, because its strays declare large lengths.
         octets = b"BUFR\0\0\1".join([*(path.read_bytes() for path in EXAMPLES if path.stem != "bulletins"), b""])
         self.stream.write_bytes(octets * 20)
         self.files = [str(self.stream), str(SYNOP), str(self.stream)]
@@ -1104,7 +1107,7 @@ class Processes(WithFolder):
             import distributed  # noqa: F401
         except ImportError:
             self.skipTest("Dask is not installed (Debian: apt-get install python3-dask python3-distributed)")
-        # in a separate process, because Dask prints a traceback when a worker exits, even if nothing is wrong
+        # This needs a separate process, because Dask prints a traceback when a worker exits, even if nothing is wrong.
         (self.folder / "given").write_bytes(pickle.dumps((self.pieces, self.mark, self.wanted[:0])))
         words = [sys.executable, "-c", "import sys, bufr_module; bufr_module.read_by_dask(sys.argv[1])", self.folder]
         environment = {**os.environ, "PYTHONPATH": f"{SCRIPTS}:{TOP}/tests"}
@@ -1154,7 +1157,7 @@ class Processes(WithFolder):
                 done = subprocess.run(words, stdout=subprocess.PIPE, text=True, check=True)
                 used.append(int(re.search(r"^VmHWM:\s+(\d+) kB$", done.stdout, re.M)[1]) // 1000)
             print(f"bufr_module: {call}: {used[0]} MB, and {used[1]} MB for three times the messages")
-            # If a call retained the input or its items, it would need at least 40 MB more. Runs differ by up to 15 MB.
+            # If a call retained the input or its items, it would need at least 40 MB more. Memory use varies by up to 15 MB.
             self.assertLess(used[1] - used[0], 30, call)
 
 
@@ -1163,7 +1166,7 @@ class Wheel(WithFolder):
         self.assertIn(f'NAME = "bufr_text-{bufr.__version__}"', (TOP / "build_wheel.py").read_text())
 
     def test_a_wheel_is_enough(self):
-        """In an environment that has NumPy, an installed wheel needs neither a library nor tables from elsewhere."""
+        """If NumPy is installed, an installed wheel needs no library or tables from elsewhere."""
         code = "import sys, build_wheel; print(build_wheel.build_wheel(sys.argv[1], {'library': sys.argv[2]}))"
         words = [sys.executable, "-c", code, self.folder, os.environ["BUFR_LIBRARY"]]
         wheel = subprocess.run(words, cwd=TOP, stdout=subprocess.PIPE, text=True, check=True).stdout.strip()

@@ -20,7 +20,7 @@ import lib
 from lib import TABLES, TOP, want
 
 PARALLEL = [sys.executable, TOP / "scripts/bufr-parallel"]
-# a stray, and its fault line at the beginning of a stream
+# a stray, and its fault line if the stray is at the beginning of a stream
 STRAY, STRAY_TOLD = b"BUFR\0\0\0\4", b"offset 0: 2 short length\n"
 
 
@@ -35,7 +35,7 @@ def made_stream() -> bytes:
     data_end = lib.message(b"\x14", b"\x01\x01", 3)
     unknown = lib.message(b"\x14", lib.words("063255"))
     edition_2 = good[0][:7] + b"\x02" + good[0][8:]
-    # in the whole stream, the fault of this stray is `3 no end`, but its declared end is in another part
+    # the fault of this stray must be `3 no end`, as in the whole stream, although its declared end is in another part
     word = b"BUFR\x03\x00\x00\x04"
     pieces = []
     for n in range(6000):
@@ -116,7 +116,7 @@ def tells_what_fails(program: str, folder: pathlib.Path) -> None:
         "swapped tables are told otherwise",
     )
     replaced = folder / "replaced.bufr"
-    replaced.write_bytes((lib.TOP / "examples/synop.bufr").read_bytes() * 20_000)  # over several parts
+    replaced.write_bytes((lib.TOP / "examples/synop.bufr").read_bytes() * 20_000)  # large enough for several parts
     (folder / "other.bufr").write_bytes(bytes(replaced.stat().st_size))
     pipes = dict(stdout=subprocess.PIPE, stderr=subprocess.PIPE)
     with subprocess.Popen([*PARALLEL, "-P", "1", "dump", *TABLES, replaced], **pipes) as child:
@@ -146,7 +146,8 @@ def tells_what_fails(program: str, folder: pathlib.Path) -> None:
     with open("/dev/full", "wb") as full:
         done = subprocess.run([*PARALLEL, "dump", *TABLES, path], stdout=full, stderr=subprocess.PIPE)
     want(done.returncode == 2 and b"bufr-parallel: " in done.stderr, "a full device is not told")
-    # if a process fails, the output up to and including its part is written, then its error line, and nothing after that
+    # if a process fails, bufr-parallel writes the output up to and including that process's part, then its error line, and
+    # nothing else
     failing = folder / "failing"
     failing.write_text(
         f'#!/bin/sh\n[ "$1" = ls ] && exec {program} ls\ncat > $$.part\n{program} "$@" < $$.part\n'
@@ -164,7 +165,7 @@ def tells_what_fails(program: str, folder: pathlib.Path) -> None:
         (status, output.count(b"\nend\n"), errors) == (2, 5, STRAY_TOLD + b"bufr: 73 out of memory\n"),
         f"a failed process ends with {status}, {errors}",
     )
-    # a file that is removed after it was listed, and a `bufr ls` that is killed before it reads its input
+    # a file that is removed after it has been listed, and a `bufr ls` that is killed before it reads its input
     for script, told in (
         ("cat > listed; rm two.bufr; exec {0} ls < listed", b"cannot open two.bufr: No such file or directory\n"),
         ("kill -9 $$", b"bufr was killed (signal 9); output is incomplete\n"),
@@ -226,7 +227,7 @@ def closes_what_it_opens(folder: pathlib.Path) -> None:
 
 
 def reads_each_octet_once(program: str, folder: pathlib.Path) -> None:
-    """`bufr-parallel` lists the stream once and dumps no octet twice, so its work is that of one dump and one listing."""
+    """`bufr-parallel` lists the stream only once and dumps no octet twice, so it does no more than one `ls` and one `dump`."""
     (folder / "counting").write_text(
         f'#!/bin/sh\ncat > $$.part\nwc -c < $$.part >> "$1.octets"\nexec {program} "$@" < $$.part\n'
     )

@@ -1,11 +1,11 @@
 #!/usr/bin/env python3
-"""Tests scripts/bufr-plot: maps with unusual positions and strings, soundings, and the messages if there is nothing to draw
-or matplotlib is missing. Failures must leave no files behind.
+"""Tests scripts/bufr-plot: maps with unusual positions and strings, soundings, and the error messages when there is nothing to
+draw or matplotlib is missing. A failed run must leave no files behind.
 
     tests/bufr_plot.py [PROGRAM]
 
-The test draws with the first python3 that has matplotlib: its own, the one on PATH, or /usr/bin/python3. If none has it,
-drawing is skipped.
+The test draws with the first python3 that has matplotlib: the one that runs the test, the one on PATH, or /usr/bin/python3.
+If none of them has it, the tests that draw are skipped.
 """
 import os
 import pathlib
@@ -46,7 +46,7 @@ def stations(count: int, latitude: str = "50.5", longitude: str = "10.25", name:
 
 def strange(python: str, folder: pathlib.Path) -> None:
     """`bufr-plot` draws positions beyond the map, many labels, and strings that look like formulas."""
-    # makes pictures of the same map identical
+    # With these settings, pictures of the same map are identical.
     (folder / "matplotlibrc").write_text("svg.fonttype: none\nsvg.hashsalt: a\n")
     environment = {**os.environ, "SOURCE_DATE_EPOCH": "0"}
 
@@ -87,7 +87,7 @@ def strange(python: str, folder: pathlib.Path) -> None:
         want(((min(edges), max(edges)) == (-150, 150)) == is_whole, f"the map to {place} has {ticks}")
     want(">93<" not in draw(stations(1).replace(b" 10.5\n", b" 90.0\n"))[0], "a map of the pole shows far more than its point")
     want("2 points: 012101 []" in draw(stations(2).replace(b"\n012101 282.5", b""), "--value", "012101")[0], "a last subset without the value hides its name")
-    # Two levels at 0 degrees Celsius: the temperature axis is symmetric about 0.
+    # If all levels have a temperature of 0 degrees Celsius, the temperature axis is symmetric about 0.
     head = stations(1).partition(b"subset 1\n")[0]
     level = b"007004 %d00\n012101 273.15\n"
     (folder / "text").write_bytes(head + b"subset 1\n" + level % 1000 + level % 500 + b"end\n")
@@ -125,7 +125,7 @@ def first_of_a_level(python: str, folder: pathlib.Path, text: bytes) -> None:
     want(twice.count(b" 300 ") > 40 and draw(twice) == whole, "the last temperature of a level counts")
     others = re.sub(rb"\n0121(0[13])", rb"\n0120\1", text)
     want(others != text and draw(others) == whole, "0 12 001 and 0 12 003 count otherwise")
-    # not levels: a temperature before all pressures, invalid pressures, and a pressure without a temperature
+    # These are not levels: a temperature before all pressures, invalid pressures, and a pressure without a temperature.
     odd = b"subset 1\n012101 250\n007004 MISSING\n012101 250\n007004 0\n012101 250\n007004 -100\n012101 250\n007004 2000\n"
     want(draw(text.replace(b"subset 1\n", odd)) == whole, "what is no level is drawn")
     one = text.partition(b"subset 1\n")[0] + b"subset 1\n007004 50000\n012101 250\nend\n"
@@ -133,7 +133,7 @@ def first_of_a_level(python: str, folder: pathlib.Path, text: bytes) -> None:
 
 
 def chosen_sounding(python: str, folder: pathlib.Path) -> None:
-    """`bufr-plot` draws the first sounding or the first selected one. Its title contains the message and subset numbers."""
+    """`bufr-plot` draws the first sounding or the first selected one. The title contains the message and subset numbers."""
     bare, level = b"subset 1\n012101 250\n", b"007004 %d00\n012101 273.15\n"
     head = stations(1).partition(b"subset 1\n")[0].replace(b"subsets 1", b"subsets 3")
     text = head + bare + b"".join(b"subset %d\n" % number + level % 1000 + level % 500 for number in (2, 3)) + b"end\n"
@@ -168,7 +168,7 @@ def memory_of_points(python: str, folder: pathlib.Path) -> None:
 
 
 def draws_whole(python: str, folder: pathlib.Path) -> None:
-    """If `bufr-plot` cannot write a picture, it leaves the old picture unchanged and no other file behind."""
+    """If `bufr-plot` cannot write a picture, it leaves any old picture unchanged, and leaves no other files behind."""
     place = folder / "whole"
     place.mkdir()
     (place / "old.png").write_bytes(b"old")
@@ -193,7 +193,7 @@ def draws_whole(python: str, folder: pathlib.Path) -> None:
         want(left == ["full.png", "old.png"] and (place / "old.png").read_bytes() == b"old", f"{name} leaves {left}")
     done = run(python, ["map", place / "old.png"], stations(2))
     want(done.returncode == 0 and (place / "old.png").read_bytes()[:4] == b"\x89PNG", "an old picture stays")
-    # without a home directory, matplotlib creates a temporary directory
+    # Without a home directory, matplotlib creates a temporary directory, which must not remain.
     (place / "temporary").mkdir()
     environment = {"PATH": os.environ["PATH"], "HOME": "/proc/nowhere", "TMPDIR": str(place / "temporary")}
     done = run(python, ["map", place / "new.png"], stations(2), env=environment)
@@ -214,7 +214,7 @@ def draws(python: str, program: str, folder: pathlib.Path) -> None:
         (["sounding"], "sounding", ["temperature", "dew point", "2023-03-14 23:31", ">850</text>", ">30</text>"]),
         (["sounding", "--message", "1", "--subset", "1"], "sounding", ["pressure"]),
     ]:
-        # the letters in the SVG are text, so the test can search for them
+        # With this setting, the labels in an SVG file are text that the test can search for.
         picture = folder / "picture.svg"
         (folder / "matplotlibrc").write_text("svg.fonttype: none\n")
         done = run(python, [*words, picture], texts[name], cwd=folder)
@@ -283,7 +283,7 @@ def draws(python: str, program: str, folder: pathlib.Path) -> None:
 def main() -> None:
     with tempfile.TemporaryDirectory() as place:
         folder = pathlib.Path(place)
-        # a Python that first finds another matplotlib, which cannot be imported
+        # Python finds this matplotlib first, and cannot import it.
         (folder / "hidden").mkdir()
         (folder / "hidden/matplotlib.py").write_text("raise ModuleNotFoundError(name=__name__)\n")
         done = run(

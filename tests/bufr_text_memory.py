@@ -1,11 +1,11 @@
 #!/usr/bin/env python3
-"""Measures how much memory the functions in scripts/bufr_text.py use, which must depend only on the longest message.
+"""Checks that the memory use of the functions in scripts/bufr_text.py depends only on the longest message.
 
     tests/bufr_text_memory.py [PROGRAM]
 
 A function may use 48 MB, plus 1 KB for each item in the longest message, plus twice the length of that message's dump;
 `encode` may also use memory for its result. The streams contain many messages, long messages, messages whose dumps are
-7,000 times as long, and faults.
+thousands of times as long as the messages themselves, and faults.
 """
 import os
 import pathlib
@@ -56,7 +56,8 @@ def main() -> None:
     os.environ["BUFR"] = lib.program()
     small, unknown = lib.message(b"\x14"), lib.message(b"\x14", b"\x3f\xff")
     wrongs = []
-    # name, bytes, number of repetitions, items in the longest message, bytes per dump line, and the calls
+    # the name, the bytes to repeat, the number of repetitions, the items in the longest message, the bytes per dump line, and
+    # the calls to measure
     streams = [
         ("small messages", small, 20_000, 1, 50, ["listing", "where"]),
         ("faults", b"BUFR\0\0\1" * 100 + small, 2_000, 1, 50, ["dump", "listing"]),

@@ -31,7 +31,7 @@ import bufr_text
 import random_messages
 
 TABLES = lib.TABLES[1::2]
-# these lack sequences and elements that some examples use
+# These tables lack sequences and elements that some examples use.
 OLD_TABLES = [table.replace("wmo-39", "wmo-13") for table in TABLES]
 ONE = TOP / "tests/vectors/texts/one_block_number.txt"
 TEXTS = sorted([*(TOP / "examples").glob("*.txt"), *(TOP / "tests/vectors/texts").glob("*.txt")])
@@ -57,7 +57,7 @@ def with_line(number: int, lines: bytes) -> bytes:
     return b"".join([*text[: number - 1], lines, *text[number:]])
 
 
-# Common mistakes: line number, invalid line, and reported cause. Line 24 is an item, and line 22 the descriptors.
+# Common mistakes: line number, invalid line, reported cause. In ONE, line 22 lists the descriptors, and line 24 is an item.
 MISTAKES = [
     (1, b"\xef\xbb\xbfmessage\n", "a byte order mark"),
     (1, (TOP / "examples/synop.bufr").read_bytes().partition(b"\n")[0] + b"\n", "BUFR data instead of a dump; to dump it, use bufr-auto"),
@@ -140,7 +140,7 @@ ALIKE = [
 
 class Texts(unittest.TestCase):
     def test_dumps_are_written_as_they_were_read(self):
-        # handwritten documents are spelled differently and lack comments
+        # Handwritten documents use other spellings and lack comments.
         dumps = [path for path in TEXTS if not path.name.startswith("document_")]
         self.assertGreater(len(dumps), 30)
         for path in dumps:
@@ -223,7 +223,7 @@ class Texts(unittest.TestCase):
                 self.assertTrue(str(told.exception).endswith(f", found {cause}"), told.exception)
                 done = run(lib.program(), "encode", *lib.TABLES, input=with_line(number, line))
                 self.assertRegex(done.stderr.decode(), f"^line {number}: 5[012] ")
-        with self.assertRaisesRegex(bufr_text.TextError, "^line 24: expected an item$"):  # without a known cause
+        with self.assertRaisesRegex(bufr_text.TextError, "^line 24: expected an item$"):  # the cause is unknown
             list(bufr_text.read(io.BytesIO(with_line(24, b"001001 10 x\n"))))
         with self.assertRaisesRegex(bufr_text.TextError, "^line 25: expected an item, 'subset' or 'end', found the end of the"):
             list(bufr_text.read(lines_of(ONE)[:24]))
@@ -240,7 +240,7 @@ class Texts(unittest.TestCase):
                     refused = f"line {error.line}: 5"
                 told = run(lib.program(), "encode", *lib.TABLES, input=text).stderr.decode()
                 told = re.sub(r"^(line \d+: 5)[07] .*\n", r"\1", told)
-                # `read` does not check what the faults 51 to 56 report
+                # `read` does not check for the errors that faults 51 to 56 report.
                 self.assertEqual(refused, "" if re.search(r": 5[1-6] ", told) else told)
 
     def test_names_may_be_of_any_octets(self):
@@ -293,7 +293,7 @@ class Texts(unittest.TestCase):
         tracemalloc.stop()
         self.assertEqual(count, 300)
         self.assertLess(peak, 2_000_000)
-        # nothing after the first message is read until the next one is requested
+        # Nothing after the first message is read until the next one is requested.
         self.assertEqual(len(next(bufr_text.read([*text, b"nonsense\n"])).subsets), 3)
 
 
@@ -311,15 +311,15 @@ class Tables(unittest.TestCase):
                     try:
                         rows = list(bufr_text.rows(bufr_text.read(lines_of(path)), columns, ["message", "subset", *header]))
                     except bufr_text.TextError:
-                        continue  # this text is invalid, and tests only `encode`
+                        continue  # this text is invalid, because it is a test for `encode`
                 self.assertEqual(self.alike(rows), self.alike(wanted))
-                # without subsets, table.awk also reports that the header columns are empty
+                # If there are no subsets, table.awk also reports that the header columns are empty.
                 self.assertEqual(self.notes(told), done.stderr.decode().splitlines() if rows else [])
                 passed += len(rows)
         self.assertGreater(passed, 100)
 
     def notes(self, told: list) -> list:
-        """Returns warnings as table.awk prints them, except for those that it does not print."""
+        """Returns warnings in the words of table.awk, without those that table.awk does not print."""
         texts = [f"table.awk: {one.message}" for one in told if "all of its values are missing" not in str(one.message)]
         texts = [text.replace("use bufr.items or bufr_text.dump", "run table.awk without levels= or columns=") for text in texts]
         several = r"to get its first value, pass keep=\['(\d+)'\]; to get all of its values, .*"
@@ -419,12 +419,12 @@ class Tables(unittest.TestCase):
         texts = [(TOP / f"examples/{name}.txt").read_bytes() for name in ("sounding", "synop", "buoys")]
         chance = random.Random(1)
         texts += [document(chance) for _ in range(60)]
-        # two or three passes that begin and end with the same descriptor
+        # Two or three passes that begin and end with the same descriptor.
         enclosed = b"031001 %d\n" + b"008002 1\n020011 2\n008002 MISSING\n" * 3
         texts += [with_line(24, enclosed % passes) for passes in (2, 3)]
         texts.append(with_line(24, b"031001 MISSING\n007004 1\n"))
         texts.append(with_line(24, b"031001 3\n" + b"007004 1\n007004 2\n031001 1\n011001 3\n" * 3))
-        # nested groups, then a group without a pass, then another group
+        # Nested groups, then a group with no passes, then another group.
         texts.append(with_line(24, b"031001 2\n" + b"007004 1\n031001 1\n011001 3\n" * 2 + b"031001 0\n031001 1\n007004 5\n012101 6\n"))
         lists = [("001015", "007004,012101,012103"), ("001001", "007004"), ("007004", "012101,007004"), ("", "020012,020011"), ("", "008002")]
         unclear, count = 0, 0
@@ -454,7 +454,7 @@ class Tables(unittest.TestCase):
 
 
 def document(chance: random.Random) -> bytes:
-    """Returns a document with one subset of random nested groups."""
+    """Returns a document whose only subset contains random nested groups."""
 
     def group(depth: int) -> list:
         some = [b"007004", b"012101", b"001001", b"002002", b"020012", b"020011"]
@@ -480,7 +480,7 @@ class Runs(unittest.TestCase):
         place = tempfile.TemporaryDirectory()
         self.addCleanup(place.cleanup)
         self.folder = pathlib.Path(place.name)
-        # all examples, with strays between them and at the end
+        # All examples, with strays between them and at the end.
         paths = sorted((TOP / "examples").glob("*.bufr"), key=lambda path: path.stem != "sounding")
         self.octets = b"".join(path.read_bytes() + b"BUFR\0\0\1" for path in paths)
         self.stream = self.folder / "stream"
@@ -490,7 +490,7 @@ class Runs(unittest.TestCase):
         for tables in (TABLES, []):
             [message] = bufr_text.dump(TOP / "examples/synop.bufr", *tables)
             self.assertEqual(written([message]), (TOP / "examples/synop.txt").read_bytes())
-            # it equals a message that was read from a dump, although that one has no offset
+            # The message must equal the one that is read from its dump, although that one has no offset.
             self.assertEqual([message], list(bufr_text.read(lines_of(TOP / "examples/synop.txt"))))
 
     def test_faults_and_places(self):
@@ -500,7 +500,7 @@ class Runs(unittest.TestCase):
         self.assertEqual(written(messages), done.stdout)
         self.assertEqual([f"{fault.line()}\n" for fault in faults], done.stderr.decode().splitlines(True))
         self.assertIn((701, 21, "unknown sequence 315008", str(self.stream)), faults)
-        # each message alone
+        # Each message is also dumped separately.
         listed = re.findall(rb"^offset=(\d+) length=(\d+) ", run(lib.program(), "ls", self.stream).stdout, re.M)
         listed = [(int(offset), int(length)) for offset, length in listed]
         refused = {fault.offset for fault in faults}
@@ -564,7 +564,7 @@ class Runs(unittest.TestCase):
                 done = run(sys.executable, TOP / "scripts/bufr-extract", *where, self.stream)
                 self.assertIn(done.returncode, (0, 1))
                 wanted = run(lib.program(), "dump", *lib.TABLES, input=done.stdout).stdout
-                # the log records what the program receives
+                # The log records the program's input.
                 log = self.folder / "log"
                 log.write_bytes(b"")
                 self.use_program(f'[ "$1" = dump ] || exec "$REAL" "$@"; tee -a "{log}" | "$REAL" "$@"')
@@ -576,7 +576,7 @@ class Runs(unittest.TestCase):
                 self.assertEqual(log.read_bytes(), done.stdout)
                 os.environ["BUFR"] = lib.program()
                 lines = "".join(f"{fault.line()}\n" for fault in faults)
-                # only the module warns, because users notice at once if bufr-extract prints nothing
+                # Only the module issues this warning. Users of bufr-extract notice at once if it prints nothing.
                 told = [one for one in told if str(one.message) != "no messages match the conditions in where="]
                 notes = "".join(f"bufr-extract: {note.message}\n".replace(f"{self.stream}: ", "") for note in told)
                 self.assertEqual(lines + notes, done.stderr.decode())
@@ -589,7 +589,7 @@ class Runs(unittest.TestCase):
         faults = []
         rows = list(bufr_text.rows(self.stream, ["001015"], ["offset"], faults, ["category=0/2"]))
         self.assertEqual(rows, [(land.offset, "SODANKYLA"), (land.offset, "HEATHROW"), (land.offset, "SAENTIS")])
-        # the messages that are not dumped cause no faults
+        # Messages that are not dumped cause no faults.
         strays = []
         list(bufr_text.listing(self.stream, strays))
         self.assertEqual((faults, len(strays)), (strays, 9))
@@ -621,7 +621,7 @@ class Runs(unittest.TestCase):
             bufr_text.dump(self.stream, places=[], where=["category=0"])
 
     def test_faults_are_there_before_the_message_behind_them(self):
-        # the stream has more than one part
+        # The stream is long enough to be read in several parts.
         one = (TOP / "examples/buoys.bufr").read_bytes()
         piece = one * 700 + b"BUFR" + (TOP / "examples/synop.bufr").read_bytes()
         self.stream.write_bytes(piece * 3)
@@ -687,7 +687,7 @@ class Runs(unittest.TestCase):
         self.assertEqual(str(told[1].message), f"{self.stream}: 1 message, at offset 0: strange\ufffd")
         with self.assertWarnsRegex(bufr_text.DumpWarning, "^strange\ufffd$"):
             bufr_text.encode([], *TABLES)
-        # the number of distinct notes is limited, which bounds memory use
+        # The number of distinct notes is limited, which bounds memory use.
         seen = bufr_text._Told(self.stream, None)
         for number in range(5000):
             seen.of_part(b"note %d\n" % number, [bufr_text.Listed(0, 48, *[0] * 21)])
@@ -782,7 +782,7 @@ class Runs(unittest.TestCase):
         next(messages)
         _, peak = tracemalloc.get_traced_memory()
         tracemalloc.stop()
-        # only a part of the dump, which has 99 MB, was read
+        # Only a part of the dump, which is 99 MB long, has been read.
         self.assertLess(peak, 50_000_000)
         messages.close()
         with self.assertRaises(ChildProcessError):

@@ -1,8 +1,9 @@
 #!/usr/bin/env python3
 """Compares the C library with the program on examples/, tests/vectors and random hostile streams.
 
-    tests/c_library.py [PROGRAM [FOLDER]]        FOLDER: the directory that library/build.sh filled (default: that of the
-                                                 library that BUFR_LIBRARY names or, if it is not set, a new build)
+    tests/c_library.py [PROGRAM [FOLDER]]        FOLDER: the directory that library/build.sh filled (default: the
+                                                 directory of the library that BUFR_LIBRARY names or, if it is not
+                                                 set, a new build)
 
 The outputs must be the same, with large and small buffers, and in several threads at once. The rows for items must agree
 with the output of `bufr dump`, and the rows for messages with that of `bufr ls`. The structures and numbers in
@@ -36,7 +37,7 @@ import random_trial
 VECTORS = TOP / "tests/vectors"
 SETS = [(TOP / "tables/wmo-39/B.csv", TOP / "tables/wmo-39/D.csv"), (VECTORS / "tables/B.csv", VECTORS / "tables/D.csv")]
 HOSTILE = 150
-SMALL = 64  # the initial size of the buffers in octets
+SMALL = 64  # the initial size of small buffers, in octets
 wrongs: list = []
 
 
@@ -47,7 +48,7 @@ def said_by(words: list, octets: bytes) -> tuple:
 
 
 def table_status(tables: tuple) -> int:
-    """Returns the number of the fault that the program reports for these tables (plus 100 for Table D), or 0 if none."""
+    """Returns the number of the fault that the program reports for these tables (plus 100 for Table D), or 0."""
     _, errors = said_by(["dump", "-B", tables[0], "-D", tables[1]], b"")
     found = re.match(rb"table ([BD]): (\d+) ", errors)
     return int(found[2]) + 100 * (found[1] == b"D") if found else 0
@@ -58,7 +59,7 @@ def alike(what: str, given, wanted) -> None:
         wrongs.append(f"{what}: {str(given)[:300]}\n  in place of {str(wanted)[:300]}")
 
 
-# matches an item's line; the group leaves out the name and unit
+# Matches an item's line. The group excludes the name and unit.
 ITEM = re.compile(rb'((?:R )?\d{6} (?:"(?:[^"\\]|\\.)*"|[^ ]+))(?:  # .*)?')
 
 
@@ -86,7 +87,10 @@ def listed_by(row) -> bytes:
 
 
 def lines_of(parts) -> tuple:
-    """Returns the same lines for the library's rows, and the offset and fault number of each rejected message and stray."""
+    """Returns the lines for the library's rows, and the offset and fault number of each rejected message and stray.
+
+    The lines must be those that `lines_in` returns for the program's dump.
+    """
     found, faults = [], []
     for items, texts, messages in parts:
         for index, row in enumerate(messages):
@@ -108,7 +112,7 @@ def lines_of(parts) -> tuple:
 
 
 def try_stream(name: str, stream: bytes, tables: tuple, of_library) -> None:
-    """Compares all calls on one stream. The library's buffers have room for `of_library.octets` octets at first."""
+    """Compares all calls on one stream. The library's buffers initially have room for `of_library.octets` octets."""
     options = ("-B", tables[0], "-D", tables[1])
     alike(f"{name}: list", of_library.list(stream), said_by(["ls"], stream))
     text, errors = wanted = said_by(["dump", *options], stream)
@@ -126,7 +130,7 @@ def try_stream(name: str, stream: bytes, tables: tuple, of_library) -> None:
 
 
 def values_of(parts, wanted) -> list:
-    """Returns each message with its wanted items, leaving out everything that depends on how the stream is divided."""
+    """Returns each message with its wanted items, but nothing that depends on how the stream is divided into parts."""
     found = []
     for items, texts, messages in parts:
         for row in messages:
@@ -137,7 +141,7 @@ def values_of(parts, wanted) -> list:
 
 
 def try_wanted(name: str, stream: bytes, parts: list, of_library) -> None:
-    """The library returns only the wanted items, for two descriptors that occur and for one that does not."""
+    """The library returns only the items with the wanted descriptors, one of which does not occur in the stream."""
     there = sorted({item.fxy for items, _, _ in parts for item in items})
     for wanted in ((*there[:1], *there[-1:], 0xFFFF), (0xFFFF,)):
         given = list(of_library.parts(stream, wanted))
@@ -164,18 +168,18 @@ def inputs():
         yield f"hostile stream {number}", try_stream, random_trial.stream_of(rng), SETS[0]
 
 
-# the types in bufr.h
+# The types in bufr.h.
 C_TYPES = {f"{sign}int{bits}_t": getattr(ctypes, f"c_{sign}int{bits}") for sign in ("", "u") for bits in (8, 16, 32, 64)}
 C_TYPES["size_t"] = ctypes.c_size_t
 
 
 def offsets_in(struct) -> list:
-    """Returns the offsets of the fields in a structure, and then its size."""
+    """Returns a list of the offsets of the fields in a structure, followed by its size."""
     return [getattr(struct, name).offset for name, _ in struct._fields_] + [ctypes.sizeof(struct)]
 
 
 def try_header(path: str) -> None:
-    """bufr_library.py declares the same structures and numbers as bufr.h, and the faults in docs/texts.md."""
+    """bufr_library.py declares the same structures and numbers as bufr.h, and the same faults as docs/texts.md."""
     header = re.sub(r"/\*.*?\*/", "", (TOP / "library/bufr.h").read_text(), flags=re.S)
     of_python = {f"bufr_{it.lower()}": getattr(bufr_library, it) for it in dir(bufr_library) if it[0].isupper()}
     for name, body in re.findall(r"^enum (\w+) \{(.*?)\n\};", header, re.S | re.M):
@@ -212,7 +216,7 @@ def try_names(folder: pathlib.Path) -> None:
 
 
 def try_small_rooms(path: str) -> None:
-    """If one output has no room, a call reports how much room each output needs, and so does the next call."""
+    """If one output has no room, a call reports how much room each output needs. A second call reports the same."""
     of_library = bufr_library.Library(path, *(it.read_bytes() for it in SETS[0]))
     stream = (TOP / "examples/synop.bufr").read_bytes()  # one message
     ((items, texts, messages),) = of_library.parts(stream)
@@ -231,7 +235,7 @@ def try_small_rooms(path: str) -> None:
 
 
 def try_tables(path: str) -> None:
-    """If a table is invalid, each call returns the number of its fault."""
+    """If a table is invalid, each call returns the number of the table's fault."""
     good = [it.read_bytes() for it in SETS[0]]
     with tempfile.TemporaryDirectory() as name:
         files = (pathlib.Path(name) / "B", pathlib.Path(name) / "D")
@@ -272,7 +276,7 @@ def try_threads(path: str) -> None:
 
 
 def try_examples(folder: pathlib.Path, work: pathlib.Path) -> None:
-    """Compiles the examples with the archive and with the shared library, and checks what they print."""
+    """Compiles the examples, links them with the archive and with the shared library, and checks their output."""
     faulty, stream = TOP / "examples/bulletins.bufr", TOP / "examples/synop.bufr"
     listing = said_by(["ls"], faulty.read_bytes())
     text, _ = said_by(["dump", "-B", SETS[0][0], "-D", SETS[0][1]], stream.read_bytes())
@@ -283,7 +287,7 @@ def try_examples(folder: pathlib.Path, work: pathlib.Path) -> None:
     refused = b"".join(number.findall(text)), re.sub(rb"(: )(\d+) .*", rb"\1fault \2", faults)
     refused_numbers = re.sub(rb"  # .*", b"", refused[0]), refused[1]
     examples = TOP / "library/examples"
-    # an element with more decimal places than a 64-bit number has digits
+    # An element with more decimal places than a 64-bit number has digits.
     small, fine = work / "small.bufr", (work / "B.csv", SETS[0][1])
     fine[0].write_bytes(SETS[0][0].read_bytes() + b"001192,FINE,Numeric,100,0,8\n")
     document = (VECTORS / "texts/one_block_number.txt").read_bytes().replace(b"001001 10", b"001192 0." + b"0" * 98 + b"10")
@@ -331,7 +335,7 @@ def try_pipe(folder: pathlib.Path, work: pathlib.Path) -> None:
     built = work / "read_pipe.c.gcc.static"
     if not built.exists():
         return
-    long = (TOP / "examples/sounding.bufr").read_bytes() * 600  # longer than the first buffer
+    long = (TOP / "examples/sounding.bufr").read_bytes() * 600  # longer than the initial buffer
     examples = b"".join(path.read_bytes() for path in sorted((TOP / "examples").glob("*.bufr")))
     beyond = b"BUFR\xff\xff\xff\4" + b" " * 8  # declares a length beyond the end of the input
     of_library = bufr_library.Library(str(folder / "libbufr.so"), *(table.read_bytes() for table in SETS[0]))
@@ -351,7 +355,7 @@ def try_pipe(folder: pathlib.Path, work: pathlib.Path) -> None:
 
 
 def try_pkg_config(folder: pathlib.Path, work: pathlib.Path) -> None:
-    """Compiles an example with the flags from pkg-config, for an installation as described in docs/library.md."""
+    """Installs the library as docs/library.md describes, and compiles an example with the flags from pkg-config."""
     if not shutil.which("pkg-config") or not shutil.which("gcc"):
         print("tests/c_library.py: pkg-config or gcc is not installed, so bufr.pc is not tried", file=sys.stderr)
         return

@@ -1,6 +1,6 @@
 #!/usr/bin/env bash
-# Tests the command line: the exact help and usage messages, the effect of every argument, and files that are missing or are
-# not what their option requires.
+# Tests the command line: the exact help and usage messages, the effect of every argument, and the errors for files that are
+# missing or are not what an option requires.
 # rule: argument-not-utf-8
 set -eu
 . "$(dirname "$0")/lib.sh"
@@ -12,7 +12,7 @@ helps() {
     gives 0 "$(cat "tests/help/$file.txt")"$'\n' '' "$@"
 }
 
-# misuses TEXT USAGE WORD..: with these arguments, the program must exit with status 2 and print only this error and usage.
+# misuses TEXT USAGE WORD..: with these arguments, the program must exit with status 2 and print only the error TEXT and USAGE.
 misuses() {
     local text=$1 usage=$2
     shift 2

@@ -1,5 +1,5 @@
 #!/usr/bin/env python3
-"""Makes one rule in the definitions wrong at a time, and checks that an example, a vector, a test or a law then fails.
+"""Changes the definitions so that one rule is wrong, and checks that an example, a vector, a test or a law then fails.
 
     tests/definition_mutations.py [PROGRAM]                      try a sample of the entries
     tests/definition_mutations.py --all [PROGRAM]                try every entry, and fail if a comparison has no entry
@@ -18,7 +18,7 @@ separated by blank lines:
 
 The comment states the wrong rule. `specs:` names a file in the crate's specs/ (or, as CRATE/FILE, in another crate's), and
 the pairs of `old:` and `new:` below it change that file. The old text must occur exactly once. Consecutive `old:` lines form
-one text, and so do consecutive `new:` lines. `fails:` names what must fail:
+a single text, as do consecutive `new:` lines. `fails:` names what must fail:
 
     example MODULE.NAME    a worked example in proofs/ (or CRATE/MODULE.NAME): the checker must reject a `refl` in it
     law MODULE::NAME       a law in src/ that is only about definitions (or CRATE/MODULE::NAME): its proof must fail
@@ -26,11 +26,11 @@ one text, and so do consecutive `new:` lines. `fails:` names what must fail:
     test FILE::NAME        a test in bufr_tests, which runs code with the same change
 
 An entry for a vector or a test must also make the same change in the code: `code:` names a file in the crate's src/, and the
-pairs below it change that file. `order: DEFINITION` states that the change reverses two checks in a definition, if the texts
-do not show this. `free: FILE: NAME, NAME` lists definitions that need no entry, and ``free: FILE: `TEXT` `` quotes a
-comparison that needs none; the comment above gives the reason.
+pairs below it change that file. `order: DEFINITION` states that the change reverses two checks in a definition, if the old
+and new texts do not show this. `free: FILE: NAME, NAME` lists definitions that need no entry, and ``free: FILE: `TEXT` ``
+quotes a comparison that needs none; the comment above gives the reason.
 
-How examples are tried: for each entry, a scratch copy of the crate gets two copies of every module between the changed
+How examples are tried: for each entry, a scratch copy of the crate receives two copies of every module between the changed
 definition and the example, reduced to what the example needs. One copy contains the change, and the other does not. A single
 check judges all entries for a crate. An entry is caught only if the checker rejects nothing in the unchanged copy and, in the
 changed copy, nothing but a `refl` of the example whose two sides are different values. If the change does not compile, or
@@ -88,7 +88,7 @@ class Copy:
         self.needed = self.need()
 
     def need(self) -> dict:
-        """Returns, for each module, the words in the declarations that the example needs, before and after the change.
+        """Returns, for each module, the words in all declarations that the example needs before or after the change.
 
         Only declarations in the module itself and in modules that import it, directly or indirectly, are included.
         """
@@ -131,7 +131,7 @@ class Copy:
         return f"{head}{{{', '.join(names)}}}" if names else ""
 
     def texts(self, of: dict, crate: str, tag: str) -> dict:
-        """Returns the text of each file in the copy, by name. The files are for proofs/variants/TAG in a crate."""
+        """Returns the text of each file in the copy, by name. The files belong in proofs/variants/TAG of a crate."""
         made = {}
         for place in self.places:
             used = [block for block in of[place] if block.names & self.needed[place] or not block.declares]
@@ -202,7 +202,7 @@ def scratch(room: pathlib.Path) -> pathlib.Path:
 
 
 def check_words(top: pathlib.Path, crate: str, law: str) -> list:
-    """Returns the command that checks one law. Our crates that it depends on are read from source."""
+    """Returns the command that checks one law. The command reads the crates of ours that it needs from source."""
     words = [kit() / "bin/rattle", "check", "--crate-name", crate, "src/lib.rt", "--only", law]
     for one in ["std", *libraries(crate)]:
         if one in crates():
@@ -268,7 +268,7 @@ def is_refused_refl(copy: Copy, error: tuple) -> bool:
 
 @functools.lru_cache(None)
 def words_of_antt() -> tuple:
-    """Returns two sets of names, both ours and imported: types and constructors, and other definitions.
+    """Returns two sets: the names of types and constructors, and the names of other definitions, including imported ones.
 
     Apart from our own types and constructors, names that begin with a capital letter are left out.
     """
@@ -455,11 +455,11 @@ def judge_alone(room: pathlib.Path, entry: Entry, known: dict) -> str:
 
 SAMPLE = 30  # entries for each crate
 RUNNER = TOP / "tests/vectors/run.py"
-CONTROLS = "controls", "bufr_tables"  # the list whose entries state their verdicts, and the crate that it changes
+CONTROLS = "controls", "bufr_tables"  # the list whose entries state the verdicts they must get, and the crate that they change
 
 
 def sampled(entries: list) -> list:
-    """Returns the controls and a sample of each crate's entries, for examples only.
+    """Returns the controls and a sample of each crate's entries. Both contain only entries for examples.
 
     The sample stays the same until a definition changes.
     """

@@ -5,8 +5,8 @@
 
 A fenced block contains commands if its first line begins with `$ `. Each line that begins with `$ ` is a command, and lines
 after it that begin with `> ` continue the command. The lines below a command are its output (standard output and standard
-error together). In the output, a line `...` stands for any number of lines, and `(status N)` at the end is an exit status
-other than 0.
+error together). In the output, a line that consists of `...` stands for any number of lines, and `(status N)` at the end
+gives an exit status other than 0.
 
 All commands in a page run in the same shell, which starts in an empty directory. `bufr` and the scripts are on PATH, and
 the directory contains links to examples/, scripts/ and tables/: those of the repository, or of the installation to which
@@ -31,7 +31,7 @@ def is_there(word: str, scripts: pathlib.Path) -> bool:
 
 
 def blocks(text: str):
-    """Yields, for each block of commands, the number of its first line, the names that it requires, and its lines."""
+    """Yields, for each block of commands, the number of the first line, the names that the block requires, and its lines."""
     for found in re.finditer(r"^( *)```([^\n`]*)\n(.*?)^ *```$", text, re.M | re.S):
         lines = [line[len(found[1]) :] for line in found[3].splitlines()]
         if lines and lines[0].startswith("$ "):
@@ -58,7 +58,7 @@ def alike(wanted: list, said: list) -> bool:
 
 
 def typed(told: list, folder: pathlib.Path, environment: dict, timeout: int = 300) -> list:
-    """Runs commands in one shell, which starts in this directory. Returns a complaint for each command with wrong output.
+    """Runs commands in one shell, which starts in `folder`. Returns a complaint for each command with wrong output.
 
     If the expected output is None, a command can print anything, but it must exit with status 0.
     """

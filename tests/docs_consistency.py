@@ -5,7 +5,7 @@
 
 - all pages: links and paths, and the Python version that the scripts need;
 - docs/guide.md: the sizes and items of the example files, and the differences from ecCodes;
-- docs/proof.md: functions, their clauses, laws, fields of records, and a contract;
+- docs/proof.md: functions, their clauses, laws, record fields, and a contract;
 - tables/README.md: the numbers of rows in the tables;
 - the man pages: the faults in the page for `bufr`, and warnings from `mandoc` and `groff`, if these are installed;
 - the man pages and the completions: commands and options, including those of the scripts.
@@ -102,7 +102,7 @@ def man_page() -> None:
 
 
 def python_version() -> None:
-    """Checks that the pages that state the required Python version agree with the scripts. Some pages must state it."""
+    """Checks that certain pages state the required Python version, and that no page disagrees with the scripts."""
     needed = ".".join(re.search(r"version_info < \((\d+), (\d+)\)", read("scripts/bufr_guard.py")).groups())
     pages = ["README.md", "CHANGELOG.md", "CONTRIBUTING.md", "docs/guide.md", "tables/README.md"]
     pages += sorted(str(path.relative_to(TOP)) for path in [*TOP.glob("man/*"), TOP / "build_wheel.py"])
@@ -115,7 +115,7 @@ def python_version() -> None:
 
 
 def commands_and_options() -> None:
-    """Checks that the man page and both completions contain each command and option in the help."""
+    """Checks that the man page and the completions for bash and zsh contain each command and option in the help."""
 
     def helped(*words: str) -> str:
         return subprocess.run([program(), *words, "--help"], stdout=subprocess.PIPE, check=True).stdout.decode()
@@ -218,8 +218,8 @@ def fields(record: str) -> set:
 def check_part(part: str, every: list, defined: set) -> None:
     """Checks the names in a part of a cell, such as "`A`, `B`: `c`, `d`".
 
-    A and B are functions, and c and d are clauses of both. Or A is a record or a file, and c is a field or a function in it.
-    A clause `R.f` is a field of a record that the contract names.
+    Here, A and B are functions, and c and d are clauses of both. If A is a record or a file instead, c is one of its fields or
+    functions. A clause `R.f` stands for the field f of a record R that the contract names.
     """
 
     def lacks(name: str, of: str = "the crates") -> None:
@@ -249,7 +249,7 @@ def check_part(part: str, every: list, defined: set) -> None:
 def clauses_of_proof() -> None:
     """Checks the functions, laws, clauses and records that the tables in docs/proof.md name, including those in parentheses.
 
-    The contract on this page must occur in the crates.
+    A contract that this page quotes must occur in the crates.
     """
     page, every = read("docs/proof.md"), calls()
     named = re.compile(r"^(?:[a-z]+ )*pub (?:[a-z]+ )*([^\s:]+)", re.M)

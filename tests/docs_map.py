@@ -1,5 +1,5 @@
 #!/usr/bin/env python3
-"""Compares docs/map.md with the tags in the sources, and names in other pages with the sources.
+"""Compares docs/map.md with the tags in the sources, and checks that names in other pages occur in the sources.
 
     tests/docs_map.py [--update]        --update: update docs/map.md
 
@@ -8,7 +8,7 @@ apply: a definition in specs/, an example in proofs/, a function, or a test in b
 comment near its beginning. The last column of tests/vectors/cases.tsv lists the rules for each vector. The first two cells
 of a row in docs/map.md are written by hand; the other cells are generated from the tags. The last cell says how many
 comparisons, numbers and orders the rule's definitions contain, and how many of them an entry in tests/definition_mutations
-changes. The others must have a reason for having no entry; otherwise, the rule is not covered.
+changes. The rest must have a reason for having no entry; otherwise, the rule is not covered.
 
 Each heading in docs/format.md and docs/texts.md must have a section in docs/map.md, and each fault in docs/texts.md a row.
 The section on a crate in docs/design.md must name each of its modules. Code that a page names must occur in the crates.
@@ -62,7 +62,7 @@ def owner(lines: list, line: int) -> str:
 
 
 def tagged(path: pathlib.Path):
-    """Yields each tag in a file, with the index of the line to which it applies. Attributes can come between the two."""
+    """Yields each tag in a file and the index of the line to which it applies. Attributes may come between tag and line."""
     tags = []
     for line, one in enumerate(read(path).splitlines()):
         found = TAG.match(one)
@@ -74,7 +74,7 @@ def tagged(path: pathlib.Path):
 
 
 def places() -> list:
-    """Returns each place that has a tag, in the order of the files: the tag, and the place's column, crate and name."""
+    """Returns each tagged place, in the order of the files: its tag, the column for it, its crate and its name."""
     found = []
     for crate in CRATES:
         for folder in ("specs", "src", "proofs"):

@@ -1,9 +1,9 @@
 #!/usr/bin/env python3
-"""Prints the number of words in each page and the longest sentences, and fails if the README has too many words.
+"""Prints the number of words on each page and the longest sentences, and fails if the README has too many words.
 
     tests/docs_wording.py [-v]        -v: print all sentences with more than 25 words
 
-Words in code blocks count as words of the page, but not of a sentence. Each table cell and list item is a sentence.
+Words in code blocks count towards the page, but not towards a sentence. Each table cell and list item counts as a sentence.
 """
 import re
 import sys
@@ -33,7 +33,7 @@ def main() -> None:
         total += words
         found = sentences(text)
         every += [(len(one), page, " ".join(one)) for one in found]
-        whole = [len(one) for one in found if len(one) > 4]  # shorter ones are words in a table
+        whole = [len(one) for one in found if len(one) > 4]  # shorter ones are mostly table cells
         bound = f" of {MOST[page]}" if page in MOST else ""
         print(f"{words:6}{bound}  {page}: {sum(whole) / max(1, len(whole)):.0f} words a sentence, at most {max(map(len, found))}")
         if words > MOST.get(page, words):

@@ -1,7 +1,7 @@
 // A library that is preloaded into a program and makes one of its memory allocations fail, so that a test can check how
-// the program handles the failure of each. REFUSE_COUNT names a file of eight bytes, in which the library counts the
-// allocations. The file is mapped into memory, because a program can exit at any time without notice. REFUSE_AT is the
-// number of the allocation that fails (counted from 1), or 0 if none fails.
+// the program handles each failure. REFUSE_COUNT names a file of eight bytes, in which the library counts the allocations.
+// The file is mapped into memory, so that the count is kept even if the program exits suddenly. REFUSE_AT is the number of
+// the allocation that must fail (counted from 1), or 0 if none must fail.
 //
 // This file declares the functions that it calls, so that it can be compiled without the headers of the C library.
 typedef __SIZE_TYPE__ size_t;
@@ -17,13 +17,13 @@ int close(int file);
 unsigned long long strtoull(const char *text, char **end, int base);
 _Noreturn void _exit(int status);
 
-// The functions in the GNU C library that do the work of malloc, calloc, realloc and memalign.
+// The functions in the GNU C library that implement malloc, calloc, realloc and memalign.
 void *__libc_malloc(size_t size);
 void *__libc_calloc(size_t count, size_t size);
 void *__libc_realloc(void *old, size_t size);
 void *__libc_memalign(size_t alignment, size_t size);
 
-static volatile uint64_t *calls; // allocations before the file is mapped are not the program's
+static volatile uint64_t *calls; // null until the file is mapped; earlier allocations are not made by the program
 static uint64_t refused;
 
 __attribute__((constructor)) static void begin(void) {

@@ -6,21 +6,21 @@
 Each command first runs without failures. Then its Nth allocation fails, for each N up to one more than the number of
 allocations, so that the last run produces the complete output. Every other run must exit with status 2. Its output must be
 a prefix of the complete output, and its errors must be a prefix of the fault lines, followed by `bufr: 73 out of memory`. A
-run may also succeed although one allocation fails, if the program then tries a smaller one. For example, `collect` in std
-does so after it has requested a large buffer for the arguments.
+run may also succeed although one allocation fails, if the program then tries a smaller one. For example, if `collect` in std
+cannot allocate a large buffer for the arguments, it requests a smaller buffer.
 
 The output consists of pieces: the lines of `ls`, the texts of `dump`, or the messages of `encode`. The program must write
 whole pieces, and at least as many as when an earlier allocation failed. `dump` may also write whole lines of an incomplete
-text. If there are several pieces and a late allocation fails, the first of them must have been written, because the program
-flushes its output before it exits. `dump` must not allocate memory for plain data that redefine no reference values if the
-descriptors are the same as in the previous message. If `dump` cannot allocate memory for lines that are the same in every
-subset of compressed data, it must generate each line as it is needed.
+text. If there are several pieces and a late allocation fails, the first one must have been written, because the program
+flushes its output before it exits. If a message has the same descriptors as the previous one, `dump` must not allocate memory
+for it, unless its data are compressed or redefine reference values. If `dump` cannot allocate memory for lines that are the
+same in every subset of compressed data, it must generate each line as it is needed.
 
 Finally, the tests in `growth_tests.rt`, each of which calls one library function, run in the same way. Each test must pass
 whichever allocation fails.
 
 fail_allocations.c makes the allocations fail. It is compiled by a C compiler ($CC or cc) or, if there is none, by the
-toolchain's.
+toolchain's compiler.
 """
 # rule: fault-73
 import concurrent.futures
@@ -66,7 +66,8 @@ INPUTS = {
     "nothing": b"",
 }
 
-# How many allocations can fail without changing the output: those for shared lines, and for the list of items between them.
+# The number of allocations that can fail without changing the output: those for shared lines and for the list that records
+# which other items are between these lines.
 SPARED = {"dump of compressed names": 1, "dump of 200 compressed items": 2, "dump of buoys.bufr": 4}
 
 
@@ -97,7 +98,7 @@ class Trial:
         subprocess.run([*compiler, *flags, source], check=True)
 
     def left(self, run: Run, refused: int) -> Left:
-        """Runs a command. The allocation with the number `refused` fails, or none if the number is 0."""
+        """Runs a command, and makes allocation number `refused` fail. If this number is 0, no allocation fails."""
         count, source = self.work / f"count{refused}", self.work / f"input{refused}"
         count.write_bytes(bytes(8))
         source.write_bytes(run.input)
@@ -162,7 +163,7 @@ def pieces(output: bytes) -> list:
 
 
 def tests(trial: Trial) -> list:
-    """Returns complaints about the tests in growth_tests.rt, in which each allocation fails in turn."""
+    """Runs the tests in growth_tests.rt with each allocation failing in turn. Returns complaints."""
     if not TESTS.is_file():
         print(f"failed_allocations: skipped the tests of single calls, there is no {TESTS.relative_to(TOP)}")
         return []
@@ -183,7 +184,7 @@ def again(trial: Trial) -> list:
 
 
 def runs(work: pathlib.Path) -> list:
-    """Returns the runs: each command on its inputs, valid and invalid tables, the help, and invalid arguments."""
+    """Returns the runs: each command on its inputs, valid and invalid tables, the help, the version, and invalid arguments."""
     bufr = program()
 
     def file(name: str, octets: bytes) -> str:

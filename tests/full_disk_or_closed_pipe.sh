@@ -1,6 +1,6 @@
 #!/usr/bin/env bash
-# Tests outputs that are full or closed: if standard output cannot be written, the program must report fault 71 and exit with
-# status 2. If a fault line cannot be written, it must exit with status 2 after writing its complete standard output.
+# Tests outputs that are full or closed. If the program cannot write to standard output, it must report fault 71 and exit with
+# status 2. If it cannot write a fault line, it must exit with status 2 after writing its complete standard output.
 # rule: fault-line-not-written
 set -eu
 . "$(dirname "$0")/lib.sh"

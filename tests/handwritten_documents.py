@@ -4,7 +4,7 @@
     tests/handwritten_documents.py [PROGRAM]
 
 Each row contains the lines of a document from `compressed` on, first as a person might write them, and then as in a dump.
-`encode` must convert both forms to the same octets, and the dump of these must contain the lines in the second form.
+`encode` must convert both forms to the same octets, and dumping these octets must give the second form.
 """
 # rule: 2-06-y-width-of-table-b, 2-06-y-other-width
 import subprocess
@@ -94,13 +94,13 @@ ROWS = {
 
 
 def run(command: str, octets: bytes) -> bytes:
-    """Returns the output of a command, followed by its errors and its exit status if this is not 0."""
+    """Returns the output of a command. If its exit status is not 0, its errors and the status follow."""
     done = subprocess.run([program(), command, *TABLES], input=octets, capture_output=True)
     return done.stdout + (b"%sstatus %d\n" % (done.stderr, done.returncode) if done.returncode else b"")
 
 
 def wrong(by_hand: str, dumped: str) -> str:
-    """Returns a complaint, or an empty string if the document has this dump, and the dump is encoded to the same octets."""
+    """Encodes both forms of a document. Returns a complaint, or an empty string if the dump and the octets are right."""
     octets = run("encode", (HEAD + by_hand).encode())
     text = run("dump", octets)
     if text != (HEAD + dumped).encode():

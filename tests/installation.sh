@@ -3,12 +3,12 @@
 # installed files.
 set -eu
 . "$(dirname "$0")/lib.sh"
-# The caller's umask and CDPATH must not affect the installation. CDPATH leads to other directories with the same names.
+# The caller's umask and CDPATH must not affect the installation. Here, CDPATH contains other directories with the same names.
 top=$PWD prefix=$work/here/prefix
 mkdir -p "$work/here" "$work/other"/{prefix,source}
 ln -s "$top" "$work/here/source"
 ln -s "$bufr" "$work/here/program"
-# Versions without a MANIFEST installed these table sets, links and bytecode. The set `own` belongs to the user.
+# These table sets, links and bytecode are what a version without a MANIFEST left behind. The set `own` belongs to the user.
 older=$prefix/share/bufr/tables doc=$prefix/share/doc/bufr
 mkdir -p "$older"/{wmo-38,wmo-39,own} "$doc/tables" "$prefix/share/bufr/__pycache__"
 cp tables/wmo-39/*.csv "$older/wmo-38"
@@ -56,8 +56,8 @@ for place in bash-completion/completions/bufr:bufr.bash zsh/site-functions/_bufr
     cmp "completions/${place#*:}" "$prefix/share/${place%:*}" || fail "other completions in ${place%:*}"
 done
 
-# MANIFEST must list exactly the installed files. With DESTDIR, install.sh must install the same files there, and its output
-# must name only the final location.
+# MANIFEST must list exactly the installed files. With DESTDIR, install.sh must install the same files in that directory, and
+# its output must name only the final location.
 (cd "$prefix" && find . ! -type d | cut -c 3-) | sort > "$work/installed"
 grep -v '/$' "$doc/MANIFEST" | diff - "$work/installed" || fail "MANIFEST lists other files"
 ln -s "$top/install.sh" "$work/installer"
@@ -122,8 +122,8 @@ ln -s "$work/mine" "$sets/wmo-37"
 refuses share/bufr/tables/wmo-37/B.csv
 echo '# edited' >> "$own/bin/bufr-csv"
 refuses bin/bufr-csv
-# --uninstall must fail if MANIFEST is missing or damaged, or lists a file outside PREFIX. If MANIFEST is not missing,
-# installing again must fail too. A MANIFEST that was copied from another installation must solve the problem.
+# --uninstall must fail if MANIFEST is missing or damaged, or lists a file outside PREFIX. Unless MANIFEST is missing,
+# installing again must fail too. Copying MANIFEST from another installation must solve the problem.
 for bad in 'rm -f' 'truncate -s 0' 'truncate -s 3000' 'sed -i 1i../mine/D.csv' 'sed -i 1i/mine/D.csv' 'sed -i 1ibin/../../mine/D.csv'; do
     cp "$doc/MANIFEST" "$own/share/doc/bufr"
     $bad "$own/share/doc/bufr/MANIFEST"
@@ -150,8 +150,8 @@ chmod +x "$work/slow"
 [ -z "$(ls -A "$work/temporary")" ] || fail "an interrupted install.sh leaves temporary files"
 grep -q interrupted "$work/output" || fail "an interrupted install.sh says: $(< "$work/output")"
 
-# If an installation stops in the middle, for example on a full disk, install.sh must say that the user can install again or
-# uninstall. The incomplete installation must not contain any programs.
+# If an installation stops in the middle, for example because the disk is full, install.sh must say that the user can install
+# again or uninstall. The incomplete installation must not contain any programs.
 printf '#!/bin/sh\necho bufr 0.1.0\n' > "$work/tiny"
 chmod +x "$work/tiny"
 stops_in_the_middle() {
@@ -172,7 +172,7 @@ cmp "$bufr" "$work/full/bin/bufr"
 "$top/install.sh" --program "$bufr" --unproved "$work/full" > "$work/output" 2>&1 ||
     fail "an upgrade that ended in the middle is not repaired: $(< "$work/output")"
 cmp "$bufr" "$work/full/bin/bufr"
-# If the disk is full before install.sh has changed anything, the installation must stay intact, with nothing to repair.
+# If the disk is full before install.sh has changed anything, the existing installation must remain intact.
 ln -s /dev/full "$work/full/share/doc/bufr/MANIFEST.new"
 ! "$top/install.sh" --program "$work/tiny" --unproved "$work/full" > "$work/output" 2>&1 || fail "install.sh writes to a full disk"
 grep -q 'cannot write .*/MANIFEST (see above)' "$work/output" && ! grep -q 'did not finish' "$work/output" && cmp "$bufr" "$work/full/bin/bufr" ||
@@ -202,7 +202,7 @@ bufr-auto "$examples/synop.bufr" | cmp - "$examples/synop.txt" || fail "bufr-aut
 bufr-lacks "$examples/synop.bufr" > lacks || fail "bufr-lacks: $(< lacks)"
 bufr dump -B "$prefix/share/bufr/tables/wmo-37/B.csv" -D "$prefix/share/bufr/tables/wmo-37/D.csv" "$examples/buoys.bufr" |
     awk -f "$prefix/share/bufr/table.awk" | grep -c '"TEMPERATURE/AIR TEMPERATURE"' > /dev/null || fail "table.awk: no temperature"
-# The command that bufr-lacks prints for a centre's tables must be the installed convert.py.
+# The commands that bufr-lacks and bufr-auto print for missing tables must use the installed convert.py.
 python3 -c "import sys; sys.path.insert(0, '$top/tests'); import lib
 sys.stdout.buffer.write(lib.asking(lib.message(b'', lib.words('048001')), 39, 1))" > local
 ! bufr-lacks local > output 2> errors && grep -q "run: $prefix/share/bufr/tables/convert.py " errors ||

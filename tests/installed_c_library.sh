@@ -1,7 +1,7 @@
 #!/usr/bin/env bash
-# Tests the C library after install.sh has installed it from a clone: pkg-config finds it in PREFIX and in DESTDIR, a C
-# program runs with it, and --uninstall removes it. Building the real library takes minutes, so this test uses one with a
-# single function. release.sh and install_proved_program.sh test that a release contains the library.
+# Tests the C library after install.sh has installed it from a clone: pkg-config must find it in PREFIX and in DESTDIR, a C
+# program must run with it, and --uninstall must remove it. Building the real library takes minutes, so this test uses one
+# that has a single function. release.sh and install_proved_program.sh test that a release contains the library.
 . "$(dirname "$0")/lib.sh"
 for needed in rt pkg-config "${CC:-cc}"; do
     command -v "$needed" > "$work/told" || { echo "$0: skipped, because $needed is not on PATH" && exit; }
@@ -25,7 +25,7 @@ refuses 'no proof'
 CC=$work/none refuses 'requires a C compiler'
 builds "exec '$PWD/library/build.sh' --archive '$work/libbufr_c.a' \"\$@\""
 
-# This program is linked with the shared and with the static library, using the flags that pkg-config prints.
+# This program is linked once with the shared library and once with the static one, using the flags that pkg-config prints.
 cat > "$work/main.c" << 'END_OF_C'
 #include <bufr.h>
 #include <stdio.h>

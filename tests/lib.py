@@ -61,8 +61,8 @@ def seconds_of(words: list, **streams) -> float:
 def least_seconds(commands: list, most: float, output=os.devnull, **streams) -> list:
     """Returns the least processor time of each command. The commands take turns, because other programs may slow down any run.
 
-    Stops after the third or a later round if the first command takes at most `most` times as long as the others together,
-    and otherwise after 20 rounds.
+    Stops as soon as the first command takes at most `most` times as long as the others together, but not before round 3 or
+    after round 20.
     """
     least = [1e9] * len(commands)
     for number in range(20):

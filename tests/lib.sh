@@ -1,6 +1,6 @@
 # shellcheck shell=bash
-# Code that the shell tests share. A test sources this file, which uses the test's first argument as the program, changes to
-# the top of the repository, and creates a directory $work that is removed when the test ends.
+# Code shared by the shell tests. When a test sources this file, the test's first argument becomes the program to test ($bufr),
+# the top of the repository becomes the current directory, and a directory $work is created, which is removed at the end.
 set -eu -o pipefail
 bufr=$(realpath "${1:-"$(dirname "${BASH_SOURCE[0]}")/../crates/bufr/out/bufr"}")
 cd "$(dirname "${BASH_SOURCE[0]}")/.."
@@ -14,19 +14,21 @@ fail() {
     exit 1
 }
 
-# sources_of FOLDER: prints the checksum of the sources in this directory, as BUILD records it.
+# sources_of FOLDER: prints the checksum of the sources in this directory, in the form that BUILD records.
 sources_of() {
     (cd "$1" && find HANDLES crates.txt crates -name out -prune -o -type f -print0 | LC_ALL=C sort -z | xargs -0 sha256sum) | sha256sum |
         cut -c 1-64
 }
 
-# run WORD..: runs the program, writes what it prints to $work/output and $work/errors, and sets $status to its exit status.
+# run WORD..: runs the program with these arguments, writes its output to $work/output and its errors to $work/errors, and sets
+# $status to its exit status.
 run() {
     status=0
     "$bufr" "$@" > "$work/output" 2> "$work/errors" || status=$?
 }
 
-# gives STATUS OUTPUT ERRORS WORD..: with no input, the program must exit with STATUS and print exactly OUTPUT and ERRORS.
+# gives STATUS OUTPUT ERRORS WORD..: with these arguments and no input, the program must exit with STATUS and print exactly
+# OUTPUT and ERRORS.
 gives() {
     local wanted=$1 output=$2 errors=$3
     shift 3
@@ -41,8 +43,8 @@ is_prefix() {
     cmp -n "$(stat -c %s "$1")" "$1" "$2"
 }
 
-# ends STATUS LINE WHOLE WORD..: the program must exit with STATUS, print LINE as its last line on standard error, and write a
-# prefix of the file WHOLE.
+# ends STATUS LINE WHOLE WORD..: with these arguments, the program must exit with STATUS, print LINE as the last line on
+# standard error, and write a prefix of the file WHOLE.
 ends() {
     local wanted=$1 line=$2 whole=$3
     shift 3
@@ -51,7 +53,7 @@ ends() {
         fail "bufr $*: status $status, $(tail -n 1 "$work/errors")"
 }
 
-# copy_tree FOLDER: copies the repository to this directory, without Git's files and without anything that was built.
+# copy_tree FOLDER: copies the repository to this directory, without Git's files and without build output.
 copy_tree() {
     mkdir -p "$1"
     tar -c --exclude-vcs --exclude=out --exclude=dist --exclude=__pycache__ . | tar -x -C "$1"

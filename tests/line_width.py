@@ -1,5 +1,5 @@
 #!/usr/bin/env python3
-"""Reports lines of more than 100 characters in the crates' code and definitions, and of more than 200 in proofs.
+"""Reports lines of more than 100 characters in the crates' code and definitions, and of more than 200 in their proofs.
 
     tests/line_width.py [--write [FILE..]]        --write: break the long lines in these proofs (default: in all proofs)
 
@@ -17,7 +17,7 @@ import sys
 from lib import TOP, finish
 
 MOST, OF_PROOFS = 100, 200
-PROOFS_ARE_HELD = True  # whether to check proofs as well; true since all of their long lines have been broken
+PROOFS_ARE_HELD = True  # whether to check proofs as well
 ONE_LINE = re.compile(r"\s*((unfoldable )?(pub )?use |ghost use |#\[|--)")
 TOKEN = re.compile(r'"(?:[^"\\]|\\.)*"|\s+|[()\[\]{}]|[,;]|[^\s()\[\]{},;"]+')
 # Tokens that can begin a line (best first), tokens that must not begin a line, and tokens that must not end a line.
@@ -27,7 +27,7 @@ TIED_AFTER = {"record", "rw", "let", "λ", "at", "where", "unfolding", "pub", "a
 
 
 def breaks(line: str) -> list:
-    """Returns the places where a line can be broken, with their costs: first the number of open brackets, then a rank."""
+    """Returns the places where a line can be broken: for each, the number of open brackets, a rank and the position."""
     code = line.partition(" -- ")[0]
     found, depth, tokens = [], 0, [token[0] for token in TOKEN.finditer(code)]
     at = 0

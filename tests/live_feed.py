@@ -1,9 +1,9 @@
 #!/usr/bin/env python3
-"""Tests live feeds with all three commands: each text and fault line must be written before the next octets are sent.
+"""Tests live feeds with all three commands: output for the octets sent so far must arrive before the next octets are sent.
 
-The output goes to a pipe or to a terminal, sometimes while half a message is pending. If a read fails, all earlier output
-must already have been written. A stray that declares 16 MB must not cause a large allocation. Output for a file must still be
-written in large blocks.
+The output goes to a pipe or to a terminal, and the input sometimes stops in the middle of a message. If a read fails, all
+earlier output must already have been written. A stray that declares 16 MB must not cause a large allocation. If the input is
+a file, output must still be written in large blocks.
 """
 # rule: output-held-back, input-not-read, fault-70
 import os
@@ -27,10 +27,10 @@ STRAY = b"BUFR\0\0\0\4...."  # a stray that can be recognized without further oc
 
 
 class Feed:
-    """The program, with an input that the test writes to and outputs that the test reads as they arrive."""
+    """A run of the program. The test writes to its input, and reads its output and errors as they arrive."""
 
     def __init__(self, words, terminal=False, failing=False):
-        """If `failing` is true, the input is the master of a terminal, so reads fail once its other side is closed."""
+        """If `failing` is true, the input is the master side of a terminal, so reads fail once the other side is closed."""
         self.input, ends = None, []
         if failing:
             given, self.input = pty.openpty()
@@ -57,7 +57,7 @@ class Feed:
             self.take(0)
 
     def take(self, seconds):
-        """Reads the available output. If there is none, waits for it, but not longer than `seconds`."""
+        """Reads the available output. If there is none, waits for some, but not longer than `seconds`."""
         for output in select.select(self.open, [], [], seconds)[0]:
             try:
                 part = os.read(output, BLOCK)
@@ -69,7 +69,7 @@ class Feed:
                 os.close(output)
 
     def has(self, output, errors):
-        """Returns whether the outputs become exactly these octets while the program waits for input."""
+        """Returns whether the program writes exactly this output and these errors before it gets more input."""
         end = time.monotonic() + PATIENCE
         while self.read != [output, errors] and time.monotonic() < end:
             self.take(0.05)
@@ -128,7 +128,7 @@ for terminal in (False, True):
     want(feed.has(feed.read[0], errors), f"{name}: the fault line is not there")
     want(feed.end() == 1, f"{name}: another status at the end")
 
-# All output is written before a read that fails. Only the line that reports the failed read comes after it.
+# All output is written before a read that fails. Only the line that reports the failure is written afterwards.
 for words, octets in ((["ls"], messages[0] + STRAY), (["dump", *TABLES], messages[0] + STRAY), (["encode", *TABLES], texts[0])):
     output, errors = ran(words, octets)
     feed = Feed(words, failing=True)
@@ -144,7 +144,8 @@ want(feed.has(*ran(["ls"], messages[0])), "ls: a false word holds up what comes 
 want(feed.peak() < 3000, f"ls: {feed.peak()} kB for a false word")
 feed.end()
 
-# Few writes: a delayed block is at least half full, and each 64 KiB of input adds at most one write per output.
+# The number of writes is small: a delayed block is at least half full, and each 64 KiB of input adds at most one write for
+# each of output and errors.
 with tempfile.TemporaryDirectory() as folder:
     stream, text = pathlib.Path(folder, "stream"), pathlib.Path(folder, "text")
     stream.write_bytes((messages[0] + STRAY + messages[1]) * 1000)

@@ -1,6 +1,6 @@
 #!/usr/bin/env bash
-# Tests outputs that fit neither in a pipe nor in the program's buffers: their reader exits early, both outputs go to the same
-# file, or a signal arrives.
+# Tests outputs that fit neither in a pipe nor in the program's buffers. In these tests, the reader of the output exits early,
+# both outputs go to the same file, or a signal arrives.
 # rule: output-held-back, signals, reader-gone
 set -eu
 . "$(dirname "$0")/lib.sh"
@@ -32,7 +32,7 @@ leaves encode "${tables[@]}" "$text"
 grep -v '^offset ' "$work/both" | cmp - "$text" && grep '^offset ' "$work/both" | cmp - "$work/faults" &&
     grep -A 1 '^offset ' "$work/both" | grep -v '^offset ' > /dev/null || fail 'bufr dump: lines of the two outputs tear one another'
 
-# A signal kills the program: buffered output is lost, and each output must be a prefix of the complete one.
+# A signal kills the program. Buffered output is lost, but what was written must be a prefix of the complete output.
 mkfifo "$work/pipe"
 "$bufr" dump "${tables[@]}" < "$work/pipe" > "$work/output" 2> "$work/errors" &
 exec 3> "$work/pipe"

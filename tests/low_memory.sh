@@ -1,6 +1,7 @@
 #!/usr/bin/env bash
-# Runs each command with limited memory, from too little for the loader up to enough, in steps of 16 KiB. Once the program
-# can be loaded, it must either write its complete output, or write a prefix of it, report fault 73 and exit with status 2.
+# Runs each command with limited memory. The limit starts too low to load the program, and is raised in steps of 16 KiB until
+# it is sufficient. Once the program can be loaded, it must either write its complete output, or write a prefix of it,
+# report fault 73 and exit with status 2.
 set -eu
 . "$(dirname "$0")/lib.sh"
 

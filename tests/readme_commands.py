@@ -5,7 +5,7 @@
 
 A fenced block contains commands if it is marked `sh` or begins with `$ `. The commands run in one shell, with a separate
 home directory, at the top of a clone of the current files. Each command must exit with status 0, and the lines below a
-command that begins with `$ ` must be its output. `.ci/run` is not run, because it takes up to two hours and runs this test
+command that begins with `$ ` must be its output. `.ci/run` is skipped, because it takes up to two hours and runs this test
 itself. install.sh installs PROGRAM instead of the program that it would prove, or that a proved release would contain.
 """
 import os
@@ -23,7 +23,7 @@ BLOCK = re.compile(r"^```(\w*)\n(.*?)^```$", re.M | re.S)
 
 
 def steps(page: str) -> list:
-    """Returns, for each command on the page, its line number, its lines, and its output, or None if the page shows none."""
+    """Returns, for each command on the page, the line number, the lines, and the output (None if the page shows none)."""
     found = []
     for block in BLOCK.finditer(page):
         first, lines = page.count("\n", 0, block.start(2)) + 1, block[2].splitlines()

@@ -1,5 +1,5 @@
 #!/usr/bin/env bash
-# Tests release.sh: it must make the same bytes from the same commit in two directories, and the archive must install, run and
+# Tests release.sh. From the same commit, it must make identical files in two directories. The archive must install, run and
 # uninstall on a clean machine without compilers, toolchain or network. The release contains the program under test, so it is
 # made with --unproved. Without this option, release.sh does the same after proving everything.
 . "$(dirname "$0")/lib.sh"
@@ -15,8 +15,8 @@ export GIT_COMMITTER_DATE=2020-02-02T02:02:02Z
 clone "$work/one"
 clone "$work/another/folder"
 "$work/one/release.sh" --unproved "$bufr" "$work/first" > "$work/told"
-# The second run has other settings, and is run by the user nobody if possible. Its output is in /dev/shm if possible, where
-# directories list their files in a different order.
+# The second run has different settings. If possible, it is made by the user nobody, and writes to /dev/shm, where directories
+# list their files in a different order.
 second=$(mktemp -d -p /dev/shm 2> "$work/errors" || mktemp -d)
 trap 'rm -r "$work" "$second"' EXIT
 mkdir "$work/home" "$work/program"
@@ -68,8 +68,8 @@ for name in wheel.namelist():
 assert not rows, f"RECORD has {rows}"
 END
 
-# The links on the pages of a release must work: it must contain every file in the repository, and its own
-# tests/docs_consistency.py follows the links.
+# The links on a release's pages must work. The release must contain every file in the repository, and must pass its own
+# tests/docs_consistency.py, which follows the links.
 mkdir "$work/read"
 tar -xzf "$archive" -C "$work/read" --strip-components 1
 git -C "$work/one" ls-files | (cd "$work/read" && xargs ls -d) > "$work/told" || fail "files of the repository are not in the release"
@@ -150,7 +150,7 @@ refuses 1 'built with logic none' "$make" "$work/first"
 fake "$logic" "printf '#!/bin/sh\necho no proof of bufr_c; exit 1\n' > library/build.sh"
 refuses 1 'the C library was not built' "$make" "$work/first"
 grep -q 'no proof of bufr_c' "$work/told" || fail "release.sh hides what library/build.sh said: $(< "$work/told")"
-# release.sh is interrupted while `rt ci` is running. Until it is stopped, the stand-in for `rt ci` keeps creating the
+# release.sh is interrupted while `rt ci` is running. Until the stand-in for `rt ci` is stopped, it keeps creating the
 # directories that release.sh removes.
 slow="at=\$PWD; while mkdir -p \"\$at/crates/bufr/out\"; do :; done"
 ends_it() { # ends_it SIGNAL: the script ended by this signal leaves nothing
@@ -167,7 +167,7 @@ for number in TERM INT HUP; do
     ends_it $number
     is_over
 done
-# A script builds the library. The processes that the script has started must also end.
+# Here, the library is built by a script. The processes that this script has started must also end.
 cat > "$work/slow" << END
 #!/bin/sh
 sh -c "echo \\\$\\\$ > '$work/pid'; kill -TERM \$PPID; exec sleep 60"
@@ -231,7 +231,7 @@ echo '# changed' | tee -a "$work/one/README.md" >> "$work/one/scripts/bufr_text.
 grep -q 'uncommitted changes' "$work/errors" || fail "release.sh does not say that it leaves changes out"
 diff "$work/first" "$work/third" || fail "an uncommitted change is in the release"
 
-# install.sh must reject a release in which a file was changed, added or removed, or is missing from SHA256SUMS.
+# install.sh must reject a release if a file in it has been changed, added or removed, or is missing from SHA256SUMS.
 mkdir "$work/damaged"
 refuses_damaged() { # refuses_damaged TEXT COMMAND: in a release after this command, install.sh fails and says TEXT
     tar -xzf "$archive" -C "$work/damaged" --strip-components 1
@@ -344,7 +344,7 @@ awk '/^```$/ { name = "" } name { print > name } /^```sh$/ { name = "block" ++bl
     /^```crontab$/ { name = "crontab" } /^```dockerfile$/ { name = "steps" }' $page
 sed -i 's,install.sh /,install.sh --unproved /,' block* steps
 [ "$(ls block* | wc -w)" -eq 9 ] || fail "$page has other blocks"
-# These stand-ins replace the commands of systemd.
+# These stand-ins replace systemd's commands.
 mkdir /home/stubs
 printf '#!/bin/sh\necho "systemctl $*"\n' > /home/stubs/systemctl
 printf '#!/bin/sh\ncat /home/page/log\n' > /home/stubs/journalctl
@@ -458,7 +458,7 @@ setpriv --reuid 65534 --regid 65534 --clear-groups env -i PATH=/usr/local/bin:/u
     cmp - /home/synop.txt || fail 'the program of the Dockerfile'
 echo clean
 END
-# systemd must know every setting in the units. systemd-analyze reports others on standard error, but exits with status 0.
+# systemd must know every setting in the units. systemd-analyze reports unknown settings, but still exits with status 0.
 awk -v folder="$work" '/^```$/ { unit = "" } unit { print > unit }
     /^```ini$/ { unit = folder "/" (++units == 1 ? "bufr-fifo" : "bufr-feed") ".service" }' docs/operations.md
 ! command -v systemd-analyze > "$work/told" || systemd-analyze verify "$work"/bufr-*.service > "$work/told" 2>&1 && [ ! -s "$work/told" ] ||

@@ -1,6 +1,7 @@
 #!/usr/bin/env bash
-# Tests that each example round-trips: its dump is encoded to the same octets, and these have the same dump. In the other
-# form (plain or compressed), its dump differs only in the `compressed` lines, and converting it back restores the original.
+# Tests that each example round-trips: encoding its dump must restore the messages, and dumping these must give the same text.
+# Converting a dump to the other form (plain or compressed) must change only its `compressed` lines, and converting the result
+# back must restore the dump.
 set -eu
 . "$(dirname "$0")/lib.sh"
 
@@ -31,8 +32,8 @@ comes_in_both() {
     comes_in plain "$work/compressed" "$work/plain"
 }
 
-# comes_in_plain: the subsets in $work/text have different replication factors. It must stay the same in plain form, and
-# compressing it must fail.
+# comes_in_plain: the subsets in $work/text have different replication factors. Converting the text to plain form must leave it
+# unchanged, and compressing it must fail.
 comes_in_plain() {
     comes_in plain "$work/text" "$work/text"
     run encode "${tables[@]}" --form compressed "$work/text"

@@ -31,7 +31,7 @@ DUMP = ["dump", *TABLES]
 SCRIPTS = {"bufr-auto": [], "bufr-csv": ["--json", "-c", "001001"], "bufr-extract": [], "bufr-lacks": [], "bufr-parallel": ["-P", "2", *DUMP]}
 # Scripts that find messages themselves. The others use `bufr ls`.
 READERS = ("bufr-auto", "bufr-csv")
-# A script that needs a package. This test tries only its options; tests/bufr_plot.py tests the rest.
+# A script that needs a package. This test covers only its options; tests/bufr_plot.py covers the rest.
 OTHERS = {"bufr-plot": ["map", "a.png"]}
 complaints = []
 
@@ -50,7 +50,10 @@ class Trial:
         self.environment.pop("BUFR_TABLES", None)
 
     def run(self, words=(), closed=(), full=(), limits=None, **more):
-        """Runs the script with these descriptors closed or full, and with these limits. Returns the completed process."""
+        """Runs the script with some descriptors closed or open on a full device, and with these resource limits.
+
+        Returns the completed process.
+        """
 
         def prepare() -> None:
             for number in full:
@@ -113,7 +116,7 @@ def descriptors(trial: Trial) -> None:
             holds(f"a note to a {kind} descriptor", trial.run(input=note, **{kind: [2]}).returncode == 2)
 
 
-# Runs a script for which memory runs out when it waits for a program.
+# Runs a script, and simulates a lack of memory when the script waits for a program.
 REFUSED = """
 import runpy, sys
 sys.path[0], sys.argv = "{}", sys.argv[1:]
@@ -197,7 +200,7 @@ def limit_memory(megabytes: int) -> None:
 
 
 def room(trial: Trial) -> None:
-    """No file can grow beyond 4 KB, as if the disk with the temporary files were full."""
+    """Files cannot grow beyond a limit, as if the disk with the temporary files were full."""
     octets = SYNOP.read_bytes() * 100
     whole = trial.run(input=octets)
     done = trial.run(input=octets, environment={"TMPDIR": "/nosuch"})
@@ -216,7 +219,7 @@ def room(trial: Trial) -> None:
             told = f"{trial.name}: no space left in {folder or '/tmp'}; set TMPDIR to another directory\n"
             holds(f"{trial.name}: no space left in {folder!r}", done.stderr.decode() == told, done)
     if trial.name == "bufr-extract":
-        # `bufr ls`, which starts at once or late, gets only a part of the stream. This must not be reported as a fault.
+        # `bufr ls`, which starts immediately or late, gets only a part of the stream. This must not be reported as a fault.
         octets *= 20
         for begin in (trial.words[:1], [*trial.words[:1], "-c", LATE.format(TOP / "scripts")]):
             trial.words[:1] = begin
@@ -231,7 +234,8 @@ def shorter(trial: Trial) -> None:
     octets = lib.asking(lib.message(bytes(60_000)), 39) * (200 if trial.name in READERS else 40)
     stream.write_bytes(octets)
     whole = trial.run([stream]).stdout
-    # If it is truncated before `bufr ls`, four messages and a part of the fifth remain, so all listed messages can be read.
+    # If the file is truncated before `bufr ls` reads it, four messages and a part of the fifth remain, so each listed message
+    # can be read.
     cut = "head -c {1} {0} > {0}.1; cat {0}.1 > {0}"
     for what, lines in (
         ("behind", f'if [ "$1" = ls ]; then {program()} ls; status=$?; {cut.format(stream, 100_000)}; exit $status; fi'),
@@ -269,7 +273,7 @@ def killed(trial: Trial) -> None:
                     holds(f"{trial.name} without {command}", done.stdout == trial.run([SYNOP]).stdout, done)
                 elif how != "exit 2" or done.stderr:
                     trial.fails(f"{command} and {how}, {moment}", done, told)
-                else:  # `bufr` shares their standard error, so they rely on its message
+                else:  # these scripts share standard error with `bufr`, so they rely on its message
                     holds(f"{trial.name}: {command} and {how}", trial.name in ("bufr-extract", "bufr-lacks"), done)
     if trial.name == "bufr-parallel":  # it buffers fault lines in a file, and the disk may be too full for the last one
         done = trial.run([SYNOP], environment=trial.program('if [ "$1" = ls ]; then printf "offset 2" >&2; exit 2; fi'))
@@ -319,7 +323,7 @@ def signals(trial: Trial) -> None:
         number.unlink(missing_ok=True)
         run = subprocess.Popen(
             [*trial.words, SYNOP], stdout=subprocess.DEVNULL, stderr=subprocess.PIPE, env={**trial.environment, **slow},
-            preexec_fn=lambda: signal.signal(name, signal.SIG_DFL),  # a shell ignores SIGINT in background jobs
+            preexec_fn=lambda: signal.signal(name, signal.SIG_DFL),  # shells start background jobs with SIGINT ignored
         )
         is_begun = wait_until(number.exists)
         run.send_signal(name)
@@ -383,7 +387,7 @@ def wait_until(is_so) -> bool:
 
 
 def tables(trial: Trial) -> None:
-    """Tables with a field of 200,000 bytes, a NUL, other columns or names that are not UTF-8, and a directory `-sets`."""
+    """Tries tables with a field of 200,000 bytes, a NUL, other columns or a name that is not UTF-8, in a directory `-sets`."""
     if trial.name not in ("bufr-auto", "bufr-lacks"):
         return
     folder = trial.place / "-sets"
@@ -396,18 +400,18 @@ def tables(trial: Trial) -> None:
             good = (TOP / "tables/wmo-39" / name).read_text(encoding="utf-8")
             bad = f"012101,{field},K,2,0,16\n" if name == "B.csv" else f"307080,{field}\n"
             (folder / "wmo-39" / name).write_text(good + bad, encoding="utf-8")
-            # the original tables contain the last two descriptors, but not 063255
+            # The original tables contain the last two descriptors, but not 063255.
             stream = lib.asking(lib.message(b"", lib.words("063255 012101 307080")), 45, 1)
             done = trial.run(input=stream, environment={"BUFR_TABLES": str(folder)})
             holds(f"{trial.name}: {name} with {field[:3]!r}", done.returncode == 2 and done.stderr, done)
         (folder / "wmo-39" / name).write_text(good, encoding="utf-8")
-    # A Table D with other columns, which bufr-auto reads to find out whether a note about local rows is needed
+    # bufr-auto reads Table D to find out whether a note about local rows is needed. This Table D has other columns.
     (folder / "wmo-39/D.csv").write_text("other,columns\n1,2\n", encoding="utf-8")
     sequence = lib.asking(lib.message(b"", lib.words("307080")), 39, 1)
     done = trial.run(input=sequence, environment={"BUFR_TABLES": str(folder)})
     holds(f"{trial.name}: D.csv with other columns", done.returncode == 2 and b"table D: 40 header" in done.stderr, done)
     (folder / "wmo-39/D.csv").write_text(good, encoding="utf-8")
-    # `bufr` accepts names that are not UTF-8
+    # `bufr` accepts names that are not UTF-8.
     octets = (TOP / "tables/wmo-39/B.csv").read_bytes()
     (folder / "wmo-39/B.csv").write_bytes(octets.replace(b"WMO BLOCK NUMBER", b"WMO BLOCK N\xdcMBER"))
     done = trial.run(input=stream, environment={"BUFR_TABLES": str(folder)})
@@ -415,7 +419,7 @@ def tables(trial: Trial) -> None:
 
 
 def options(trial: Trial) -> None:
-    """The options --help and --version, invalid arguments, an isolated Python, and file names with control characters."""
+    """Tests --help, --version, invalid arguments, runs in an isolated Python, and file names with control characters."""
     trial.words, kept = trial.words[:2], trial.words
     for words in (["--help"], ["--version"]):
         for kind in ("closed", "full"):
@@ -513,7 +517,7 @@ def progress(trial: Trial) -> None:
             told = b""
             told = os.read(main, 4096)
         os.close(main)
-        # On a busy machine, the progress of the listing follows.
+        # On a busy machine, the progress of the listing can follow.
         is_shown = re.match(rb"\r\x1b\[K[2-4] MB\r\r\x1b\[K", told) and told.endswith(b"\r\x1b[K")
         holds("bufr-lacks: progress of a pipe", is_shown, told)
     if trial.name == "bufr-extract":  # on a terminal, its output already shows the progress
@@ -527,7 +531,7 @@ def progress(trial: Trial) -> None:
 
 
 def guard() -> None:
-    """Checks how a script ends if it raises an exception, during its work or before it."""
+    """Checks how a script ends if an exception is raised before or during its work, and that it clears its progress line."""
     few = "import resource; resource.setrlimit(resource.RLIMIT_NOFILE, (3, 3)); "
     small = few.replace("NOFILE, (3, 3)", "FSIZE, (0, 0)")
     shows = "import os; bufr_guard.Progress.is_shown = True; "

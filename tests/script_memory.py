@@ -3,10 +3,11 @@
 
     tests/script_memory.py [PROGRAM [SCRIPT..]]
 
-The limit for each process is a number of megabytes, plus the length of the longest message or document if --help says so.
+The limit for each process is a number of megabytes, plus the length of the longest message if --help says so.
 The streams contain 300,000 strays, 300,000 small messages with bytes between them, 30,000 kinds of messages for which
-tables are missing, 200,000 kinds for which no rows are missing, or messages of 16 MB; one document never ends. With the
-first two streams, a script must not need much more memory than with a third of the stream.
+tables are missing, 200,000 kinds for which no rows are missing, messages of 16 MB, long descriptor lists, or messages of 40
+table versions. In addition, one document has no end. With the first two streams, a script must not need much more memory than
+with a third of the stream.
 """
 import os
 import pathlib
@@ -44,7 +45,10 @@ def messages():
 
 
 def kinds():
-    """Yields messages of 30,000 kinds, each with a different descriptor list, and of 40 kinds that lack 4,096 rows each."""
+    """Yields messages of 30,000 kinds, each with a different descriptor list, and of 40 more kinds.
+
+    For each of the 40 kinds, 4,096 rows are missing.
+    """
     for centre in range(1, 301):
         pieces = []
         for local in range(1, 101):

@@ -1,8 +1,8 @@
 #!/usr/bin/env python3
 """Breaks the scripts on purpose, one change at a time. For each change, the test that is listed with it must fail.
 
-Each change is made in a copy of this repository. Without an option, only the first change is tried. In any case, the text
-that each change replaces must still occur in its file.
+Each change is made in a copy of this repository. Without an option, only the first change is tried. The text that a change
+replaces must still occur in its file, even if the change is not tried.
 """
 import argparse
 import os
@@ -13,7 +13,7 @@ import tempfile
 
 from lib import BUILT, TOP, finish
 
-# Each change: a file, the old text, the new text, and the test, with its arguments after the program.
+# Each change consists of a file, the old text, the new text, and the test with the arguments that follow the program.
 MUTATIONS = [
     (
         "scripts/bufr-lacks",
@@ -657,7 +657,7 @@ def copied(place: str) -> pathlib.Path:
 
 
 def told(top: pathlib.Path, test: str, program: str) -> tuple:
-    """Returns whether a test fails in a copy, whether it skips something, and the last line that it prints."""
+    """Returns whether a test fails in a copy, whether the test skips something, and the last line that the test prints."""
     script, *words = test.split()
     try:
         done = subprocess.run([top / script, program, *words], stdout=subprocess.PIPE, stderr=subprocess.STDOUT, timeout=900)

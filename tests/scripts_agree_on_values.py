@@ -4,8 +4,9 @@
     tests/scripts_agree_on_values.py [PROGRAM]
 
 All four must return the same values, with each installed awk. Some messages are random and use WMO's tables. Others use a
-table that the test generates, with numbers of every scale from -127 to 127: zero, one digit, the limits of a field's range,
-and missing. Numbers up to the limits of 128 bits, which do not fit in a field, are read from a generated dump.
+table that the test generates. For each scale from -127 to 127, they contain zero, a number with one digit, numbers at the
+limits of a field's range, random numbers, and a missing value. Numbers up to the limits of 128 bits, which do not fit in a
+field, are read from a generated dump.
 """
 import itertools
 import os
@@ -123,8 +124,8 @@ def own_tables(folder: pathlib.Path) -> list:
 def scaled_stream(rng: random.Random) -> bytes:
     """Returns a stream with a message for each kind of number. Each message contains a number of every scale.
 
-    The reference value of an element is minus its index. The last message contains the longest number that is possible, with
-    37 digits: 2 07 018 multiplies its reference value.
+    The reference value of each element is its negated index. The last message contains the longest possible number, which has
+    37 digits because 2 07 018 multiplies its reference value.
     """
     most, stream = (1 << 63) - 1, b""
     kinds = [lambda place: place, lambda place: place + 1, lambda place: most, lambda place: most - 1, lambda place: 0]
@@ -138,7 +139,7 @@ def scaled_stream(rng: random.Random) -> bytes:
 
 
 def limits() -> bytes:
-    """Returns a dump with numbers up to the limits of 128 bits at every scale. Each of them follows a new reference value."""
+    """Returns a dump with numbers up to the limits of 128 bits at every scale, each after a redefined reference value."""
     text = (TOP / "tests/vectors/texts/one_block_number.txt").read_bytes().splitlines(keepends=True)
     lines = []
     for scale in SCALES:

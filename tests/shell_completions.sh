@@ -52,7 +52,7 @@ offers '--value --message --subset --help --version' map -
 offers '' map --value ''
 
 command -v zsh > /dev/null || { echo "$0: zsh is not there, its completions are skipped" && exit; }
-# Starts zsh in a pseudo-terminal, types the line and a tab there, and prints the completed line.
+# Starts zsh in a pseudo-terminal, types the line followed by a tab, and prints the completed line.
 cat > "$work/zsh" << 'END'
 zmodload zsh/zpty
 zpty shell zsh -f -i

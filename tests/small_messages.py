@@ -19,7 +19,7 @@ TABLE_B = """fxy,name,unit,scale,reference,width
 031000,SHORT DELAYED DESCRIPTOR REPLICATION FACTOR,Numeric,0,0,1
 031001,DELAYED DESCRIPTOR REPLICATION FACTOR,Numeric,0,0,8
 """
-# A sequence of two elements, and one that doubles seventeen times.
+# A sequence of two elements, and one that expands to 131,072 elements, because each of its 17 levels doubles the next one.
 TABLE_D = "fxy,member\n360192,001001\n360192,012101\n" + "".join(
     f"3000{x:02},{f'3000{x + 1:02}' if x < 17 else '001001'}\n" * 2 for x in range(1, 18)
 )
@@ -59,7 +59,7 @@ REFUSED = [
     (built("101000 031001 001001", ""), "offset 0: 30 data end at subset 1 descriptor 031001 bit 0"),
     (built("101000 031001 001001", "02"), "offset 0: 30 data end at subset 1 descriptor 001001 bit 8"),
     (built("101000 031001 001001", "0214"), "offset 0: 30 data end at subset 1 descriptor 001001 bit 15"),
-    # messages that are truncated after each byte
+    # four messages, truncated at every possible length
     *(
         (whole[:at], "offset 0: 1 cut" if at >= 4 else "")
         for whole in (ONE, DELAYED, PACKED, LOCAL_USE)
@@ -67,7 +67,7 @@ REFUSED = [
     ),
 ]
 
-# A message, the items in its dump without comments, and the message that the dump is encoded to, if it is a different one.
+# A message, the items in its dump without comments, and the result of encoding the dump, if it is a different message.
 ACCEPTED = [
     (ONE, "001001 10", None),
     (built("012101", "708F"), "012101 288.15", None),

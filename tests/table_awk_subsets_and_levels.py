@@ -3,7 +3,7 @@
 
     tests/table_awk_subsets_and_levels.py [PROGRAM]
 
-The test also covers notes about columns, invalid columns, rows that are joined with a listing, and the running time.
+The test also covers notes about columns, invalid columns, rows that are joined with a listing, running time and memory use.
 """
 import csv
 import itertools
@@ -47,11 +47,12 @@ subset 1
 012103 2.5
 end
 """
-# Three passes with inner groups of different lengths, then groups, one of which has no passes, and lines that are not items.
+# Three passes with inner groups of different lengths, then a group with no passes and three with one, and lines that are not
+# items.
 VARIED = b"message\nsubset 1\n031001 3\nR 012101 5\n# a note\n\n007004 1\n031001 2\n011001 3\n011001 4\n012101 1.0\n"
 VARIED += b"007004 2\n031001 0\n012101 2.0\n007004 3\n031001 1\n011001 3\n012101 3.0\n"
 VARIED += b"031001 0\n" + b"".join(b"031001 1\n007004 %d\n012101 %d.0\n" % (level, level) for level in (4, 5, 6)) + b"end\n"
-# Passes that begin and end with the same descriptor. The factor, 2 or 3, is filled in.
+# Passes that begin and end with the same descriptor. The tests fill in the factor, 2 or 3.
 ENCLOSED = b"message\nsubset 1\n031001 %d\n" + b"008002 1\n020011 2\n008002 MISSING\n" * 3 + b"end\n"
 # Escapes, lines that are skipped, and comments that are not UTF-8.
 ODD = b"""# a note
@@ -193,7 +194,7 @@ def tries_memory(awk: list, folder: pathlib.Path) -> None:
     for count in (20_000, 100_000):
         lines = (f"012101 1  # A NAME OF AN ELEMENT OF A TABLE {number} [K]\n" for number in range(count))
         path = folder / "names"
-        with open(path, "w") as text:  # in pieces, because a child's measured memory includes that of this process
+        with open(path, "w") as text:  # line by line, because a child's measured memory includes that of this process
             text.writelines(itertools.chain(["message\nsubset 1\n"], lines, ["end\n"]))
         status, usage = lib.usage_of([*awk, "-f", SCRIPT, path], stdout=subprocess.DEVNULL)
         want(status == 0, f"{awk}: {count} names end with {status}")
@@ -221,7 +222,7 @@ def tries_levels(awk: list, sounding: bytes, synop: bytes) -> None:
     wanted += '1,3,2023,"SAENTIS",3,1\n1,3,2023,"SAENTIS",6,8\n'
     told = "table.awk: skipped a subset without levels: message 1, subset 1\n"
     want((status, output, errors) == (0, wanted, told), f"{awk}: the clouds are {output}: {errors}")
-    # An item after a group with two or more passes does not belong to any of them.
+    # An item after a group with two or more passes does not belong to any of these passes.
     rows = "message,subset,012101,007004,012101,011001\n1,1,1.0,100,5.0,1\n1,1,1.0,200,,\n1,1,1.0,300,7.0,\n"
     rows += "1,1,1.0,400,9.0,\n1,1,1.0,500,9.5,\n"
     nested = run(awk, NESTED, levels="1", keep="012101", columns="007004,012101,011001")

@@ -1,5 +1,5 @@
 #!/usr/bin/env python3
-"""Tests tables/convert.py against the program: convert.py must leave out, and report, the rows that the program rejects.
+"""Tests tables/convert.py against the program: convert.py must leave out and report the rows that the program rejects.
 
     tests/table_converter.py [PROGRAM]
 
@@ -21,7 +21,7 @@ WIDE, WHOLE = "the width must be from 1 to 63 bits", "the width of a string must
 SCALE, REFERENCE = "the scale must be a whole number from -127 to 127", "the reference value must be a signed 64-bit integer"
 FACTOR = "a replication factor must be a number with scale 0, reference 0 and width 8"
 
-# fxy,name,unit,scale,reference,width | the reason
+# fxy,name,unit,scale,reference,width | the reason for leaving the row out, if any
 ELEMENTS = f"""
 063255,NAME,K,2,-7,16 |
 064000,NAME,K,2,0,16 | X is over 63
@@ -77,7 +77,7 @@ ELEMENTS = f"""
 031001,NAME,CCITT IA5,0,0,8 | {FACTOR}
 031011,NAME,Numeric,1,-1,9 |
 """.strip("\n")
-# fxy,member | the reason
+# fxy,member | the reason for leaving the row out, if any
 SEQUENCES = """
 363255,363254 |
 364000,001001 | X is over 63
@@ -100,7 +100,7 @@ def wreport_row(fxy: str, name: str, unit: str, scale: str, reference: str, widt
 
 
 ELEMENT = "012101,NAME,K,2,0,16\n"
-# The elements whose definitions differ between versions 13 and 14: the first of two lines.
+# The first of the two lines that list the elements whose definitions differ between versions 13 and 14.
 CHANGED = "  elements changed: 13: 014001 014002 014003 014004 014011 014012 014013 014014 014017 014018 014028"
 # Two small sets, and the changes from one to the other.
 ONE = """\
@@ -133,7 +133,7 @@ one to ot\\x1Bher
   sequences added: 0
 """
 TWICE = "source: left out %s: the source contains conflicting rows for this descriptor\n"
-# A file, its text, the exit status, the messages, and the rows of the new set without its headers.
+# A file, its text, the exit status, the messages, and the rows of the new set without headers (None if there is no new set).
 SOURCES = [
     ("B.csv", f"{HEADERS['B']}\n{ELEMENT}\n{ELEMENT}", 0, "", ELEMENT),
     ("B.csv", "", 2, "source/B.csv has no column 'fxy'\n", None),
@@ -195,7 +195,7 @@ SOURCES = [
     ),
     ("D.csv", "fxy\n307060\n", 2, "source/D.csv has no column 'member'\n", None),
     ("other.csv", "", 2, "source contains no tables in a known format; see convert.py --help\n", None),
-    # wreport's layout: units without spaces, a space after a sign, a name that fills its columns, and two-byte letters.
+    # wreport's layout: units without spaces, a space after a sign, a name that fills its columns, and a two-byte letter.
     (
         "Bmade.txt",
         wreport_row("001210", "MADE UP", "CCITTIA5", "0", "0", "72")
@@ -212,7 +212,7 @@ SOURCES = [
         f"001213,A COMMON ONE,COMMON CODE TABLE C-1,0,0,16\n007030,{'N' * 65},M,1,-4000,17\n"
         "041003,DISSOLVED NITRATES,\u03bcMOL KG-1,3,0,17\n",
     ),
-    # If a sequence occurs twice, the first one is used. Counts have one or three digits, and text can follow a member.
+    # If a sequence occurs twice, the first one is used. Counts can have one or three digits, and text can follow a member.
     (
         "Dmade.txt",
         " 307210  2 001210  of this centre\n           001211\r\n 307211  1 307210\n 307210  1 001212\n"
@@ -298,7 +298,7 @@ def several_sources(place: pathlib.Path) -> list:
         made = "".join((place / f"both/{name}.csv").read_text().partition("\n")[2] for name in HEADERS)
         if (done.returncode, done.stdout, done.stderr, made) != (1, "", told + more, wanted):
             wrongs.append(f"two sources: {done}, {made!r}")
-    # a directory that contains both of wreport's tables
+    # This directory contains both of wreport's tables.
     (place / "pair").mkdir()
     (place / "pair/Bone.txt").write_text(wreport_row("001210", "MADE UP", "CCITTIA5", "0", "0", "72"))
     (place / "pair/Done.txt").write_text(" 307210  1 001210\n")
@@ -309,7 +309,7 @@ def several_sources(place: pathlib.Path) -> list:
 
 
 def failures(place: pathlib.Path) -> list:
-    """Returns complaints about failures, such as a full disk, a missing directory or a missing column.
+    """Returns complaints about the handling of failures, such as a full disk, and about the output of changes.py.
 
     If convert.py cannot write a set, the old set must remain unchanged.
     """

@@ -1,13 +1,13 @@
 #!/usr/bin/env python3
-"""Checks that the sets in tables/ match every version from 7 to 39 exactly, by the rule in tables/README.md, and that all
-sets are needed.
+"""Checks that the sets in tables/ match every version from 7 to 39 exactly, by the rule in tables/README.md, and that every
+set is needed.
 
     tests/table_versions.py
 
-The set for a version is the one with that number or, if there is none, the one with the next higher number. It must define
-each row of the version as the version does; rows that were added later do no harm. The versions come from ecCodes and
-wreport; those of wreport differ from ours as listed below. If one of the two is not installed, the test prints a note and
-skips its versions.
+The set for a version is the one with that number or, if there is none, the one with the next higher number. It must contain
+every row of the version unchanged; rows that were added later do no harm. The test compares the sets with the versions in
+ecCodes and wreport. WREPORT_HAS_OTHERWISE lists the known differences between wreport and our sets. If ecCodes or wreport is
+not installed, the test prints a note and skips the versions in that package.
 """
 import pathlib
 import re
@@ -23,12 +23,12 @@ import changes  # noqa: E402
 ECCODES = pathlib.Path("/usr/share/eccodes/definitions/bufr/tables/0/wmo")
 WREPORT = pathlib.Path("/usr/share/wreport")
 VERSIONS = range(7, 40)
-# The descriptors that, according to bufr-auto, versions up to 6 define differently.
+# The descriptors that versions up to 6 define differently, according to bufr-auto.
 AUTO = (TOP / "scripts/bufr_auto.py").read_text()
 CHANGED_SINCE_6 = re.search(r'CHANGED_SINCE_6 = set\(\s*"""([^"]*)"""', AUTO)[1].split()
 # The differences in wreport. In versions 12 and 13, members of sequences are missing or occur twice.
 MISPRINTS = "301034 307046 307052 307054 307055 307084 308008 310019 310025".split()
-# In version 16, two elements have reference values that ecCodes has only since version 17, the two halves of nine sequences
+# In version 16, two elements have reference values that ecCodes has only from version 17 on, the two halves of nine sequences
 # are swapped, and four sequences are in neither version 15 nor version 16 of ecCodes. wreport's sequences for version 15 are a
 # copy of those for version 16.
 OF_16 = """
@@ -43,7 +43,7 @@ def sets() -> dict:
 
 
 def converted(source: pathlib.Path, place: str):
-    """Returns the tables that convert.py makes from a source. They do not contain the rows that it leaves out."""
+    """Returns the tables that convert.py makes from a source, even if convert.py leaves out some rows."""
     done = subprocess.run([TOP / "tables/convert.py", place, source], stderr=subprocess.PIPE, text=True)
     if done.returncode > 1:
         sys.exit(f"tables/convert.py does not read {source}: {done.stderr}")
@@ -51,7 +51,7 @@ def converted(source: pathlib.Path, place: str):
 
 
 def otherwise(version, served) -> set:
-    """Returns the descriptors of a version's rows that a set lacks or defines differently."""
+    """Returns the descriptors of the rows in a version that a set lacks or defines differently."""
     return {fxy for table, other in zip(version, served) for fxy in table if other.get(fxy) != table[fxy]}
 
 
@@ -74,13 +74,13 @@ def check(name: str, versions: dict, known: dict) -> list:
 def check_eccodes(place: str) -> list:
     tables = {version: converted(ECCODES / str(version), f"{place}/e{version}") for version in (2, 6, *VERSIONS)}
     complaints = check("ecCodes", {version: tables[version] for version in VERSIONS}, {})
-    # Our sets are made from these tables, including the names and units.
+    # Our sets, including names and units, must be exactly what convert.py makes from these tables.
     for number in sets():
         for name in ("B.csv", "D.csv"):
             made = pathlib.Path(f"{place}/e{number}/{name}").read_bytes()
             if made != (TOP / f"tables/wmo-{number}/{name}").read_bytes():
                 complaints.append(f"tables/wmo-{number}/{name} is not what convert.py makes of ecCodes")
-    # Every set is needed: a row of each set except the last is different in the next set, or missing from it.
+    # Every set is needed: at least one row of each set except the last is missing from the next set, or is different there.
     numbers = sorted(sets())
     for number, later in zip(numbers, numbers[1:]):
         if not otherwise(tables[number], tables[later]):

@@ -1,6 +1,6 @@
 #!/usr/bin/env bash
-# Tests try.sh with a stand-in for the toolchain that runs only the program under test: try.sh must dump a file of any name,
-# from any directory, and say what it needs if something is missing.
+# Tests try.sh with a stand-in for the toolchain, which only runs the program under test. try.sh must dump a file with any name
+# from any directory, and must say what it needs if something is missing.
 . "$(dirname "$0")/lib.sh"
 top=$PWD
 mkdir "$work/bin" "$work/empty"
@@ -22,8 +22,8 @@ exec "$bufr" "\$@"
 END
 chmod +x "$work/bin/rt"
 
-# tried PATH STATUS ERRORS WORD..: with this PATH, try.sh must exit with STATUS and print exactly ERRORS on standard error. Its
-# output is in $work/output.
+# tried PATH STATUS ERRORS WORD..: with this PATH and these arguments, try.sh must exit with STATUS and print exactly ERRORS on
+# standard error. Writes the output to $work/output.
 tried() {
     local path=$1 wanted=$2 errors=$3 status=0
     shift 3

@@ -33,7 +33,7 @@ static uint8_t *contents(const char *name, size_t *length) {
     return octets;
 }
 
-/* For each descriptor, where the name and unit of the element begin in Table B. */
+/* For each descriptor, the position in Table B of the element's name and unit. */
 static const uint8_t *elements[1 << 16];
 
 /* Finds the elements. Each line of B.csv begins with a descriptor, such as 012101, and a comma. */
@@ -46,7 +46,7 @@ static void find_elements(const uint8_t *table, const uint8_t *end) {
         }
 }
 
-/* Prints a field in a line of B.csv without its quotes. Returns where the next field begins. */
+/* Prints a field of B.csv without its quotes. Returns the position of the next field. */
 static const uint8_t *print_field(const uint8_t *at, const uint8_t *end) {
     int quoted = 0;
     for (; at < end && (quoted || (*at != ',' && *at != '\n')); at++)
@@ -98,8 +98,8 @@ static void print_faults(const struct bufr_message *message, size_t messages) {
             fprintf(stderr, "offset %llu: fault %d\n", (unsigned long long)message->offset, message->fault);
 }
 
-/* Makes room for the next message. Doubles a buffer that is too small, so that later messages also fit. Returns 0 if memory
- * ran out. */
+/* Makes room for the next message. If a buffer is too small, at least doubles its size, so that later messages are likely to
+ * fit too. Returns 0 if there is not enough memory. */
 static int grow(struct bufr_rows *rows, const struct bufr_counts *counts) {
     if (counts->items_needed > rows->items_room) {
         size_t room = counts->items_needed > 2 * rows->items_room ? counts->items_needed : 2 * rows->items_room;
@@ -122,7 +122,7 @@ static int grow(struct bufr_rows *rows, const struct bufr_counts *counts) {
 
 int main(int count, char **words) {
     static struct bufr_message messages[256];
-    static const uint16_t all[1] = {0}; /* no pointer is null, even if its length is 0 */
+    static const uint16_t all[1] = {0}; /* pointers must not be null, even if the length is 0 */
     struct bufr_input input = {0};
     struct bufr_rows rows = {0};
     struct bufr_counts counts = {0, 0, 0, 0, 0, 0, 0, 0};

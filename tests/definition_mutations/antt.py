@@ -31,7 +31,7 @@ SIGNATURE = re.compile(r"(?:(?:unfoldable|abbrev|pattern|pub|data|record|module)
 
 
 def parts_of(name: str) -> set:
-    """Returns the parts of a name. The name of an operator is split at the places of its arguments (`◌`)."""
+    """Returns the parts of a name. The name of an operator is split at its argument positions (`◌`)."""
     return {part for part in name.split("◌") if part}
 
 

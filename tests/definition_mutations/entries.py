@@ -38,12 +38,12 @@ class Entry:
         return f"{self.file}.txt:{self.line}: {' '.join(self.words)}"
 
     def text(self) -> str:
-        """Returns the text that --only searches for its word."""
+        """Returns the text that --only WORD searches."""
         lines = [line for one in self.changes for line in (one.crate, one.file, *one.old, *one.new)]
         return "\n".join([*self.words, *lines, self.kind, self.of, self.name])
 
     def changed(self, places: set) -> dict:
-        """Returns the changed text of each file in these folders, by place."""
+        """Returns the text of each changed file in these directories, keyed by place."""
         texts = {}
         for change in self.changes:
             place = change.place()
@@ -53,7 +53,10 @@ class Entry:
 
 
 def read_entries(name: str, crate: str):
-    """Yields the entries in a list, which apply to this crate. Raises `Bad` if the list is invalid."""
+    """Yields the entries in a list. Unless they name another crate, they apply to `crate`.
+
+    Raises `Bad` if the list is invalid.
+    """
     path = HERE / f"{name}.txt"
     lines = path.read_text(encoding="utf-8").splitlines() if path.is_file() else []
     entry = None

@@ -21,7 +21,7 @@ PROVED = "a proposition states what is proved, and refuses no input"
 
 
 class Site:
-    """A comparison, a number or an order in a definition: its words from `first` up to, but not including, `last`.
+    """A comparison, a number or an order in a definition: the words from `first` up to, but not including, `last`.
 
     For an order, these are the words of the first check, and `after` contains those of the second.
     """
@@ -106,7 +106,7 @@ class Definition:
         yield from self.orders()
 
     def is_value(self, at: int) -> bool:
-        """Returns whether a number is on the right of an equation, not in a pattern or a signature, and has no exponent."""
+        """Returns whether a number is on the right side of an equation, not in a pattern or signature, and has no exponent."""
         line = self.text.rfind("\n", 0, self.starts[at] - self.start) + 1
         head = self.text[line : self.starts[at] - self.start]
         is_base = self.words[at + 1 : at + 2] == ["^"]
@@ -115,8 +115,8 @@ class Definition:
     def orders(self):
         """Yields pairs of checks that can both reject input.
 
-        A pair consists of two consecutive statements in a `do` block, if the second does not use the result of the first, or
-        of the condition of an `if` that rejects input and the check in its other branch.
+        A pair is either two consecutive statements in a `do` block, if the second does not use the result of the first, or the
+        condition of an `if` that rejects input in one branch and the check in the other branch.
         """
         steps, bound, is_open = [], [], False
         for line in self.text.split("\n") if "Result" in self.words[: self.body] else []:
@@ -182,7 +182,7 @@ def place_in(words: list, part) -> int | None:
 
 
 def times(words: list, part: list, is_open: bool) -> int:
-    """Returns how often a part occurs in a list of words. Unless `is_open` is true, an expression must end after it."""
+    """Returns how often a part occurs in a list of words. Unless `is_open` is true, an expression must end after the part."""
     ends = (at + len(part) for at in range(len(words)) if words[at : at + len(part)] == part)
     return sum(is_open or words[end : end + 1] == [] or words[end] in ENDS for end in ends)
 
@@ -196,7 +196,8 @@ def definitions(place: tuple) -> list:
         begins = line[:1] not in ("", " ", ")", "}") and (line.startswith("--") or NO_DECLARATION.match(line) or SIGNATURE.match(line))
         if opened and line.startswith("--"):
             equation = next((after for after in lines[number:] if not after.startswith("--")), "")
-            begins = not equation.startswith(DECLARATION.match(lines[opened[0] - 1])[2] + " ")  # a comment between equations
+            # A comment between the equations of a definition does not end it.
+            begins = not equation.startswith(DECLARATION.match(lines[opened[0] - 1])[2] + " ")
         if begins:
             if opened:
                 text = "\n".join(lines[opened[0] - 1 : number - 1])
@@ -212,7 +213,7 @@ def files() -> list:
 
 
 def cover(entries: list) -> list:
-    """Assigns to each site the entries that change it, or the reason why it needs none. Returns complaints."""
+    """Assigns to each site the entries that change it, or the reason why the site needs no entry. Returns complaints."""
     for entry in entries:
         for change in entry.changes:
             if change.folder == "specs":
@@ -251,14 +252,17 @@ def note(entry: Entry, change: Change) -> None:
                 if turned and entry not in site.entries:
                     site.entries.append(entry)
             elif touched & set(definition.starts[site.first : site.last]) and entry not in site.entries:
-                beside = site.kind == "number"  # the words next to a number distinguish it from equal ones
+                beside = site.kind == "number"  # the words next to a number distinguish it from equal numbers
                 words = definition.words[site.first - beside : site.last + beside]
                 if not 0 < times(old, words, beside) <= times(new, words, beside):  # otherwise, the words were only moved
                     site.entries.append(entry)
 
 
 def set_free(entry: Entry, place: tuple, names: str) -> list:
-    """Assigns a reason to the sites without entries in the named definitions or in a quoted text. Returns these sites."""
+    """Assigns the reason that `entry` gives to each site without entries in the named definitions, or in the quoted text.
+
+    Returns these sites.
+    """
     text, found = names.strip("`"), definitions(place)
     if names.startswith("`"):
         start = source(place).find(text)

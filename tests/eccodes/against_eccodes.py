@@ -8,7 +8,7 @@
 random_messages.py generates each message, along with the lines that its dump should contain. These lines are compared with
 the output of `bufr dump` and with what ecCodes reads: `bufr_dump -jf` provides descriptors, strings and scales, and
 `bufr_filter` provides the sections, and numbers with all digits of a double. `bufr encode` then converts the dump back to a
-message, in which ecCodes must read the same values. For files, there are no expected lines; everything else is the same.
+message, in which ecCodes must read the same values. For messages in files, there are no expected lines to compare with.
 
 If a message differs, it is saved in tests/out/eccodes, the first difference is printed, and the exit status is 1. With
 --differences, the exit status is 1 if a message does not differ. To test a program other than the one that was built, set
@@ -76,11 +76,11 @@ truncates some numbers longer than 57 bits | 1 | 80 | 001001 201170 012101 | 1:7
 
 
 class Different(Exception):
-    """Two readings of a message differ, or one of them failed."""
+    """Raised if two readings of a message differ, or if one of them fails."""
 
 
 class Reading(NamedTuple):
-    """The contents of a dump: the header's numbers, the descriptors, and the item lines of each subset without comments."""
+    """The contents of a dump: the numbers in the header, the descriptors, and each subset's item lines without comments."""
 
     header: list
     descriptors: list
@@ -143,18 +143,18 @@ def chosen(entry: dict, subset: int) -> dict:
 
 
 def is_text(entry: dict) -> bool:
-    """Returns whether an entry is a string. The number of a string is 1000 times its index, plus its length."""
+    """Returns whether an entry is a string. In `numericValues`, a string is given as 1000 times its index plus its length."""
     return entry.get("units") == "CCITT IA5" or entry.get("key") == "text"
 
 
 def same_number(token: str, number: float, entry: dict) -> bool:
-    """Returns whether a double equals the decimal, apart from the rounding errors of (raw + reference) / 10^scale."""
+    """Returns whether a double equals a decimal, apart from rounding errors in computing (raw + reference) / 10^scale."""
     exact, reference = Fraction(token), Fraction(entry.get("reference", 0)) / Fraction(10) ** entry.get("scale", 0)
     return abs(Fraction(number) - exact) <= (abs(exact) + 2 * abs(reference)) / 2**51
 
 
 def same_item(line: str, number: float, entry: dict, tally: collections.Counter) -> bool:
-    """Returns whether the item that ecCodes reads is the one on this line."""
+    """Returns whether an item that ecCodes reads is the same as the one on this line of a dump."""
     fxy, token = line.split(" ", 1)
     if entry.get("code", fxy) != fxy:
         return False
@@ -198,7 +198,7 @@ def is_local(line: str) -> bool:
 
 
 def check(octets: bytes, expected, path: pathlib.Path, tally: collections.Counter) -> None:
-    """Writes a message to the file and makes all comparisons."""
+    """Writes a message to the file `path` and makes all comparisons."""
     path.write_bytes(octets)
     text = run([PROGRAM, "dump", *TABLES, str(path)])
     reading = ours(text)
@@ -217,7 +217,7 @@ def check(octets: bytes, expected, path: pathlib.Path, tally: collections.Counte
 
 
 def of_file(name: str):
-    """Yields the name and the octets of each message that `bufr ls` lists in a file. There are no expected lines."""
+    """Yields a name and the octets of each message that `bufr ls` lists in a file, and None for the expected lines."""
     octets = pathlib.Path(name).read_bytes()
     listed = subprocess.run([PROGRAM, "ls", name], stdout=subprocess.PIPE, stderr=subprocess.DEVNULL).stdout
     for line in listed.decode().splitlines():

@@ -22,7 +22,7 @@ if __name__ == "__main__":
     lib.use_python_with("numpy")
 sys.path.insert(0, str(lib.TOP / "scripts"))
 
-# Import these before against_eccodes, which puts tests/ first on the path: it contains another bufr_auto.py.
+# Import these before against_eccodes, which puts tests/ first on the path: tests/ contains another bufr_auto.py.
 import bufr
 import bufr_text
 from against_eccodes import Different, Reading, compare, theirs

@@ -4,8 +4,8 @@
     tests/eccodes/library_against_eccodes.py FOLDER [FILE..]    FOLDER: the directory that library/build.sh filled
                                                                 FILE: a BUFR file (default: all files in examples/)
 
-For each accepted message, the test compares the header in its row, and all of its items. If any of them differ, the exit
-status is 1. This test needs ecCodes, and is not part of the gate.
+For each accepted message, the test compares the header fields that the library returns, and all items. If any of them
+differ, the exit status is 1. This test needs ecCodes, and is not part of the gate.
 """
 import collections
 import json
@@ -21,7 +21,8 @@ sys.path.insert(0, str(TOP / "library/examples"))
 
 import bufr_library
 
-# The fields of a row in the order of a dump's header. A row does not say whether the message contains section 2.
+# The header fields of a message that the library returns, in the order of a dump's header. No field says whether the message
+# contains section 2.
 HEADER = """edition master centre subcentre update category subcategory local_subcategory master_version local_version year
 month day hour minute second observed compressed subsets""".split()
 

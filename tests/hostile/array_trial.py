@@ -6,8 +6,9 @@
                                                                      FIRST: the number of the first stream
 
 Each stream depends only on its number, as in random_trial.py. Every tenth stream is read with the tables that each message
-needs, and the others with WMO's tables. `differences` in tests/bufr_module.py makes the comparison. Two streams are tried at
-a time. If a stream differs, the exit status is 1. This trial needs NumPy and pandas, and is not part of the gate.
+needs, and the others with the tables in wmo-39. `differences` in tests/bufr_module.py makes the comparison. Two streams are
+tried at a time. If the modules differ on a stream, the exit status is 1. This trial needs NumPy and pandas, and is not part of
+the gate.
 """
 import multiprocessing
 import os

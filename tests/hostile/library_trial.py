@@ -5,9 +5,9 @@
                                                                        COUNT: the number of cases (default: 1,000)
                                                                        FIRST: the number of the first case
 
-Each case depends only on its number, as in random_trial.py. Streams are listed, dumped and read as items, and their dumps
-are encoded in each form. Other dumps are encoded in each form. Buffers are large or small. Two cases are tried at a time.
-If a case fails, the exit status is 1. This trial is not part of the gate.
+Each case depends only on its number, as in random_trial.py. The library lists and dumps a stream, reads its items, and encodes
+its dump in each form, or it encodes a hostile dump in each form. The buffers are large in some cases and small in others. Two
+cases are tried at a time. If a case fails, the exit status is 1. This trial is not part of the gate.
 """
 import multiprocessing
 import pathlib
@@ -25,7 +25,7 @@ import bufr_library
 
 
 def try_case(number: int) -> list:
-    """Returns what is wrong in the case with this number."""
+    """Tries the case with this number. Returns complaints."""
     c_library.wrongs.clear()
     rng = random.Random(f"library case {number}")
     kind = rng.choices(("stream", "text", "tables"), (60, 25, 15))[0]

@@ -2,7 +2,7 @@
 
 This file has its own encoder, which shares nothing with the program except the tables. Each message depends only on its
 number, so a message that differs can be generated again. Templates that `bufr` and ecCodes are known to read differently
-are not generated; each of them is one of the DIFFERENCES in against_eccodes.py.
+are not generated; against_eccodes.py lists these differences in DIFFERENCES.
 """
 import collections
 import copy
@@ -57,7 +57,7 @@ LOCAL = Element("coded", 0, 0, 0)
 
 
 class Unfit(Exception):
-    """The template or its data cannot be used, so another message is drawn."""
+    """Raised if a template or its data cannot be used. Another message is then drawn."""
 
 
 class Field(NamedTuple):
@@ -128,7 +128,7 @@ class Operators:
 
 
 def signed(raw: int, width: int) -> int:
-    """Converts a reference value from the data, which consists of a sign bit and a magnitude."""
+    """Converts the raw bits of a redefined reference value, a sign bit and a magnitude, to a number."""
     half = 1 << width - 1
     return raw if raw < half else half - raw
 
@@ -161,7 +161,7 @@ def walk(descriptors: list, operators: Operators, take) -> None:
 
 
 def repeats_alike(body: list, operators: Operators) -> bool:
-    """Returns whether a delayed group is short, and the same operators are active before and after it."""
+    """Returns whether a delayed group is short and leaves the active operators unchanged."""
     after, fields = copy.deepcopy(operators), []
     walk(body, after, lambda field: fields.append(field) or 1)
     return vars(after) == vars(operators) and len(fields) <= 60
@@ -192,7 +192,7 @@ SEQUENCES = [fxy for fxy in D if sequence_fits(fxy)]
 
 
 class Drawer:
-    """Draws templates."""
+    """Draws random templates."""
 
     def __init__(self, rng: random.Random) -> None:
         self.rng = rng
@@ -269,7 +269,7 @@ def drawn(rng: random.Random, field: Field) -> int:
 
 
 def near(rng: random.Random, field: Field, count: int) -> list:
-    """Draws raw numbers for the subsets of a compressed message: equal, close together, or arbitrary ones."""
+    """Draws a raw number for each subset of a compressed message. The numbers are equal, close together, or arbitrary."""
     first = drawn(rng, field)
     way = rng.randrange(3)
     if field.kind in ("factor", "reference") or way == 0 or field.kind == "text" and field.width > 8 * 63:

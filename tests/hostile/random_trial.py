@@ -6,19 +6,23 @@
 
 Each case depends only on its number. A stream or dump contains one or a few messages from examples/ or random_messages.py;
 the tables are WMO's. The trial removes, duplicates and changes octets, drops and swaps lines, and changes values, lengths,
-counts and table rows. The program then lists and dumps the stream, or encodes the dump, and must convert the result back:
+counts and table rows. The program then lists and dumps the stream, or encodes the dump, and converts the result back. The
+following must hold:
 
-- the number of messages plus the number of faults is the same for `ls` and `dump`;
-- the dump of a stream is encoded without a fault, and dumping the result gives the same dump;
-- the encoded messages are no longer than the stream, apart from two octets for each edition 3 message;
-- in the other form, unless fault 58, 59 or 60 is reported, the dump differs only in the `compressed` lines;
-- the result of encoding a dump is dumped without a fault, and that dump is encoded to the same octets.
+- The number of messages plus the number of faults is the same for `ls` and `dump`.
+- The dump of a stream is encoded without a fault, and dumping the result gives the same dump.
+- The encoded messages are no longer than the stream, apart from two octets for each edition 3 message.
+- If `--form` is used to encode the dump of a stream, and fault 58, 59 or 60 is not reported, dumping the result gives the same
+  dump except for the `compressed` lines.
+- The result of encoding a dump is dumped without a fault, and that dump is encoded to the same octets.
 
 The trial reports:
 
-- a command that is killed by a signal, or whose exit status is not 0 or 1 (or 2, if a fault in a table is reported);
-- lines on standard error that are not fault lines, and dumps and messages that do not round-trip;
-- a command that, four times in a row, uses more processor time than 0.1 s plus 1 µs for each octet read or written.
+- commands that are killed by a signal;
+- commands whose exit status is not 0 or 1 (or 2, if a table is invalid or the output is too long for the trial);
+- lines on standard error that are not fault lines;
+- dumps and messages for which one of the rules above does not hold;
+- commands that, four times in a row, use more processor time than 0.1 s plus 1 µs for each octet read or written.
 
 Each case that fails is saved in tests/out/hostile, and the exit status is then 1. Two cases are tried at a time. This trial
 is not part of the gate.
@@ -59,11 +63,11 @@ LISTED = re.compile(rb"offset=\d+ length=(\d+) edition=[34] .* descriptors=\d+")
 
 
 class Wrong(Exception):
-    """The program does something incorrect."""
+    """Raised if the program does something incorrect."""
 
 
 class Long(Exception):
-    """The program writes more output than the trial reads."""
+    """Raised if the program writes more output than the trial reads."""
 
 
 def hold(holds: bool, told: str) -> None:
@@ -75,7 +79,7 @@ def hold(holds: bool, told: str) -> None:
 
 
 def run_once(octets: bytes, arguments: tuple) -> tuple:
-    """Runs the program on these octets. Returns its status, output, errors, whether there was more output, and CPU seconds."""
+    """Runs the program on these octets. Returns its status, output, errors, whether the output was longer, and CPU seconds."""
     with tempfile.TemporaryFile() as source, tempfile.TemporaryFile() as told:
         source.write(octets)
         source.seek(0)
@@ -231,7 +235,7 @@ def stamped(rng: random.Random, octets: bytes) -> bytes:
 
 
 def lengths_in(octets: bytes) -> list:
-    """Returns the positions of a message's length and of its sections' lengths, as far as these can be found."""
+    """Returns the positions of the lengths of a message and its sections, as far as they can be found."""
     places, at = [], octets.find(b"BUFR")
     if at < 0 or at + 20 > len(octets):
         return places
@@ -261,7 +265,7 @@ ODD_WORDS = """000000 001001 001015 012101 031000 031001 031002 031011 063255 10
 
 
 def resectioned(rng: random.Random, octets: bytes) -> bytes:
-    """Changes the contents of a section, and makes all lengths correct."""
+    """Changes the contents of a section, then updates all lengths to match."""
     places = lengths_in(octets)[1:]
     if len(places) < 3 or octets[:4] != b"BUFR":
         return flipped(rng, octets)
@@ -360,7 +364,7 @@ def other_row(rng: random.Random, row: bytes) -> bytes:
 
 
 def table_of(rng: random.Random, rows: list, used: set) -> bytes:
-    """Draws a hostile table. Most of the changed rows are ones that the message uses."""
+    """Draws a hostile table. Most of the changed rows are ones that the message or dump uses."""
     rows = list(rows)
     near = [place for place, row in enumerate(rows) if row[:6] in used] or [0]
     for _ in range(rng.choice((1, 1, 2, 5))):
@@ -379,7 +383,7 @@ def table_of(rng: random.Random, rows: list, used: set) -> bytes:
 
 
 def tables_of(rng: random.Random, text: bytes, folder: pathlib.Path) -> tuple:
-    """Writes tables for a dump, of which Table B, Table D or both are hostile. Returns the options that name them."""
+    """Writes a Table B and a Table D for a dump, at least one of which is hostile. Returns the command-line options."""
     used = set(re.findall(rb"\b[03]\d{5}\b", text))
     which = rng.choice(("B", "D", "BD"))
     for name, rows in (("B", TABLE_B), ("D", TABLE_D)):
@@ -391,7 +395,7 @@ def tables_of(rng: random.Random, text: bytes, folder: pathlib.Path) -> tuple:
 
 
 def try_case(number: int) -> tuple:
-    """Tries the case with this number. Returns counts of what happened, and what is wrong (empty if nothing is)."""
+    """Tries the case with this number. Returns counts of what happened, and a complaint or an empty string."""
     rng, seen = random.Random(f"case {number}"), collections.Counter()
     kind = rng.choices(("streams", "texts", "tables"), (50, 35, 15))[0]
     form = rng.choice(("", "", "plain", "compressed"))

@@ -1,4 +1,4 @@
-"""Makes edits that shorten the proof of a lemma. Most of them fail; the checker finds out which ones pass."""
+"""Makes edits that shorten the proof of a lemma. Most of them fail; the checker determines which ones pass."""
 import re
 import sys
 from typing import Iterator, NamedTuple
@@ -14,13 +14,13 @@ TACTIC = re.compile(r"(?<![^\s(\[{])(omega|grind|search|cc|simp) (?=\()")
 PATH = re.compile(r"(?<![^\s(\[{,←])c\.[^\s(){}\[\],;]+")
 WORD = re.compile(r"[^\s(){}\[\],;.`]+")
 MOST_CITED = 5  # facts in a tactic that replaces a term: with more, it is hard to see which step fails
-LEAST_SAVED = 20  # characters: a tactic shows less than the term that it replaces, so it must be clearly shorter
+LEAST_SAVED = 20  # characters: a tactic explains less than the term that it replaces, so it must be clearly shorter
 MOST_INLINE = 40  # characters: a longer `let` is not inlined, because that would be harder to read
 LEAST_MERGED = 150  # characters that a tactic must save if it replaces several clauses
-SHORT = 150  # characters: a shorter record, tuple or chain shows the whole proof
-SHORT_CALL = 100  # characters: so does a shorter call of a lemma
+SHORT = 150  # characters: a record, tuple or chain that is shorter shows the whole proof at a glance
+SHORT_CALL = 100  # characters: a call of a lemma that is shorter also shows the whole proof at a glance
 MOST_HIDDEN = 3  # lemmas that a tactic may use without naming them; a tactic that names none may use only one
-MOST_IDLE = 1  # `let`s that the proof does not mention, because a tactic finds them in scope
+MOST_IDLE = 1  # `let`s that the rest of the proof need not mention, because a tactic finds them in scope
 
 
 def depths(text: str) -> list[int]:
@@ -114,7 +114,7 @@ def mentions(text: str, name: str) -> list[int]:
 
 
 def arguments(signature: str) -> list[tuple[str, str]]:
-    """Returns the name and type of each explicit argument of a lemma. The name of a hypothesis is empty."""
+    """Returns the name and type of each explicit argument of a lemma. An unnamed hypothesis has an empty name."""
     flat = " ".join(line.strip() for line in signature.split("\n") if not line.strip().startswith("unfolding "))
     found = SIGNATURE.match(flat)
     text, made = flat[found.end() :] if found else "", []
@@ -239,7 +239,7 @@ def forms(text: str, citable: set[str]) -> list[str]:
 
 
 def strong_edits(file: ProofFile, lemma: Declaration, body: str) -> Iterator[Edit]:
-    """Yields edits that replace the proof of all clauses, of one clause, or of the part after its `let`s with a tactic."""
+    """Yields edits that use a tactic to prove all clauses, a single clause, or the part of a clause after its `let`s."""
     citable, found = file.citable(lemma), clauses(lemma, body)
     if len(found) > 1:
         head = one_head(file, lemma, body, found)
@@ -263,8 +263,8 @@ def strong_edits(file: ProofFile, lemma: Declaration, body: str) -> Iterator[Edi
 
 
 def weak_edits(file: ProofFile, lemma: Declaration, body: str) -> Iterator[Edit]:
-    """Yields edits that remove, inline or shorten a `let` or an item of a list, or replace `subst` with `rw`. A `let` that
-    remains keeps its type, because the type says what the step proves."""
+    """Yields edits that remove, inline or shorten a `let` or a list item, or replace `subst` with `rw`. A `let` that remains
+    keeps its type, because the type says what the step proves."""
     citable = file.citable(lemma)
     for one in lets(body):
         text = body[one.value : one.value_end]

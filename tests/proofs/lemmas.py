@@ -1,4 +1,4 @@
-"""Reads a proof file: its imports and declarations, and which of its declarations are lemmas."""
+"""Reads the imports and declarations of a proof file, and determines which of the declarations are lemmas."""
 import re
 from typing import NamedTuple
 
@@ -12,13 +12,13 @@ DATA = {"Type", "ℕ", "ℤ", "Bool", "List", "Option", "Result", "Char", "Strin
 
 
 class Declaration(NamedTuple):
-    """Lines `first` to `last` - 1, which declare these names. The clauses of a lemma begin at line `clauses`."""
+    """Lines `first` to `last` - 1, which declare `names`. The clauses of a lemma begin at line `clauses`."""
 
     names: list[str]
     first: int
     clauses: int
     last: int
-    block: int  # the first line of the `module _` that contains it, or -1
+    block: int  # the first line of the `module _` that contains the declaration, or -1
     is_lemma: bool
 
     @property
@@ -32,7 +32,7 @@ class ProofFile:
     def __init__(self, text: str) -> None:
         self.lines = text.split("\n")
         self.uses = [line.removeprefix("pub ") for line in self.lines if re.match("(pub )?use ", line)]
-        self.blocks: dict[int, int] = {}  # from the first line of each `module _` to the line after its head
+        self.blocks: dict[int, int] = {}  # maps the first line of each `module _` to the line after its head
         self.declarations: list[Declaration] = []
         self.read()
 
@@ -60,9 +60,9 @@ class ProofFile:
             at += 1
 
     def end(self, at: int, margin: str, own: str = "") -> int:
-        """Returns the end of the declaration that continues at line `at`, without blank lines after it.
+        """Returns the end of the declaration that continues at line `at`, not counting blank lines after it.
 
-        Its lines are indented more than the margin, close a bracket at the margin, or begin a clause of `own`.
+        Each further line is indented more than the margin, closes a bracket at the margin, or begins a clause of `own`.
         """
         last = at
         while at < len(self.lines):
@@ -96,7 +96,7 @@ class ProofFile:
         return self.text(lemma.clauses, lemma.last)
 
     def imported(self) -> dict[str, str]:
-        """Returns each imported name with the module that it comes from."""
+        """Maps each imported name to the module that it comes from."""
         found = {}
         for line in self.uses:
             module, _, names = line.removeprefix("use ").partition(".{")
@@ -116,7 +116,7 @@ class ProofFile:
     def alone(self, module: str, lemma: Declaration, body: str) -> str:
         """Returns a submodule of this file that proves only this lemma.
 
-        It imports the declarations that it needs from the file, and copies those that are in the same `module _`.
+        The submodule imports the declarations that it needs from this file, and copies those in the same `module _`.
         """
         used, copied = tokens(self.signature(lemma) + "\n" + body), [self.signature(lemma) + "\n" + body]
         if lemma.block >= 0:
@@ -139,7 +139,7 @@ class ProofFile:
         return "\n".join([*self.uses, *imports, "", *copied]) + "\n"
 
     def changed(self, bodies: dict[str, str]) -> str:
-        """Returns the text of the file with new bodies for some lemmas and with the imports that these need."""
+        """Returns the text of the file with new bodies for some lemmas, and with the imports that the new bodies need."""
         lines = list(self.lines)
         for lemma in reversed(self.declarations):
             if lemma.is_lemma and lemma.name in bodies:
@@ -156,7 +156,7 @@ def is_use(line: str) -> bool:
 
 
 def with_imports(lines: list[str], known: set[str]) -> str:
-    """Returns these lines as one text, with imports for the names in SETS that they use and that are not known."""
+    """Joins these lines, and adds imports for the names in SETS that the lines use and that are not in `known`."""
     used = tokens("\n".join(line.partition("--")[0] for line in lines if not is_use(line)))
     for name in SETS.keys() & used - known:
         start = f"use {SETS[name]}.{{"

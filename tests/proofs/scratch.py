@@ -1,4 +1,4 @@
-"""Checks modules in a copy of a crate: one check reads a proof file and hundreds of small modules below it."""
+"""Checks modules in a copy of a crate. A single check reads a proof file and hundreds of small modules below that file."""
 import fcntl
 import os
 import pathlib
@@ -12,12 +12,12 @@ from typing import NamedTuple
 from antt import Bad, crates
 from lib import TOP
 
-# Each module ends with a lemma that must pass and one that must be rejected. If the checker does not reject the last one, it
-# did not read the module.
 NEEDS = (
     "use Rattle.std.proofs.Common.{◌≡◌, zero, suc, refl, arith, rules}\n"
     "use Rattle.std.proofs.lemmas.Grind.{common_steps}\n"
 )
+# Each module ends with a lemma that must pass and one that must be rejected. If the checker does not reject the last one, it
+# did not read the module.
 CONTROLS = """
 shrink_passes : zero ≡ zero
 shrink_passes = refl
@@ -63,12 +63,12 @@ def libraries(crate: str) -> list[str]:
 
 
 def function(file: pathlib.PurePath) -> str:
-    """Returns the function whose proof is in this file, or the module or type of a cycle of calls, which has no name."""
+    """Returns the path of the function whose proof is in this file. A cycle of calls has the path of its module or type."""
     return "::".join(part for part in file.parent.parts if not part.startswith("+"))
 
 
 class Scratch:
-    """A copy of a crate in which proofs are tried. In the original crate, only `out/shrink` is changed."""
+    """A copy of a crate in which proofs are tried. The only directory that changes in the original crate is `out/shrink`."""
 
     def __init__(self, crate: str, file: pathlib.PurePath, rlibs: pathlib.Path | None, prefix: list[str]) -> None:
         self.crate, self.rlibs, self.prefix, self.rounds = crate, rlibs, prefix, 0
@@ -78,10 +78,10 @@ class Scratch:
         self.kept = TOP / "crates" / crate / "out/shrink"
         self.kept.mkdir(parents=True, exist_ok=True)
         self.lock = open(self.kept / "lock", "w", encoding="utf-8")
-        fcntl.flock(self.lock, fcntl.LOCK_EX)  # another run on this crate would affect the times
+        fcntl.flock(self.lock, fcntl.LOCK_EX)  # a simultaneous run on this crate would affect the times
         self.path = self.top / "proofs" / file
         self.module = ".".join(["Rattle", crate, "proofs", *file.with_suffix("").parts])
-        self.users: list[str] = []  # modules to check as well
+        self.users: list[str] = []  # other modules to check
         self.root = "src/main.rt" if (self.top / "src/main.rt").is_file() else "src/lib.rt"
         self.is_answer = file.stem in ("Answers", "Invariants")
         if self.is_answer:
@@ -94,7 +94,7 @@ class Scratch:
             (self.top / "proofs/shrink_law/shrink_law").mkdir(parents=True)
 
     def add_user(self, path: pathlib.Path) -> None:
-        """Makes each check include another proof file of the copy."""
+        """Adds another proof file of the copy to each check."""
         parts = path.relative_to(self.top / "proofs").with_suffix("").parts
         if parts[-1] in ("Answers", "Invariants"):
             self.asked.append(function(path.relative_to(self.top / "proofs")))
@@ -127,7 +127,7 @@ class Scratch:
         return [*words, "--logic-built", f"{kit}/logic_built", "--incremental", str(self.kept), "--jobs", "1"]
 
     def check(self, text: str, modules: list[str]) -> Report:
-        """Checks the file with this text, and these modules below it. Raises Bad if the checker gives no verdict."""
+        """Checks the proof file with this text, and with these modules below it. Raises Bad if there is no verdict."""
         self.rounds += 1
         names = [f"Tried{os.getpid()}x{self.rounds}x{number}" for number in range(len(modules))]
         below = self.path.with_suffix("")
@@ -169,7 +169,7 @@ class Scratch:
         return Report(proved, outcomes, [one for one in errors if "/Tried" not in one[0]], ran.output)
 
     def times(self, names: list[str], began: float) -> dict[str, float]:
-        """Returns the seconds that each module took. As soon as the checker has checked a module, it writes a file for it."""
+        """Returns the seconds that each module took, based on the times when the checker wrote a file for each module."""
         written = []
         for path in self.kept.rglob("*.oantt"):
             changed = path.stat().st_mtime

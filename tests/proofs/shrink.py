@@ -6,15 +6,15 @@
     tests/proofs/shrink.py --unused [FILE.antt..]       list unused lemmas (default: in all proof files)
 
 FILE is in the proofs/ directory of a crate: a file of lemmas, Answers.antt or Invariants.antt. The crate must be proved, and
-the crates below it built (`rt lib`). The tool works in a copy of the crate. With --apply, it replaces each file only after all
-of that file's changes pass, so an interrupted run leaves no file half changed.
+the crates that it depends on must be built (`rt lib`). The tool works in a copy of the crate. With --apply, it replaces each
+file only after all of that file's changes pass, so an interrupted run leaves no file half changed.
 
-For each lemma, the tool makes shorter proofs: one tactic in place of a term, fewer `let`s, shorter lists. Each of them is put
-in its own module, and one check tries up to 300 of them. If several shorter proofs of a lemma pass, the next round tries all of
-their edits together. The tool stops when a round saves fewer than 100 characters. A new proof may take at most twice as long to
-check as the old one, and together the new proofs of a file may add at most one second. The tool prints or applies the changes
-only if a check of the whole file passes with all of them. It skips a shorter proof that would be harder to read, such as a
-tactic that hides the lemmas used or replaces a short term (`is_harder` in edits.py).
+For each lemma, the tool makes shorter proofs: one tactic in place of a term, fewer `let`s, shorter lists. Each of these proofs
+is put in its own module, and one check tries up to 300 of them. If several shorter proofs of a lemma pass, the next round
+tries all of their edits together. The tool stops when a round saves fewer than 100 characters. A new proof may take at most
+twice as long to check as the old one, and together the new proofs of a file may add at most one second. The tool prints or
+applies the changes only if a check of the whole file passes with all of them. It skips a shorter proof that would be harder to
+read, such as a tactic that hides the lemmas used or replaces a short term (`is_harder` in edits.py).
 
 Each check runs at the lowest priority. `--prefix 'flock FILE'` runs each check under that command.
 """
@@ -63,7 +63,7 @@ class Search:
         self.options = {body: 0.0}  # proofs that pass, with the seconds that they add
         self.measured = {body}  # proofs in `options` that were timed more than once
         self.tried: set[object] = {body}
-        self.together: list[str] = []  # bodies with several edits to try
+        self.together: list[str] = []  # bodies that combine several edits, to be tried
         self.is_done, self.rounds, self.note = False, 0, ""
 
     def trials(self, file: ProofFile) -> list[Trial]:
@@ -91,7 +91,7 @@ class Search:
         return made
 
     def learn(self, passed: dict[Trial, float]) -> None:
-        """Chooses the shortest proof that passed. The edits that passed can be tried again, alone and together."""
+        """Chooses the shortest proof that passed. The edits that passed can be tried again, separately and together."""
         base, edits = self.body, [one.edit for one in passed if one.edit]
         self.options |= {one.body: added for one, added in passed.items()}
         self.body = min(self.options, key=len)
@@ -120,7 +120,7 @@ class Shrinker:
         return [line for path in (TOP / "crates").glob("*/proofs/**/*.antt") for line in path.read_text(encoding="utf-8").splitlines()]
 
     def judge(self, trials: list[Trial]) -> list[tuple[bool, float]]:
-        """Checks the trials in one run. For each one, returns whether it passed and how many seconds it took."""
+        """Checks the trials in one run. For each trial, returns whether it passed and how many seconds it took."""
         modules = [""] + [self.file.alone(self.scratch.module, self.searches[one.lemma].lemma, one.body) for one in trials]
         report = self.scratch.check(self.text, modules)
         self.number += len(trials)
@@ -189,8 +189,8 @@ class Shrinker:
             self.searches[name].body = body
 
     def measure(self) -> bool:
-        """Times each chosen proof that has not been measured, three times in turn with the old one. Drops proofs that are too
-        slow. Returns whether there were any proofs to time."""
+        """Times each chosen proof that has not been measured: three times, alternating with the old proof. Drops proofs that
+        fail or are too slow. Returns whether there were any proofs to time."""
         names = [name for name, one in self.searches.items() if one.body not in one.measured]
         pairs = [Trial(name, body, ()) for name in names for body in (self.searches[name].old, self.searches[name].body) * 3]
         for start in range(0, len(pairs), MOST_TRIALS):
@@ -322,7 +322,10 @@ def unused_names() -> dict[pathlib.Path, set[str]]:
 
 
 def check_unused(path: pathlib.Path, names: set[str], asked: argparse.Namespace) -> str:
-    """Checks a file and its users in the crate without some of its lemmas. Returns the errors, or an empty string."""
+    """Checks a file without some of its lemmas, and the modules in the crate that use it.
+
+    Returns the errors, or an empty string.
+    """
     crate, _, *rest = path.relative_to(TOP / "crates").parts
     scratch = Scratch(crate, pathlib.PurePath(*rest), asked.rlibs, shlex.split(asked.prefix))
     try:

@@ -1,10 +1,10 @@
 #!/usr/bin/env python3
-"""Runs every case in cases.tsv on a program that has the command line of `bufr`, and reports the cases with wrong results.
+"""Runs every case in cases.tsv with a program whose command line is that of `bufr`, and reports cases with wrong results.
 
     tests/vectors/run.py [--only TEXT] PROGRAM [WORD..]        for example: ./run.py python3 my_bufr.py
 
---only limits the run to cases with TEXT in their name, rules or arguments. Each case must finish within 20 seconds. README.md
-in this directory describes the files. The exit status is 1 if a result is wrong, and 2 if no case can be run.
+--only selects the cases whose line in cases.tsv contains TEXT. Each case must finish within 20 seconds. README.md in this
+directory describes the files. The exit status is 1 if a result is wrong, and 2 if no case can be run.
 """
 import argparse
 import csv
@@ -22,7 +22,7 @@ def content(name: str) -> bytes:
 
 
 def unlike(program: list, case: dict) -> list:
-    """Runs a case and returns how the results differ from the expected ones."""
+    """Runs a case, and returns a description of each difference between the results and the expected ones."""
     words = [*program, *case["words"].split()]
     pipe = subprocess.PIPE
     try:
