@@ -638,6 +638,7 @@ class Work:
         self.conditions: Optional[Conditions] = None
         self.has_places = False
         self.more_notes: Callable[[], bytes] = bytes
+        self.at_end: Callable[[], int] = int
         self.next_notes = time.monotonic() + bufr_guard.INTERVAL
         self.status, self.is_over, self.done = 0, False, 0
         self.last: List[bytes] = []
@@ -650,6 +651,8 @@ class Work:
             for file in self.files:
                 if not self.is_over:
                     self.serve(file)
+            self.say_notes("")
+            self.status = max(self.status, self.at_end())
         finally:
             self.report_last()
         return self.status
@@ -879,16 +882,19 @@ def dump(
     conditions: Optional[Conditions] = None,
     has_places: bool = False,
     more_notes: Callable[[], bytes] = bytes,
+    at_end: Callable[[], int] = int,
 ) -> int:
     """Dumps files, writes the dumps to the descriptor `output`, and returns the exit status.
 
     A name of None stands for standard input. Fault lines, notes and progress go to standard error, as in bufr-auto. A
     message is skipped if its declared length exceeds `longest` bytes or if it does not meet the conditions. With
     `has_places`, a comment before each document gives the place of its message: `# offset=595 length=422 file=NAME`.
-    Whenever notes on a feed are printed, `more_notes` is called, and the lines that it returns are printed as well.
+    Whenever notes on a feed are printed, `more_notes` is called, and the lines that it returns are printed as well. After the
+    last file, `at_end` is called, which can print more notes and returns an exit status. The lines that explain why a file
+    could not be read, or why `bufr` stopped, come last.
     """
     work = Work(Dump, files, output)
-    work.more_notes = more_notes
+    work.more_notes, work.at_end = more_notes, at_end
     work.longest, work.conditions, work.has_places = longest, conditions, has_places
     return work.do()
 

@@ -494,6 +494,11 @@ def failures(folder: pathlib.Path) -> None:
         path.chmod(0o755)
         return str(path)
 
+    # The reason comes after awk's notes.
+    done = run("-c", "001015,040001", SYNOP, "nosuch")
+    told = b"bufr-csv: column 040001 is empty because no row contains this item\n"
+    told += b"bufr-csv: cannot open nosuch: No such file or directory\n"
+    holds("a file that does not exist", (done.returncode, done.stderr) == (2, told), done)
     tables = folder / "invalid" / "wmo-39"
     shutil.copytree(TOP / "tables/wmo-39", tables)
     with (tables / "D.csv").open("a") as table:
