@@ -503,9 +503,14 @@ def failures(folder: pathlib.Path) -> None:
     shutil.copytree(TOP / "tables/wmo-39", tables)
     with (tables / "D.csv").open("a") as table:
         table.write("no row\n")
-    done = run("-c", "001015", SYNOP, environment={"BUFR_TABLES": str(tables.parent)})
-    told = f"table D: 45 csv\nbufr-csv: cannot use {tables}/D.csv: 45 csv\n".encode()
-    holds("an invalid table", (done.returncode, done.stdout, done.stderr) == (2, b"message,subset,001015\n", told), done)
+    (tables.parent / "wmo-13").symlink_to(TOP / "tables/wmo-13")
+    # The second stream has two parts, the second of which needs two table sets.
+    octets = SYNOP.read_bytes()
+    (folder / "parts").write_bytes(octets * 8000 + lib.asking(octets, 13) + octets)
+    for path in (SYNOP, folder / "parts"):
+        done = run("-c", "001015", path, environment={"BUFR_TABLES": str(tables.parent)})
+        told = f"table D: 45 csv\nbufr-csv: cannot use {tables}/D.csv: 45 csv\n".encode()
+        holds("an invalid table", (done.returncode, done.stdout, done.stderr) == (2, b"message,subset,001015\n", told), done)
 
     killed = script("killed", "head -c 5000 > /dev/null; kill -9 $$")
     for words in ([], ["-c", "001015,file"], ["--json"]):

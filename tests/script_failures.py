@@ -536,6 +536,8 @@ def guard() -> None:
     small = few.replace("NOFILE, (3, 3)", "FSIZE, (0, 0)")
     shows = "import os; bufr_guard.Progress.is_shown = True; "
     full = "import tempfile\ndef full(): raise OSError(28, 'No space left on device')\ntempfile.TemporaryFile = full; "
+    full_output = "pass\ndef full(*_): raise OSError(122, 'Disk quota exceeded')\nbufr_guard.Output.flush = full; "
+    no_process = "import os\ndef none(*_, **__): raise OSError(11, 'Resource temporarily unavailable')\nos.posix_spawnp = none; "
     work = "bufr_guard.run(lambda _: {}, '')"
     for code, status, told in (
         (few + work.format("bufr_guard.temporary()"), 2, "too many open files; raise the limit (ulimit -n)"),
@@ -545,6 +547,14 @@ def guard() -> None:
         (small + work.format("bufr_guard.write_all(bufr_guard.temporary(), b'x')"), 2, "write failed: File too large"),
         (work.format("bufr_guard.checked(129)"), 2, "bufr was killed (signal 1); output is incomplete"),
         (work.format("bufr_guard.checked(128)"), 2, "bufr exited with status 128; output is incomplete"),
+        (
+            work.format("bufr_guard.checked(2, False)"),
+            2,
+            "bufr exited with status 2; output is incomplete; if /nosuch is full, set TMPDIR to another directory",
+        ),
+        (full_output + work.format("bufr_guard.output().write(b'x') or 0"), 2, "write failed: Disk quota exceeded"),
+        (no_process + work.format("bufr_guard.start(['true'])"), 2, "cannot run true: Resource temporarily unavailable; raise the process limit (ulimit -u)"),
+        ("sys.argv = ['-c', '--help']; bufr_guard.run(lambda _: bufr_guard.answer('--help', ''), None)", 2, "the help is not available, because PYTHONOPTIMIZE=2 removes it"),
         (shows + work.format("0"), 0, "\r\x1b[K"),
         (shows + work.format("bufr_guard.say(b'x') or bufr_guard.flush() or os.write(2, b'-') * 0"), 0, "\r\x1b[Kx-"),
         (shows + work.format("1 // 0"), 2, "\r\x1b[K-c: internal error: ZeroDivisionError: integer division or modulo by zero (<string>, line 1)\n"),
@@ -560,6 +570,12 @@ def guard() -> None:
         done = subprocess.run(words, cwd=TOP / "scripts", capture_output=True, env=environment)
         wanted = (status, b"", (told if told[:1] in ("", "\r") else f"-c: {told}\n").encode())
         holds(f"{code}", (done.returncode, done.stdout, done.stderr) == wanted, done)
+    # A signal removes unfinished files.
+    with tempfile.TemporaryDirectory() as place:
+        code = "import bufr_guard, os, sys; bufr_guard.UNFINISHED += sys.argv[1:]; open(sys.argv[2], 'w'); "
+        words = [sys.executable, "-c", code + work.format("os.kill(os.getpid(), 15)"), f"{place}/none", f"{place}/begun"]
+        done = subprocess.run(words, cwd=TOP / "scripts", capture_output=True)
+        holds("an unfinished file", done.returncode == -signal.SIGTERM and not os.listdir(place), (done, os.listdir(place)))
     # The first import of a script fails, as it does if there is too little memory.
     with tempfile.TemporaryDirectory() as place:
         (pathlib.Path(place) / "bufr_guard.py").write_text("raise MemoryError\n")
