@@ -52,13 +52,13 @@ work=$(mktemp -d "$dist/.unfinished.XXXXXX")
 clone=$(mktemp -d -t bufr-release.XXXXXX)
 git clone -q --no-checkout . "$clone"
 cd "$clone"
-# The user's Git settings could change line endings and file modes.
+# Ignore the user's Git settings, which could change line endings and file modes.
 export GIT_CONFIG_GLOBAL=/dev/null GIT_CONFIG_SYSTEM=/dev/null
 git checkout -q --detach "$commit"
 
 # prove WORD..: runs a toolchain command, and prints and logs its output. A signal that ends this script also ends the
 # command: `wait` returns immediately, whereas the shell would first wait for a command in the foreground. `set -m` gives
-# the command its own process group, so that the processes that it started end with it.
+# the command its own process group, so that any processes that the command started end with it.
 prove() {
     : > "$work/log"
     set -m

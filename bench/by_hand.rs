@@ -38,7 +38,7 @@ const LINE: usize = 1 << 13;
 /// A piece of text that is always copied as a whole, even if only part of it is used.
 pub type Block = [u8; 32];
 
-/// Splits a text into blocks. The last one is padded with zeros.
+/// Splits text into blocks. The last block is padded with zeros.
 pub fn blocks(text: &[u8]) -> Vec<Block> {
     let filled = |piece: &[u8]| {
         let mut block = [0; 32];
@@ -118,7 +118,8 @@ impl Pen<'_> {
         }
     }
 
-    /// Writes a number below 100,000,000 with at least `least` digits, and a point before the last `after`.
+    /// Writes a number below 100,000,000 with at least `least` digits. If `after` is not 0, writes a decimal
+    /// point before the last `after` digits.
     #[inline(always)]
     fn put_decimal(&mut self, n: u32, after: u32, least: u32) {
         let digits = eight_digits(n);
@@ -131,7 +132,7 @@ impl Pen<'_> {
         }
     }
 
-    /// Writes n / 10^scale as a decimal.
+    /// Writes n / 10^scale as a decimal number.
     #[inline(always)]
     pub fn put_scaled(&mut self, n: i64, scale: i32) {
         self.put_first(b"-", usize::from(n < 0));
@@ -147,7 +148,7 @@ impl Pen<'_> {
     }
 }
 
-/// Writes n / 10^scale as a decimal, for any n and any scale in the tables. Returns the new write position.
+/// Writes n / 10^scale as a decimal number, for any n and any scale in the tables. Returns the new write position.
 #[cold]
 fn put_long(room: &mut Room, at: usize, n: u64, scale: i32) -> usize {
     let mut pen = Pen { room, at };
@@ -176,7 +177,7 @@ pub struct Out {
 }
 
 impl Out {
-    /// Returns a writer to an open file descriptor: 1 is standard output, 2 is standard error.
+    /// Returns a writer for an open file descriptor: 1 is standard output, 2 is standard error.
     pub fn to(descriptor: i32) -> Out {
         let room = vec![0; HELD + LINE].into_boxed_slice().try_into().expect("of this size");
         let file = ManuallyDrop::new(unsafe { File::from_raw_fd(descriptor) });
@@ -199,7 +200,7 @@ impl Out {
         }
     }
 
-    /// Builds a line without writing it.
+    /// Builds a line and returns it without writing it.
     pub fn made(&mut self, put: impl FnOnce(&mut Pen)) -> &[u8] {
         let mut pen = Pen { room: &mut self.room, at: self.at };
         put(&mut pen);
@@ -223,7 +224,7 @@ impl Drop for Out {
     }
 }
 
-// ---------------------------------------------------------------- the messages of a stream
+// ---------------------------------------------------------------- the messages in a stream
 
 /// Returns whether `BU` begins at one of the first 64 octets.
 fn may_begin(octets: &[u8; 65]) -> bool {
@@ -358,7 +359,7 @@ impl Messages {
     }
 }
 
-/// Returns the length of a section 1 that contains no octets for local use.
+/// Returns the minimum length of section 1: its length without octets for local use.
 pub fn least_first(edition: u8) -> usize {
     if edition == 3 { 17 } else { 22 }
 }
@@ -400,17 +401,17 @@ impl Message {
         self.octets[self.three + 6] & 64 != 0
     }
 
-    /// Returns the octets of the descriptors.
+    /// Returns the octets that contain the descriptors.
     pub fn descriptors(&self) -> &'static [u8] {
         let listed = &self.section(self.three)[7..];
         &listed[..listed.len() / 2 * 2]
     }
 }
 
-// ---------------------------------------------------------------- the header of a text
+// ---------------------------------------------------------------- the header of a dump
 
-/// The text before each number in a header. Each text begins with a line feed and is padded to 24 octets.
-/// The second member of each pair is the length of the text without the padding.
+/// The text that comes before each number in a header, and its length. The text begins with a line feed, and is
+/// padded to 24 octets. The length does not include the padding.
 pub const KEYS: [([u8; 24], usize); 19] = padded_keys();
 
 const fn padded_keys() -> [([u8; 24], usize); 19] {
@@ -434,7 +435,7 @@ const fn padded_keys() -> [([u8; 24], usize); 19] {
 
 // ---------------------------------------------------------------- the tables
 
-/// The properties of an element that are needed to read and write the lines of items.
+/// The properties of an element that are needed to read and write item lines.
 pub struct Element {
     /// The descriptor's six digits and a space, with the first digit in the lowest octet.
     pub fxy: u64,
@@ -502,11 +503,12 @@ fn element(row: &[u8]) -> Element {
     }
 }
 
-/// An item of a template. If the item is a replication factor, `group` is repeated. If `new` is not 0, the
-/// item is a redefined reference value of `new` bits, which replaces `old` until the end of the subset.
+/// An item of a template. If the item is a replication factor, `group` contains the items that it repeats.
+/// Otherwise, `group` is empty. If `new` is not 0, the item is a redefined reference value of `new` bits, which
+/// replaces `old` until the end of the subset.
 pub struct Step<'t> {
     pub element: &'t Element,
-    /// Whether the item is not a replication factor, a redefined reference value or a string.
+    /// False if the item is a replication factor, a redefined reference value or a string.
     pub is_number: bool,
     pub group: Vec<Step<'t>>,
     pub new: u32,
@@ -526,7 +528,7 @@ impl<'t> Step<'t> {
     }
 }
 
-/// Ends a subset: restores the reference values in Table B.
+/// Ends a subset by restoring the reference values from Table B.
 pub fn end_subset(steps: &[Step]) {
     steps.iter().filter(|step| step.new > 0).for_each(|step| step.element.reference.set(step.old));
 }
@@ -567,7 +569,7 @@ impl Tables {
         self.elements[place].get_or_init(|| Box::new(element(self.rows[place])))
     }
 
-    /// Adds the steps of a descriptor list.
+    /// Appends the steps of a descriptor list to `steps`.
     fn add_steps<'t>(&'t self, list: &[u16], steps: &mut Vec<Step<'t>>) {
         let (mut at, mut new) = (0, 0);
         while at < list.len() {

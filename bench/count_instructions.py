@@ -7,13 +7,14 @@
 PROGRAM is crates/bufr/out/bufr by default. The script counts with Valgrind; if it is not installed, the script prints a note
 and counts nothing. Valgrind simulates caches of fixed sizes, so the counts hardly depend on the machine.
 
-Each count is an average per item. An item is a line of an element or, for `ls`, a message; in the "stray words" rows, it is a
-stray. The counts of the same command without input are subtracted first; the "no input" rows contain these counts.
+Each count is an average per item. For `dump` and `encode`, an item is an element's line in the dump; for `ls`, it is a
+message; in the "stray words" rows, it is a stray. The counts for the same command without input are subtracted first; the
+"no input" rows contain these counts.
 
-The script fails if a count is more than 1.1 times the one in the file. The file contains the cache misses of reads, but not
-those of writes, because writes rarely slow a program down. Before the script compares cache misses, it adds 1 to both counts,
-because small counts vary. It also prints write misses, instruction cache misses and mispredicted branches, but does not
-compare them; the last two depend on where the compiler places the code.
+The script fails if a count is more than 1.1 times the one in instructions.csv. This file contains cache misses caused by
+reads, but not those caused by writes, because writes rarely slow a program down. Before the script compares cache misses, it
+adds 1 to both counts, because small counts vary. It also prints write misses, instruction cache misses and mispredicted
+branches, but does not compare them; the last two depend on where the compiler places the code.
 """
 import concurrent.futures
 import csv
@@ -29,7 +30,7 @@ import generate
 from lib import TABLES, finish, program
 
 FILE = pathlib.Path(__file__).parent / "instructions.csv"
-# The counts, and the Callgrind events that are added up for each of them.
+# Each count, and the Callgrind events that are added up for it.
 COUNTED = {
     "instructions": ["Ir"],
     "L1 misses": ["D1mr"],
@@ -38,7 +39,7 @@ COUNTED = {
     "I1 misses": ["I1mr"],
     "branch misses": ["Bcm", "Bim"],
 }
-# The counts in the file, and the number that is added to both counts before they are compared.
+# The counts in instructions.csv, and the number that is added to the old and the new count before they are compared.
 RECORDED = {"instructions": 0, "L1 misses": 1, "L2 misses": 1}
 MOST = 1.1
 # First-level caches of 32 KiB each for instructions and data, and a second-level cache of 1 MiB.
@@ -60,7 +61,7 @@ def run(words: list, given: bytes) -> bytes:
 
 
 def counted(words: list, given: bytes) -> list:
-    """Returns the counts of a run. Exits if the run fails or Valgrind counts nothing."""
+    """Runs a command under Callgrind, and returns its counts. Exits if the run fails or Valgrind counts nothing."""
     with tempfile.NamedTemporaryFile("r") as log, tempfile.TemporaryFile() as stream:
         stream.write(given)
         stream.seek(0)
@@ -75,7 +76,7 @@ def counted(words: list, given: bytes) -> list:
 
 
 def counts() -> dict:
-    """Returns the counts per item for each command and stream, and the counts of each command without input."""
+    """Returns the counts per item for each command and stream, and the counts for each command without input."""
     ls, dump, encode = ([program(), "ls"], [program(), "dump", *TABLES], [program(), "encode", *TABLES])
     texts = {name: run(dump, stream) for name, stream in STREAMS.items()}
     items = {name: len(re.findall(rb"^(?:R )?[0-9]{6} ", text, re.M)) for name, text in texts.items()}
@@ -95,7 +96,7 @@ def counts() -> dict:
 
 
 def recorded() -> dict:
-    """Returns the counts in the file for each command and stream."""
+    """Returns the counts in instructions.csv for each command and stream."""
     with FILE.open(encoding="utf-8", newline="") as file:
         rows = csv.DictReader(file)
         if rows.fieldnames != ["command", "stream", *RECORDED]:

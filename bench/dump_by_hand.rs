@@ -87,7 +87,7 @@ fn put_item(pen: &mut Pen, element: &Element, put_value: impl FnOnce(&mut Pen)) 
     pen.put_blocks(&element.blocks, element.comment.len());
 }
 
-/// A descriptor list, its lines in a dump, and its steps.
+/// A descriptor list, its lines in a dump, and the steps that decode its data.
 struct Plan<'t> {
     descriptors: &'static [u8],
     lines: Vec<u8>,
@@ -135,7 +135,7 @@ fn put_subset(out: &mut Out, subset: usize) {
     });
 }
 
-/// Writes a redefined reference value, and uses it from then on.
+/// Writes a redefined reference value, and applies it to the items that follow.
 fn put_reference(out: &mut Out, step: &Step, raw: u64) {
     let reference = step.reference(raw);
     step.element.reference.set(reference);
@@ -147,7 +147,7 @@ fn put_reference(out: &mut Out, step: &Step, raw: u64) {
     });
 }
 
-/// Writes the items that begin at bit `at`. Returns the position of the bit after them.
+/// Writes the items whose data begin at bit `at`. Returns the position of the first bit after them.
 fn put_plain(out: &mut Out, data: &[u8], mut at: usize, steps: &[Step]) -> usize {
     for step in steps {
         let element = step.element;
@@ -170,7 +170,7 @@ fn put_plain(out: &mut Out, data: &[u8], mut at: usize, steps: &[Step]) -> usize
     at
 }
 
-/// Writes a group the given number of times. Returns the position of the bit after the last one.
+/// Writes a group the given number of times. Returns the position of the first bit after the last repetition.
 #[inline(never)]
 fn put_group(out: &mut Out, data: &[u8], at: usize, group: &[Step], times: u64) -> usize {
     (0..times).fold(at, |at, _| put_plain(out, data, at, group))
@@ -187,7 +187,7 @@ struct Column<'t> {
     missing: u64,
 }
 
-/// Reads the item that begins at bit `at`. Returns the item and the position of the bit after it.
+/// Reads the item that begins at bit `at`. Returns the item and the position of the first bit after it.
 fn column<'t>(out: &mut Out, data: &[u8], at: usize, element: &'t Element, subsets: usize) -> (Column<'t>, usize) {
     let first = at + element.width as usize + 6;
     let mut step = field(data, first - 6, 6) as u32 * if element.is_text { 8 } else { 1 };
@@ -208,7 +208,7 @@ fn column<'t>(out: &mut Out, data: &[u8], at: usize, element: &'t Element, subse
     (Column { element, shared: blocks(line), many: line.len(), base, at: first, step, missing }, next)
 }
 
-/// Writes the string of one subset, padded with spaces.
+/// Writes one subset's string, which is padded with spaces unless it is missing.
 fn put_short_text(pen: &mut Pen, data: &[u8], at: usize, many: usize, whole: usize) {
     let mut octets = [b' '; 256];
     for (i, octet) in octets[..many].iter_mut().enumerate() {
@@ -218,7 +218,7 @@ fn put_short_text(pen: &mut Pen, data: &[u8], at: usize, many: usize, whole: usi
     put_octets(pen, if is_missing { &octets[..many] } else { &octets[..whole] });
 }
 
-/// Writes the value of one subset for an item with increments.
+/// Writes the line of one subset for an item that has increments.
 #[inline(always)]
 fn put_increased(out: &mut Out, data: &[u8], column: &Column, subset: usize) {
     let (element, at) = (column.element, column.at + subset * column.step as usize);

@@ -1,4 +1,4 @@
-//! A hand-written encoder in plain Rust, as a baseline for `bufr encode`. It maps a text into memory and
+//! A hand-written encoder in plain Rust, as a baseline for `bufr encode`. It maps a dump into memory and
 //! reads it once. For the output of `bufr dump`, plain or compressed, in edition 3 or 4, it writes the same
 //! octets as `bufr encode`. It reuses a template as long as the descriptors stay the same. Templates can
 //! contain elements, replications, sequences and operator 2 03; in compressed data, neither 2 03 nor delayed
@@ -10,7 +10,7 @@ use by_hand::{digits, end_subset, least_first, mapped, word, Element, Out, Step,
 /// The raw number that stands for a missing value.
 const MISSING: u64 = u64::MAX;
 
-/// A text, and the position up to which it has been read.
+/// A text and the current read position.
 struct Text {
     octets: &'static [u8],
     at: usize,
@@ -137,7 +137,7 @@ impl Text {
     }
 }
 
-/// Converts a number from `after` digits after the point to `scale` digits.
+/// Rescales a number from `after` decimal places to `scale` decimal places.
 #[cold]
 fn scaled(mut n: i64, after: i32, scale: i32) -> i64 {
     for _ in after..scale {
@@ -252,7 +252,7 @@ fn put_reference(bits: &mut Bits, text: &mut Text, step: &Step) {
     bits.put(raw, step.new);
 }
 
-/// Writes items of an uncompressed subset.
+/// Writes the items of an uncompressed subset.
 fn put_plain(bits: &mut Bits, text: &mut Text, steps: &[Step], quoted: &mut Vec<u8>) {
     for step in steps {
         if step.is_number {
@@ -329,7 +329,7 @@ fn three(n: usize) -> [u8; 3] {
     [a, b, c]
 }
 
-/// Returns the length of a section, which is rounded up to an even number in edition 3.
+/// Returns the length of a section: `many` octets, rounded up to an even number in edition 3.
 fn even(edition: u8, many: usize) -> usize {
     if edition == 3 { many + many % 2 } else { many }
 }
@@ -379,14 +379,14 @@ fn hex(digits: &[u8]) -> impl Iterator<Item = u8> + '_ {
     digits.chunks(2).map(|two| u8::from_str_radix(std::str::from_utf8(two).expect("digits"), 16).expect("digits"))
 }
 
-/// The lines of a descriptor list, its descriptors, and its steps.
+/// A descriptor list: its lines, its descriptors, and the steps that it expands to.
 struct Plan<'t> {
     lines: &'static [u8],
     list: Vec<u16>,
     steps: Vec<Step<'t>>,
 }
 
-/// Reads descriptor lines. If they are the same as in the plan, the plan does not change.
+/// Reads descriptor lines. The plan changes only if the lines are different from those in the plan.
 fn read_plan<'t>(text: &mut Text, tables: &'t Tables, plan: &mut Plan<'t>) {
     if text.rest().starts_with(plan.lines) && !text.octets[text.at + plan.lines.len()..].starts_with(b"descriptors ") {
         text.at += plan.lines.len();

@@ -17,7 +17,7 @@ STATION = b"%d STATION"
 
 
 class Kind(NamedTuple):
-    """Describes the messages of a stream."""
+    """Describes the messages in a stream."""
 
     lists: list  # the descriptor lists, which the messages use in turn
     subsets: int = 1  # per message
@@ -79,14 +79,14 @@ def items_of(descriptors: str) -> list:
 
 
 def has_operator(descriptor: str) -> bool:
-    """Returns whether a descriptor is an operator or has one among its members."""
+    """Returns whether a descriptor is an operator, or a sequence that contains one."""
     return descriptor[0] == "2" or any(has_operator(member) for member in MEMBERS.get(descriptor, []))
 
 
 # Five elements that are in every version of WMO's Table B.
 FIVE = "012101 010004 011001 011002 020003"
 TEXTS = "106005 001015 001019 001011 001063 001096 025061"
-# Elements whose reference values are redefined, and sequences that serve as descriptor lists.
+# Elements whose reference values the messages redefine, and sequences that serve as descriptor lists.
 FORTY = " ".join([element for element in ELEMENTS if element.startswith("012")][:40])
 SEQUENCES = [it for it in MEMBERS if not has_operator(it) and 20 <= len(items_of(it)) <= 200]
 
@@ -141,7 +141,7 @@ def column(kind: Kind, item: Item, place: int, subsets: range) -> list:
 
 
 def stream(kind: Kind) -> bytes:
-    """Returns a stream of messages of this kind. They declare the version of the tables that tests/lib.py names."""
+    """Returns a stream of messages of this kind. The messages declare the table version that tests/lib.py names."""
     made = []
     for number in range(kind.messages):
         descriptors, first = kind.lists[number % len(kind.lists)], number * kind.subsets
@@ -239,7 +239,7 @@ def streams():
     return {
         # many messages of 48 octets each
         "small": lambda: repeated(message(b"\x14"), 500_000),
-        # the same in edition 3, with 46 octets each
+        # the same messages in edition 3, in which each has 46 octets
         "small_3": lambda: repeated(message(b"\x14", edition=3), 500_000),
         # messages of 10 KB each
         "middle": lambda: repeated(ten_thousand, 25_600),

@@ -167,7 +167,7 @@ def measured(words: list) -> tuple:
 
 
 def row(program: str, words: tuple, shape) -> str:
-    """Returns a row of the table: a shape, and the time and memory that it takes at each size."""
+    """Returns a row of the table: the description of a shape, and the time and memory that `bufr` needs at each size."""
     octets, seconds, resident = [], [], []
     for times in (1, 2, 4):
         path = FOLDER / f"{shape.__name__}_{times}.bufr"

@@ -66,7 +66,7 @@ def read(folder: str, name: str, *wanted: str) -> None:
 
 
 def run(words: list) -> tuple:
-    """Returns the CPU seconds and the memory of a command. If the command runs this file, it prints the seconds itself."""
+    """Returns the CPU time and the peak memory of a command. If the command runs this file, it prints the time itself."""
     output = subprocess.PIPE if __file__ in words else subprocess.DEVNULL
     with tempfile.NamedTemporaryFile("r") as told:
         timed = ["/usr/bin/time", "-o", told.name, "-f", "%U %S %M", *map(str, words)]

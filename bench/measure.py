@@ -61,8 +61,8 @@ STREAMS = {
 }
 LISTED = [name for name in STREAMS if not name.startswith("dump_")]
 DUMPED = [name for name in STREAMS if name.startswith("dump_")]
-# The streams of which ecCodes reads only a tenth, and the one that ecCodes does not read at all, because even a tenth of it
-# takes minutes.
+# ecCodes reads only the first tenth of each stream in SHORTENED. It does not read the stream in LEFT_OUT at all, because even
+# a tenth of that stream would take minutes.
 SHORTENED = ("small", "small_3", "dump_reports", "dump_reports_3", "dump_plain")
 LEFT_OUT = ("hostile",)
 
@@ -81,7 +81,10 @@ def least(*commands: list) -> list:
 
 
 def resident(words: list, file: pathlib.Path) -> int:
-    """Returns a run's peak resident memory in KiB, which GNU time writes to the file. GNU time itself needs little memory."""
+    """Returns a run's peak resident memory in KiB, as measured by GNU time, which writes the result to the file.
+
+    The peak can include memory of the process that starts the run, and GNU time needs less memory than Python.
+    """
     with open(os.devnull, "wb") as nowhere:
         subprocess.run(["/usr/bin/env", "time", "-q", "-f", "%M", "-o", str(file), *words], stdout=nowhere, stderr=nowhere)
     return int(file.read_text())
@@ -96,7 +99,7 @@ def written(words: list, by_hand: list) -> int:
 
 
 class Measuring:
-    """The commands to measure (those of our program and the hand-written ones), the directory of the streams, and results."""
+    """The commands to measure (our program and the hand-written ones), the directory with the streams, and the results."""
 
     def __init__(self, program: str, folder: pathlib.Path) -> None:
         self.folder, self.cells = folder, {}
@@ -112,7 +115,7 @@ class Measuring:
         return str(program)
 
     def row(self, command: str, stream: str, path: pathlib.Path, others=()) -> None:
-        """Prints one row in the table of a command."""
+        """Prints one row of the table for a command."""
         ours, by_hand = [*self.ours[command], str(path)], [*self.by_hand[command], str(path)]
         text = written(ours, by_hand)
         times = least(ours, by_hand, *([*other, str(path)] for other in others))
@@ -164,7 +167,7 @@ class Measuring:
                 print("| " + " | ".join([STREAMS[stream], *cells]) + " |")
 
     def eccodes(self) -> None:
-        """Prints the time and memory that the tools of ecCodes take."""
+        """Prints the time and memory that the ecCodes tools need."""
         print("\n| stream | tool | seconds | MB written | KiB |\n|---|---|---|---|---|")
         for stream in STREAMS:
             if stream in LEFT_OUT:
@@ -173,7 +176,7 @@ class Measuring:
                 print(f"| {STREAMS[stream]} | `{' '.join(words)}` | {self.eccodes_cells(words, stream)} |", flush=True)
 
     def eccodes_cells(self, words: list, stream: str) -> str:
-        """Returns a tool's CPU seconds, MB written and peak KiB. If it reads only a tenth, the first two are scaled up."""
+        """Returns a tool's CPU seconds, MB written and peak KiB. For streams in SHORTENED, the first two are scaled up."""
         path, times = self.folder / f"{stream}.bufr", 10 if stream in SHORTENED else 1
         part = self.folder / "tenth.part"
         part.write_bytes(path.read_bytes()[: path.stat().st_size // times])

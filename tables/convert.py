@@ -47,7 +47,7 @@ OURS_B = "fxy name unit scale reference width".split()
 OURS_D = "fxy member".split()
 # The positions in wreport's B*.txt at which the six columns of OURS_B begin, and the position at which the last one ends.
 WREPORT_B = [1, 8, 73, 97, 101, 114, 118]
-# Prefixes of units that are abbreviated in wreport's files.
+# Abbreviations at the beginning of units in wreport's files, and their meanings.
 WREPORT_UNITS = {
     "CCITTIA5": "CCITT IA5",
     "COMMONCODETABLE": "COMMON CODE TABLE ",
@@ -155,7 +155,7 @@ def of_wreport_d(path: pathlib.Path):
 
 
 def of_wreport(path: pathlib.Path):
-    """Returns the rows of wreport's B*.txt, and the sequences of the D*.txt next to it. Either file may be missing."""
+    """Returns the rows of wreport's B*.txt, and the sequences in the matching D*.txt. Either file may be missing."""
     table_b, table_d = (path.with_name(letter + path.name[1:]) for letter in "BD")
     return of_wreport_b(table_b) if table_b.exists() else [], of_wreport_d(table_d) if table_d.exists() else []
 

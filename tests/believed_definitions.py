@@ -16,7 +16,7 @@ import tempfile
 
 from lib import TOP, finish
 
-# The functions and laws for each promise in docs/proof.md.
+# For each promise in docs/proof.md, the functions and laws that express it.
 CALLS = {
     "2": "run read_message",
     "3": "run",
@@ -85,7 +85,7 @@ def of_copies() -> "list[str]":
 
 
 def of_every_function() -> "list[str]":
-    """Returns a complaint for each name in a function's contract that docs/believed.py cannot find."""
+    """Returns an error message for each name in a function's contract that docs/believed.py cannot find."""
     module = runpy.run_path(str(TOP / "docs/believed.py"))
     house = module["House"]()
     for call, _ in module["functions"]():
@@ -94,7 +94,7 @@ def of_every_function() -> "list[str]":
 
 
 def of_first_lines() -> "list[str]":
-    """Returns a complaint for each file in specs/ whose first line is wrong about whether `run` needs the file."""
+    """Returns an error message for each file in specs/ whose first line is wrong about whether `run` needs the file."""
     module = runpy.run_path(str(TOP / "docs/believed.py"))
     needed = {item.path for item in module["reached"]([module["contract"]("run")], module["House"]())}
     wrongs = []

@@ -111,7 +111,7 @@ class Trial:
             self.holds(f"{what}: {part}", one == other, (one, other))
 
     def same_as_one_by_one(self) -> None:
-        """In random streams, long streams and around strays, `bufr-auto` dumps each message as `bufr` would dump it alone."""
+        """In random streams, long streams and streams with strays, `bufr-auto` dumps each message as `bufr` dumps it alone."""
         random.seed(44)
         for number in range(12):
             versions = random.sample(range(4, 42), random.randint(1, 6))
@@ -295,7 +295,7 @@ class Trial:
         return b"".join(messages), b"", 0
 
     def feeds(self) -> None:
-        """`bufr-auto` writes the output for every complete message, document and stray before its next read."""
+        """`bufr-auto` writes the output for every complete message, document and stray before it waits for more input."""
         one, other = made(13, LISTS[1], b"\1\1\0"), made(39, LISTS[0], b"\1\1")
         texts = [self.one_by_one(message)[0] for message in (one, other)]
         fault = b"offset %d: %s\n"
@@ -329,7 +329,7 @@ class Trial:
         self.feed("lengths", ["--max-length", "1024"], steps, last, 1)
 
     def notes_of_feeds(self) -> None:
-        """`bufr-auto` prints each note on a feed only once: when the feed pauses for a second, or after a minute."""
+        """`bufr-auto` prints each note about a feed only once: when the feed pauses for a second, or after a minute."""
         note = b"bufr-auto: 1 message so far, at offset %d: table version %d is later than that of the table set wmo-39" + NEWER.encode() + b"\n"
         later, latest = made(41, LISTS[0], b"\1\1"), made(42, LISTS[0], b"\1\1")
         texts = [self.one_by_one(message)[0] for message in (later, latest)]
@@ -342,7 +342,7 @@ class Trial:
         self.feed("notes", [], steps, (b"", b""), 0)
         seconds = time.monotonic() - begin
         self.holds("two notes come after two seconds", seconds >= 2, seconds)
-        # A note on an incomplete set is also printed only once.
+        # A note about an incomplete set is also printed only once.
         sets = self.place / "incomplete"
         (sets / "wmo-40").mkdir(parents=True)
         (sets / "wmo-39").symlink_to(TABLES / "wmo-39")
@@ -373,7 +373,7 @@ class Trial:
         self.same("60 files", (done.stdout, done.stderr, done.returncode), (text * 60, b"", 0))
 
     def lengths(self) -> None:
-        """`bufr-auto --max-length` skips and reports messages that declare more bytes. `Masker` hides the same messages."""
+        """`bufr-auto --max-length` skips and reports messages that declare a greater length. `Masker` hides them."""
         sys.path.insert(0, str(TOP / "scripts"))
         import bufr_auto
 
@@ -411,7 +411,7 @@ class Trial:
         self.holds("one that is skipped", done.stderr == b"bufr-auto: offset 0: skipped a message that declares a length of 156 bytes\n", done)
 
     def conditions(self) -> None:
-        """`bufr_auto.dump` dumps only messages that meet the conditions, each after a comment that gives its place."""
+        """`bufr_auto.dump` dumps only messages that meet the conditions, each after a comment with its offset and file."""
         code = "import sys; sys.path.insert(0, sys.argv[1]); import bufr_auto, bufr_conditions, bufr_guard\n"
         code += "def work(words): return bufr_auto.dump(words[2:], 1, None, bufr_conditions.Conditions(words[1].split()), True)\n"
         code += "bufr_guard.run(work, '')"
@@ -453,7 +453,7 @@ class Trial:
         self.holds(f"a feed of {what}: the end", (rest, child.returncode) == (b"", status), (rest, child.returncode))
 
     def files(self) -> None:
-        """Fault lines give a file and an offset in it. `bufr-auto` skips unreadable files, and reports them at the end."""
+        """Fault lines give the file name and the offset in the file. Unreadable files are skipped, and reported at the end."""
         texts, messages = [], [made(39, LISTS[1], b"\1\1\0"), made(13, LISTS[1], b"\2\1\0")]
         for number, message in enumerate(messages):
             (self.place / f"file {number}").write_bytes(b"BUFR" + message + made(41, LISTS[0], b"\1\1"))
@@ -543,7 +543,7 @@ class Trial:
         edition_3[12:14], edition_3[18:20] = b"\7\x62", b"\x0d\x66"
         done = self.auto(stream=bytes(edition_3))
         self.holds("edition 3", b"the table set wmo-13+98-102 (local version 102 of centre 98) is missing" in done.stderr, done)
-        # bufr-auto prints no note on a version with nine digits, because `bufr` rejects the document.
+        # bufr-auto prints no note about a version number with nine digits, because `bufr` rejects the document.
         done = self.auto("--encode", stream=b"message\nmasterversion 999999999\ndescriptors 012101\nsubset 1\nend\n")
         self.holds("a version of nine digits", done.stderr == b"line 2: 50 line\n", done)
         exact = made(14, LISTS[0], b"\1" * 2) + made(37, LISTS[0], b"\1" * 2) + made(7, "012073", b"\1\1")
@@ -566,7 +566,7 @@ class Trial:
         told = [line for line in self.auto(stream=stream).stderr.decode().splitlines() if line.startswith("bufr-auto: ")]
         rest = "bufr-auto: 299 messages, the first at offset 48000: no table set matches exactly; only the first 1,000 reasons are listed"
         self.holds("kinds of notes", (len(told), told[-1]) == (1001, rest), (len(told), told[-1]))
-        # This message gives two possible reasons for a note, but only one of them affects its descriptor.
+        # There are two possible reasons for a note about this message, but only one of them affects the message's descriptor.
         done = self.auto(stream=made(41, "012101", b"\1\1", local=102))
         note = b"bufr-auto: 1 message, at offset 0: table version 41 is later than that of the table set wmo-39" + NEWER.encode() + b"\n"
         self.holds("one of two reasons", done.stderr == note, done)
@@ -663,7 +663,7 @@ class Trial:
         slow = self.place / "slow"
         slow.write_text(f'#!/bin/sh\necho $$ > "{self.place}/begun"\nmv "{self.place}/begun" "{self.place}/number"\nexec sleep 60\n')
         slow.chmod(0o755)
-        # If this test is a background job, it ignores some signals, and its child processes would inherit that.
+        # If this test runs as a background job, it may ignore these signals, and bufr-auto would ignore them too.
         for number in (signal.SIGINT, signal.SIGHUP):
             signal.signal(number, signal.SIG_DFL)
         for number in (signal.SIGINT, signal.SIGTERM, signal.SIGHUP):
@@ -691,9 +691,9 @@ class Trial:
         self.holds("the end: what is left", not list(temporary.iterdir()), list(temporary.iterdir()))
 
     def ends(self) -> None:
-        """`bufr-auto` reports closed pipes, files that are truncated, and output of `bufr` that is truncated.
+        """`bufr-auto` reports closed pipes, files that are truncated while it reads them, and truncated output from `bufr`.
 
-        It also works if standard input is in non-blocking mode, or if SIGCHLD is ignored.
+        `bufr-auto` also works if standard input is in non-blocking mode, or if SIGCHLD is ignored.
         """
         many = b"".join(made(version, LISTS[1], b"\1\1\0", section_2=bytes(60_000)) for version in (13, 39))
         for stream, told in ((many * 20, b"bufr-auto: write failed: Broken pipe\n"), (many[: len(many) // 2] * 20, b"bufr: 71 write failed\n")):
@@ -751,7 +751,7 @@ class Trial:
     def start_up(self) -> None:
         """For one message, `bufr-auto` takes at most 1.8 times as long as an empty script, `bufr ls` and `bufr dump` together.
 
-        Python runs with -S, because the modules that an installation adds could hide what the script itself loads.
+        Python runs with -S, because modules that `site` imports at startup could hide which modules the script itself imports.
         """
         environment = {**self.environment, "PYTHONPYCACHEPREFIX": str(self.place / "cache")}
         environment.pop("PYTHONDONTWRITEBYTECODE", None)

@@ -4,7 +4,7 @@
     tests/bufr_csv.py [PROGRAM]
 
 With each installed awk, the rows for random messages must contain the values that bufr_text returns, both in CSV and in JSON.
-Other tests cover the options, several files of which the middle one has faults, live feeds, invalid arguments, and failures.
+Other tests cover the options, three files with faults in the middle one, live feeds, invalid arguments, and failures.
 """
 import csv
 import functools
@@ -55,7 +55,7 @@ def run(*words, awk=None, environment=None, **streams):
     return done
 
 
-# The rows that are expected, computed with bufr_text.
+# The expected rows, computed with bufr_text.
 
 
 class Number(str):
@@ -148,7 +148,7 @@ def field_of(found, is_plain: bool):
 
 
 def rows_of_csv(output: bytes) -> tuple:
-    """Returns the heading and the rows. Names, units and file names contain no escapes, and descriptors become bytes."""
+    """Returns the heading and the rows. A backslash in a name, unit or file name is literal. Descriptors become bytes."""
     lines = output.decode().splitlines()
     heading = next(csv.reader(lines[:1]))
     rows = []
@@ -320,7 +320,7 @@ def selection(_folder: pathlib.Path) -> None:
 
 
 def several_files(folder: pathlib.Path) -> None:
-    """If the middle one of three files has faults, `bufr-csv` names it. If that file is unreadable, `bufr-csv` continues."""
+    """If the second of three files has faults, fault lines name it. If it is unreadable, `bufr-csv` still reads the third."""
     environment = {**os.environ, "BUFR": program()}
     files = [SYNOP, FAULTY, BUOYS]
     wanted = subprocess.run([TOP / "scripts/bufr-auto", *files], stdout=subprocess.PIPE, stderr=subprocess.PIPE, env=environment)
@@ -350,13 +350,13 @@ def several_files(folder: pathlib.Path) -> None:
 
 
 def notes(folder: pathlib.Path) -> None:
-    """`bufr-csv` prints notes on empty columns, and on subsets without levels or with ambiguous levels."""
+    """`bufr-csv` prints notes about empty columns, and about subsets without levels or with ambiguous levels."""
     done = run("-c", "012101,012104", SYNOP)
     holds("an empty column", (done.returncode, done.stderr) == (0, b"bufr-csv: column 012104 is empty because no row contains this item\n"), done)
     done = run("--levels", "-c", "020013,020011", SYNOP)
     told = b"bufr-csv: skipped a subset without levels: message 1, subset 1\n"
     holds("a subset without levels", (done.returncode, done.stderr) == (0, told), done)
-    # These columns occur only outside the levels, or occur nowhere. bufr.levels issues the same warnings.
+    # The items for these columns occur only outside the levels, or do not occur at all. bufr.levels issues the same warnings.
     outside = "bufr-csv: column {0} is empty because {0} occurs only outside the levels; pass --keep {0} instead\n"
     empty = "bufr-csv: column {} is empty because no row contains this item\n"
     one = "bufr-csv: skipped a subset without levels: message 1, subset 1\n"
@@ -494,7 +494,7 @@ def failures(folder: pathlib.Path) -> None:
         path.chmod(0o755)
         return str(path)
 
-    # The reason comes after awk's notes.
+    # The reason for the failure is printed after awk's notes.
     done = run("-c", "001015,040001", SYNOP, "nosuch")
     told = b"bufr-csv: column 040001 is empty because no row contains this item\n"
     told += b"bufr-csv: cannot open nosuch: No such file or directory\n"
@@ -577,7 +577,7 @@ def feed(awk: list, _folder: pathlib.Path) -> None:
             process.stdout.read()
         if complaints:
             return  # further waits for missing rows would take a long time
-    # Notes are printed when the feed pauses: those on tables by bufr-auto, and those on subsets without levels by awk.
+    # When the feed pauses, bufr-auto prints notes about tables, and awk prints notes about subsets without levels.
     environment, told = {**os.environ, "BUFR": program(), "AWK": " ".join(awk)}, b""
     command = [sys.executable, TOP / "scripts/bufr-csv", "--levels", "-c", "020011"]
     with subprocess.Popen(command, stdin=pipe, stdout=subprocess.DEVNULL, stderr=pipe, env=environment) as process:
@@ -596,7 +596,7 @@ def feed(awk: list, _folder: pathlib.Path) -> None:
 
 
 def note_on_years(_folder: pathlib.Path) -> None:
-    """In a live feed, the note on messages that were left out says that the count covers only the messages so far."""
+    """In a live feed, the note about messages that were left out says that the count covers only the messages so far."""
     command, pipe = [sys.executable, TOP / "scripts/bufr-csv", "-c", "001006", "--where", "time=2006"], subprocess.PIPE
     environment, told = {**os.environ, "BUFR": program()}, b""
     with subprocess.Popen(command, stdin=pipe, stdout=subprocess.DEVNULL, stderr=pipe, env=environment) as process:

@@ -8,8 +8,8 @@ selected each time, with the fault lines and the exit status of `bufr ls`. From 
 immediately.
 
 For 100,000 messages of 10 KB, bufr-extract may use at most three times as much processor time as `bufr ls`, a Python
-process that does nothing, and a copy of the selected messages use together. On an idle machine, the factor is 1.5. The
-commands take turns for up to 20 rounds, and the fastest run of each command counts.
+process that does nothing, and a copy of the selected messages use together. On an idle machine, it uses about 1.5 times as
+much. The commands take turns for up to 20 rounds, and the fastest run of each command counts.
 """
 import gzip
 import os
@@ -111,7 +111,7 @@ def run(words: list, **streams) -> subprocess.CompletedProcess:
 
 def takes_what_is_asked(program: str, path: pathlib.Path) -> None:
     messages = [made(number) for number in range(300)]
-    # messages with an unknown edition and strays among the messages, and an incomplete message at the end
+    # strays and messages with an unknown edition among the valid messages, and an incomplete message at the end
     refused = [messages[7][:7] + b"\x02" + messages[7][8:], b"BUFR\0\0\x40\x04" + bytes(60)]
     path.write_bytes(
         b"".join(HEADING + message + refused[n // 50 % 2] * (n % 50 == 9) for n, message in enumerate(messages))
@@ -171,7 +171,7 @@ def refuses_what_it_cannot(path: pathlib.Path) -> None:
     # awk repeats the first line after it has printed all lines.
     done = run(["--awk", 'NR == 1 { first = $0 } 1; END { fflush(); system("sleep 0.2"); print first }', path])
     want(done.returncode == 2 and b"the --awk condition must only select lines" in done.stderr, f"a line that comes twice: {done.stderr}")
-    # The listing exceeds the capacity of a pipe, but `bufr ls` does not block after awk has exited.
+    # The listing exceeds the capacity of a pipe, but `bufr ls` must not block after awk has exited.
     path.write_bytes(made(1) * 4000)
     done = run(["--awk", "NR == 2 { exit 2 } 1", path], timeout=60)
     want((done.returncode, done.stdout) == (2, made(1)), f"of an awk that ends early: {done}")
@@ -245,7 +245,7 @@ def tells_years_of_the_century(folder: pathlib.Path) -> None:
 
 
 def tells_that_there_is_no_message(path: pathlib.Path) -> None:
-    """`bufr-extract` prints a note if the input contains no messages, but not if it contains some and none is selected."""
+    """`bufr-extract` prints a note if the input contains no messages, but not if it contains messages and none is selected."""
     zipped, cut = gzip.compress(made(1)), b"BUFR\0\0\x40\x04" + bytes(60)
     for octets, told, status in (
         (zipped, ": it looks like gzip data (use zcat)", 0),
@@ -286,7 +286,7 @@ def ignores_the_locale(folder: pathlib.Path) -> None:
 
 
 def skips_what_is_too_long(folder: pathlib.Path) -> None:
-    """`bufr-extract --max-length` skips messages that declare more bytes, prints notes, and finds messages inside them."""
+    """`bufr-extract --max-length` skips and reports messages that declare a greater length, and finds messages inside them."""
     inner, stray = made(3), b"BUFR\xff\xff\xff\x04"
     longer = lib.message(inner, lib.words("205056"))
     octets = made(1) + HEADING + longer + stray + made(2) + longer[:-4]
@@ -329,7 +329,7 @@ def skips_what_is_too_long(folder: pathlib.Path) -> None:
 
 
 def tells_a_feed() -> None:
-    """In a feed, the note on messages that were left out is printed once, when the feed pauses or after a minute."""
+    """In a feed, the note about messages that were left out is printed once, when the feed pauses or after a minute."""
     message = lib.message(b"\x14", edition=3)
     year = 2000 + message[8 + 12]
     rest = f", because edition 3 has only two-digit years; to select messages of both editions, use time={year},00{year - 2000:02}\n"

@@ -1,5 +1,5 @@
 #!/usr/bin/env python3
-"""Compares the module `bufr` with bufr_text, which parses the program's output, and tests what only `bufr` offers.
+"""Compares the module `bufr` with bufr_text, which parses the program's output, and tests features that only `bufr` has.
 
     tests/bufr_module.py [PROGRAM [TEST..]]        TEST: the name of a class or a method, such as Same.test_examples
 
@@ -61,11 +61,11 @@ HEADER = [*bufr_text.HEADER, "optional", "subsets", "offset", "length", "message
 HOSTILE = 300
 
 
-# The comparison, which hostile/array_trial.py also uses.
+# The functions that compare the two modules. hostile/array_trial.py uses them, too.
 
 
 def told_by(call):
-    """Returns the result of a call and the texts of its warnings."""
+    """Returns the result of a call and the text of each warning that it issued."""
     with warnings.catch_warnings(record=True) as told:
         warnings.simplefilter("always")
         found = call()
@@ -100,7 +100,7 @@ def differences(path: pathlib.Path, tables: tuple, rng: random.Random) -> list:
         wanted, skipped = told_by(lambda: list(getattr(bufr_text, name)(messages, *words)))
         same(f"{name} {words}", shown(found), shown(wanted))
         same(f"{name}: faults", faults, wanted_faults)
-        # Here, bufr_text is given messages, so it cannot name their file.
+        # Here, bufr_text takes messages instead of a path, so its notes cannot name the file.
         notes = [note.replace(f" in {path}", "") for note in notes]
         same(f"{name}: notes", sorted(map(short, notes)), sorted(map(short, wanted_notes + skipped)))
     with warnings.catch_warnings():
@@ -128,7 +128,7 @@ def differences(path: pathlib.Path, tables: tuple, rng: random.Random) -> list:
 
 
 def short(note: str) -> str:
-    """Removes the end of a note, which names the tables that do not define a column."""
+    """Removes the end of a note, which says which tables do not define a descriptor."""
     return re.sub("; .* does not define .*", "", note)
 
 
@@ -138,7 +138,7 @@ def number_of(cell):
 
 
 def escaped(cell):
-    """Escapes a string from a frame as in a dump. Returns any other value unchanged."""
+    """Escapes a string from a frame as `bufr dump` would. Returns any other value unchanged."""
     return bufr_text.text_cell(cell.encode("latin-1")) if isinstance(cell, str) else cell
 
 
@@ -147,7 +147,7 @@ def cell_of(cell):
 
 
 def item_lines(found: bufr.Items, messages: list) -> tuple:
-    """Returns two lists of tuples to compare: for the items that `bufr` found, and for the items in the messages."""
+    """Returns two lists of tuples to compare: one for the items from `bufr`, and one for the items in bufr_text's messages."""
     given = []
     for index, (row, offset) in enumerate(zip(found.items, found.messages["offset"][found.items["message_row"]].tolist())):
         value, fxy = found.exact(index), f"{row['fxy']:06}"
@@ -707,7 +707,7 @@ class Values(WithFolder):
         self.assertEqual(rows[8][4:], [2, "001015", "STATION OR SITE NAME", "CCITT IA5", "none", "HEATHROW"])
         self.assertEqual((frame["file"][8], str(frame["time"][8])), (str(SYNOP), "2023-03-14 18:00:00"))
         self.assertEqual(found.elements["012101"], {"name": "TEMPERATURE/AIR TEMPERATURE", "unit": "K"})
-        # two messages with the same offset, which differ only in their `message_row`
+        # two messages with the same offset, whose rows differ only in `message_row`
         octets = SYNOP.read_bytes()
         found = bufr.items([octets, octets], ["012101"])
         self.assertEqual(found.frame()["message_row"].tolist(), [0] * 3 + [1] * 3)
@@ -736,7 +736,7 @@ class Values(WithFolder):
         self.assertEqual([found.exact(index) for index in air[:2]], [Decimal("259.35"), Decimal("282.55")])
 
     def test_names_and_units_of_each_version(self):
-        """`bufr` takes names, units and column types from the tables with which it reads the values."""
+        """`bufr` takes names, units and column types from the tables that it uses to read the values."""
         words = ["012101", "022191", "022179", "033066"]
 
         def octets(version: int, *values) -> bytes:
@@ -920,7 +920,7 @@ class Faults(WithFolder):
         pieces = bufr.pieces(SYNOP)
         for source in (pieces, [*pieces, SYNOP]):
             self.assertEqual(told_by(lambda: [bufr.frame(source, ["012104"]), bufr.items(source, ["012104"])])[1], [])
-        # A descriptor that no set defines does cause a warning. 002192 is in a local set, and 002191 only in an old one.
+        # A descriptor that no table set defines causes a warning. A local set defines 002192, and an old set defines 002191.
         folder = self.folder / "sets"
         for name in ("wmo-39", "wmo-13", "wmo-13+98-7"):
             shutil.copytree(TOP / "tables" / name[:6], folder / name)
@@ -1036,7 +1036,7 @@ class Faults(WithFolder):
             bufr.messages(SYNOP)
 
 
-# Several processes. The worker that creates the file `mark` kills itself. The others find that file and continue.
+# Tests with several processes. The worker that creates the file `mark` kills itself; the others find this file and continue.
 
 
 def read(piece: bufr.Piece, mark: str = ""):
@@ -1062,7 +1062,7 @@ def read_by_dask(folder: str) -> None:
     local = {"n_workers": 2, "threads_per_worker": 1, "dashboard_address": ":0", "silence_logs": 50}
     with dask.config.set(dict.fromkeys(times, f"{DASK_SECONDS}s")), distributed.Client(local_directory=folder, **local):
         whole = dask.dataframe.from_map(read, pieces, mark=mark, meta=meta).compute()
-        # as in the guide
+        # the same calls as in docs/guide.md
         columns = ["001015", "012101"]
         meta = bufr.frame([], columns, faults="ignore")
         frame = dask.dataframe.from_map(bufr.frame, pieces, columns=columns, meta=meta, faults="ignore")
@@ -1157,7 +1157,7 @@ class Processes(WithFolder):
                 done = subprocess.run(words, stdout=subprocess.PIPE, text=True, check=True)
                 used.append(int(re.search(r"^VmHWM:\s+(\d+) kB$", done.stdout, re.M)[1]) // 1000)
             print(f"bufr_module: {call}: {used[0]} MB, and {used[1]} MB for three times the messages")
-            # If a call retained the input or its items, it would need at least 40 MB more. Memory use varies by up to 15 MB.
+            # A call that retained the input or its items would need at least 40 MB more. Memory use varies by up to 15 MB.
             self.assertLess(used[1] - used[0], 30, call)
 
 

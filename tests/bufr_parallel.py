@@ -3,10 +3,10 @@
 
     tests/bufr_parallel.py [PROGRAM]
 
-The generated stream contains headings, strays, and messages with faults in their sections or data. One stray declares more
-octets than its part contains. bufr-parallel reads the stream from one file, from three files that are split in the middle
-of a message, and from a pipe, with one to five processes. It must run as many dumps at once as requested, and must not dump
-any octet twice.
+The generated stream contains headings, strays, and messages with faults in their sections or data. The declared ends of some
+strays are in other parts of the stream. bufr-parallel reads the stream from one file, from three files that are split in the
+middle of a message, and from a pipe, with one to five processes. It must run as many dumps at once as requested, and must not
+dump any octet twice.
 """
 import os
 import pathlib
@@ -35,7 +35,8 @@ def made_stream() -> bytes:
     data_end = lib.message(b"\x14", b"\x01\x01", 3)
     unknown = lib.message(b"\x14", lib.words("063255"))
     edition_2 = good[0][:7] + b"\x02" + good[0][8:]
-    # the fault of this stray must be `3 no end`, as in the whole stream, although its declared end is in another part
+    # bufr-parallel must report this stray as `3 no end`, like a dump of the whole stream, even if the stray's declared end is
+    # in another part
     word = b"BUFR\x03\x00\x00\x04"
     pieces = []
     for n in range(6000):
@@ -146,8 +147,8 @@ def tells_what_fails(program: str, folder: pathlib.Path) -> None:
     with open("/dev/full", "wb") as full:
         done = subprocess.run([*PARALLEL, "dump", *TABLES, path], stdout=full, stderr=subprocess.PIPE)
     want(done.returncode == 2 and b"bufr-parallel: " in done.stderr, "a full device is not told")
-    # if a process fails, bufr-parallel writes the output up to and including that process's part, then its error line, and
-    # nothing else
+    # if a process fails, bufr-parallel writes the output up to and including that process's part, then that process's
+    # error line, and nothing else
     failing = folder / "failing"
     failing.write_text(
         f'#!/bin/sh\n[ "$1" = ls ] && exec {program} ls\ncat > $$.part\n{program} "$@" < $$.part\n'
@@ -227,7 +228,7 @@ def closes_what_it_opens(folder: pathlib.Path) -> None:
 
 
 def reads_each_octet_once(program: str, folder: pathlib.Path) -> None:
-    """`bufr-parallel` lists the stream only once and dumps no octet twice, so it does no more than one `ls` and one `dump`."""
+    """`bufr-parallel` lists the stream only once and dumps no octet twice, so it does no more work than `ls` and `dump`."""
     (folder / "counting").write_text(
         f'#!/bin/sh\ncat > $$.part\nwc -c < $$.part >> "$1.octets"\nexec {program} "$@" < $$.part\n'
     )

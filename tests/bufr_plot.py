@@ -34,7 +34,7 @@ def run(python: str, words: list, text: bytes = b"", **others) -> subprocess.Com
 
 
 def stations(count: int, latitude: str = "50.5", longitude: str = "10.25", name: bytes = b"A") -> bytes:
-    """Returns a document with `count` subsets, each a station with a temperature. The first is at 10.5 N, 20.5 E."""
+    """Returns a document with the temperature at `count` stations, each in its own subset. The first is at 10.5 N, 20.5 E."""
     head = (TOP / "examples/synop.txt").read_bytes().partition(b"subset 1\n")[0]
     text = re.sub(rb"subsets \d+", b"subsets %d" % count, head)
     for number in range(1, count + 1):
@@ -72,7 +72,7 @@ def strange(python: str, folder: pathlib.Path) -> None:
         want(draw(stations(3, latitude)) == told, f"latitude {latitude} is not clipped, or not told")
     _, told = draw(stations(2, "91.5"))
     want(told == "bufr-plot: 1 latitude is beyond a pole; its point is drawn at the pole\n", f"of one latitude it tells {told}")
-    # A value of 0 is labelled, but a missing value is not, and neither is the value of a subset without a position.
+    # A value of 0 must have a label. A missing value must not, and neither must the value in a subset without a position.
     odd = stations(4).replace(b" 281.5", b" 0.00").replace(b" 282.5", b" MISSING").replace(b"subset 3\n005001 50.5", b"subset 3")
     drawn, _ = draw(odd, "--value", "012101")
     labels = re.findall(r">(0\.00|None|28\d\.5)</text>", drawn)
@@ -125,7 +125,7 @@ def first_of_a_level(python: str, folder: pathlib.Path, text: bytes) -> None:
     want(twice.count(b" 300 ") > 40 and draw(twice) == whole, "the last temperature of a level counts")
     others = re.sub(rb"\n0121(0[13])", rb"\n0120\1", text)
     want(others != text and draw(others) == whole, "0 12 001 and 0 12 003 count otherwise")
-    # These are not levels: a temperature before all pressures, invalid pressures, and a pressure without a temperature.
+    # These are not levels: a temperature before the first pressure, invalid pressures, and a pressure without a temperature.
     odd = b"subset 1\n012101 250\n007004 MISSING\n012101 250\n007004 0\n012101 250\n007004 -100\n012101 250\n007004 2000\n"
     want(draw(text.replace(b"subset 1\n", odd)) == whole, "what is no level is drawn")
     one = text.partition(b"subset 1\n")[0] + b"subset 1\n007004 50000\n012101 250\nend\n"

@@ -39,7 +39,7 @@ def packed(subsets: int, elements: int = 20) -> bytes:
 
 
 def texts(count: int) -> bytes:
-    """Returns a message with strings of 255 bytes each."""
+    """Returns a message with `count` strings of 255 bytes each."""
     return lib.message(b"A" * 255 * count, lib.words("205255 " * count))
 
 
@@ -56,8 +56,8 @@ def main() -> None:
     os.environ["BUFR"] = lib.program()
     small, unknown = lib.message(b"\x14"), lib.message(b"\x14", b"\x3f\xff")
     wrongs = []
-    # the name, the bytes to repeat, the number of repetitions, the items in the longest message, the bytes per dump line, and
-    # the calls to measure
+    # each row: the name, the bytes to repeat, the number of repetitions, the items in the longest message, the bytes per dump
+    # line, and the calls to measure
     streams = [
         ("small messages", small, 20_000, 1, 50, ["listing", "where"]),
         ("faults", b"BUFR\0\0\1" * 100 + small, 2_000, 1, 50, ["dump", "listing"]),

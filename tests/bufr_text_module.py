@@ -311,7 +311,7 @@ class Tables(unittest.TestCase):
                     try:
                         rows = list(bufr_text.rows(bufr_text.read(lines_of(path)), columns, ["message", "subset", *header]))
                     except bufr_text.TextError:
-                        continue  # this text is invalid, because it is a test for `encode`
+                        continue  # this text is deliberately invalid, to test `encode`
                 self.assertEqual(self.alike(rows), self.alike(wanted))
                 # If there are no subsets, table.awk also reports that the header columns are empty.
                 self.assertEqual(self.notes(told), done.stderr.decode().splitlines() if rows else [])
@@ -319,7 +319,7 @@ class Tables(unittest.TestCase):
         self.assertGreater(passed, 100)
 
     def notes(self, told: list) -> list:
-        """Returns warnings in the words of table.awk, without those that table.awk does not print."""
+        """Returns the warnings in table.awk's wording, except those that table.awk does not print."""
         texts = [f"table.awk: {one.message}" for one in told if "all of its values are missing" not in str(one.message)]
         texts = [text.replace("use bufr.items or bufr_text.dump", "run table.awk without levels= or columns=") for text in texts]
         several = r"to get its first value, pass keep=\['(\d+)'\]; to get all of its values, .*"
@@ -490,7 +490,7 @@ class Runs(unittest.TestCase):
         for tables in (TABLES, []):
             [message] = bufr_text.dump(TOP / "examples/synop.bufr", *tables)
             self.assertEqual(written([message]), (TOP / "examples/synop.txt").read_bytes())
-            # The message must equal the one that is read from its dump, although that one has no offset.
+            # The message must equal the one read from its dump, even though the latter has no offset.
             self.assertEqual([message], list(bufr_text.read(lines_of(TOP / "examples/synop.txt"))))
 
     def test_faults_and_places(self):
@@ -564,7 +564,7 @@ class Runs(unittest.TestCase):
                 done = run(sys.executable, TOP / "scripts/bufr-extract", *where, self.stream)
                 self.assertIn(done.returncode, (0, 1))
                 wanted = run(lib.program(), "dump", *lib.TABLES, input=done.stdout).stdout
-                # The log records the program's input.
+                # The log records the input of `bufr dump`.
                 log = self.folder / "log"
                 log.write_bytes(b"")
                 self.use_program(f'[ "$1" = dump ] || exec "$REAL" "$@"; tee -a "{log}" | "$REAL" "$@"')
@@ -576,7 +576,7 @@ class Runs(unittest.TestCase):
                 self.assertEqual(log.read_bytes(), done.stdout)
                 os.environ["BUFR"] = lib.program()
                 lines = "".join(f"{fault.line()}\n" for fault in faults)
-                # Only the module issues this warning. Users of bufr-extract notice at once if it prints nothing.
+                # bufr-extract does not print this warning, because its users notice at once that there is no output.
                 told = [one for one in told if str(one.message) != "no messages match the conditions in where="]
                 notes = "".join(f"bufr-extract: {note.message}\n".replace(f"{self.stream}: ", "") for note in told)
                 self.assertEqual(lines + notes, done.stderr.decode())
@@ -589,7 +589,7 @@ class Runs(unittest.TestCase):
         faults = []
         rows = list(bufr_text.rows(self.stream, ["001015"], ["offset"], faults, ["category=0/2"]))
         self.assertEqual(rows, [(land.offset, "SODANKYLA"), (land.offset, "HEATHROW"), (land.offset, "SAENTIS")])
-        # Messages that are not dumped cause no faults.
+        # Messages that do not meet the condition cause no faults.
         strays = []
         list(bufr_text.listing(self.stream, strays))
         self.assertEqual((faults, len(strays)), (strays, 9))

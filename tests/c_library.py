@@ -42,13 +42,13 @@ wrongs: list = []
 
 
 def said_by(words: list, octets: bytes) -> tuple:
-    """Runs the program. Returns its output and errors."""
+    """Runs the program with this input. Returns what it writes to standard output and standard error."""
     run = subprocess.run([PROGRAM, *map(str, words)], input=octets, stdout=subprocess.PIPE, stderr=subprocess.PIPE)
     return run.stdout, run.stderr
 
 
 def table_status(tables: tuple) -> int:
-    """Returns the number of the fault that the program reports for these tables (plus 100 for Table D), or 0."""
+    """Returns the fault number that the program reports for these tables (plus 100 for Table D), or 0 if there is none."""
     _, errors = said_by(["dump", "-B", tables[0], "-D", tables[1]], b"")
     found = re.match(rb"table ([BD]): (\d+) ", errors)
     return int(found[2]) + 100 * (found[1] == b"D") if found else 0
@@ -78,7 +78,7 @@ def lines_in(text: bytes) -> list:
 
 
 def listed_by(row) -> bytes:
-    """Returns the line that `bufr ls` prints for the message in a row, up to the field `compressed`."""
+    """Returns the line that `bufr ls` prints for the message that a row describes, up to the field `compressed`."""
     words = f"offset={row.offset} length={row.length} edition={row.edition} centre={row.centre}/{row.subcentre}"
     words += f" update={row.update} category={row.category}/{row.subcategory}/{row.local_subcategory}"
     words += f" tables={row.master}/{row.master_version}/{row.local_version} time={row.year:04}-{row.month:02}-{row.day:02}"
@@ -130,7 +130,7 @@ def try_stream(name: str, stream: bytes, tables: tuple, of_library) -> None:
 
 
 def values_of(parts, wanted) -> list:
-    """Returns each message with its wanted items, but nothing that depends on how the stream is divided into parts."""
+    """Returns the offset, fault and wanted items of each message. These do not depend on how the stream is divided."""
     found = []
     for items, texts, messages in parts:
         for row in messages:
@@ -141,7 +141,7 @@ def values_of(parts, wanted) -> list:
 
 
 def try_wanted(name: str, stream: bytes, parts: list, of_library) -> None:
-    """The library returns only the items with the wanted descriptors, one of which does not occur in the stream."""
+    """The library returns only the items with the wanted descriptors. One of these does not occur in the stream."""
     there = sorted({item.fxy for items, _, _ in parts for item in items})
     for wanted in ((*there[:1], *there[-1:], 0xFFFF), (0xFFFF,)):
         given = list(of_library.parts(stream, wanted))
@@ -156,7 +156,7 @@ def try_text(name: str, text: bytes, tables: tuple, of_library) -> None:
 
 
 def inputs():
-    """Yields the examples, the vectors and random streams, each with the function to call and its tables."""
+    """Yields the examples, the vectors and random streams, each with the function that tests it and the tables to use."""
     for file in sorted((TOP / "examples").glob("*.bufr")):
         yield f"examples/{file.name}", try_stream, file.read_bytes(), SETS[0]
     for file in sorted((VECTORS / "messages").iterdir()):
@@ -168,13 +168,13 @@ def inputs():
         yield f"hostile stream {number}", try_stream, random_trial.stream_of(rng), SETS[0]
 
 
-# The types in bufr.h.
+# The integer types in bufr.h, and their ctypes equivalents.
 C_TYPES = {f"{sign}int{bits}_t": getattr(ctypes, f"c_{sign}int{bits}") for sign in ("", "u") for bits in (8, 16, 32, 64)}
 C_TYPES["size_t"] = ctypes.c_size_t
 
 
 def offsets_in(struct) -> list:
-    """Returns a list of the offsets of the fields in a structure, followed by its size."""
+    """Returns the offset of each field in a structure, followed by the size of the structure."""
     return [getattr(struct, name).offset for name, _ in struct._fields_] + [ctypes.sizeof(struct)]
 
 
@@ -216,7 +216,7 @@ def try_names(folder: pathlib.Path) -> None:
 
 
 def try_small_rooms(path: str) -> None:
-    """If one output has no room, a call reports how much room each output needs. A second call reports the same."""
+    """If one output has no room, a call reports how much room each output needs. The same call again reports the same."""
     of_library = bufr_library.Library(path, *(it.read_bytes() for it in SETS[0]))
     stream = (TOP / "examples/synop.bufr").read_bytes()  # one message
     ((items, texts, messages),) = of_library.parts(stream)

@@ -110,7 +110,7 @@ class Copy:
         return needed
 
     def kept(self, of: dict, place: tuple) -> set:
-        """Returns the names that the copy of a module still exports."""
+        """Returns the names that the reduced copy of a module exports."""
         found = set()
         for block in of[place]:
             if block.declares:
@@ -131,7 +131,7 @@ class Copy:
         return f"{head}{{{', '.join(names)}}}" if names else ""
 
     def texts(self, of: dict, crate: str, tag: str) -> dict:
-        """Returns the text of each file in the copy, by name. The files belong in proofs/variants/TAG of a crate."""
+        """Returns the text of each file in the copy, by file name. The files belong in proofs/variants/TAG of this crate."""
         made = {}
         for place in self.places:
             used = [block for block in of[place] if block.names & self.needed[place] or not block.declares]
@@ -202,7 +202,7 @@ def scratch(room: pathlib.Path) -> pathlib.Path:
 
 
 def check_words(top: pathlib.Path, crate: str, law: str) -> list:
-    """Returns the command that checks one law. The command reads the crates of ours that it needs from source."""
+    """Returns the command that checks one law. The command reads our own crates from source."""
     words = [kit() / "bin/rattle", "check", "--crate-name", crate, "src/lib.rt", "--only", law]
     for one in ["std", *libraries(crate)]:
         if one in crates():
@@ -298,9 +298,9 @@ def waits(word: str) -> bool:
 
 
 def head(side: str) -> str:
-    """Returns the constructor at the head of one side of an equation or of its first field, or an empty string.
+    """Returns the constructor at the head of one side of an equation, or of its first field if it has several.
 
-    `side` is text that the checker printed.
+    `side` is text that the checker printed. If it has no constructor at its head, the result is an empty string.
     """
     outer, depth = [], 0
     for word in PRINTED.findall(side):
@@ -328,7 +328,7 @@ def differs(errors: list) -> bool:
 
 
 def shown(copy: Copy, error: tuple) -> str:
-    """Returns the text of an error."""
+    """Formats an error for printing: the module, the source line and the message."""
     file, _, _, message, text = error
     return f"{'/'.join(copy.places[int(file[1:])])}: {text.strip()[:120]}: {message[:700]}"
 

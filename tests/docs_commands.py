@@ -58,7 +58,7 @@ def alike(wanted: list, said: list) -> bool:
 
 
 def typed(told: list, folder: pathlib.Path, environment: dict, timeout: int = 300) -> list:
-    """Runs commands in one shell, which starts in `folder`. Returns a complaint for each command with wrong output.
+    """Runs commands in one shell, which starts in `folder`. Returns an error message for each command with wrong output.
 
     If the expected output is None, a command can print anything, but it must exit with status 0.
     """
@@ -82,7 +82,7 @@ def typed(told: list, folder: pathlib.Path, environment: dict, timeout: int = 30
 
 
 def wrongs(path: pathlib.Path) -> list:
-    """Runs the commands in a document. Returns a complaint for each command with wrong output."""
+    """Runs the commands in a document. Returns an error message for each command with wrong output."""
     top = next(folder for folder in path.parents if (folder / "examples").is_dir())
     doc, told = path.relative_to(top), []
     for first, needs, lines in blocks(path.read_text(encoding="utf-8")):

@@ -5,7 +5,7 @@
 
 - all pages: links and paths, and the Python version that the scripts need;
 - docs/guide.md: the sizes and items of the example files, and the differences from ecCodes;
-- docs/proof.md: functions, their clauses, laws, record fields, and a contract;
+- docs/proof.md: functions, their clauses, laws, record fields, and a contract that the page quotes;
 - tables/README.md: the numbers of rows in the tables;
 - the man pages: the faults in the page for `bufr`, and warnings from `mandoc` and `groff`, if these are installed;
 - the man pages and the completions: commands and options, including those of the scripts.
@@ -38,7 +38,7 @@ def anchors(path: pathlib.Path) -> set:
 
 
 def links_and_paths() -> None:
-    """Checks that each link has a target, and that each path to a file in this repository exists, except build output."""
+    """Checks that the target of each link exists, and that each path in the pages exists, except for build output."""
     folders = "|".join(sorted(path.name for path in TOP.iterdir() if path.is_dir() and path.name != ".git"))
     for doc in DOCS:
         text = doc.read_text(encoding="utf-8")

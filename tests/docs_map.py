@@ -8,10 +8,11 @@ apply: a definition in specs/, an example in proofs/, a function, or a test in b
 comment near its beginning. The last column of tests/vectors/cases.tsv lists the rules for each vector. The first two cells
 of a row in docs/map.md are written by hand; the other cells are generated from the tags. The last cell says how many
 comparisons, numbers and orders the rule's definitions contain, and how many of them an entry in tests/definition_mutations
-changes. The rest must have a reason for having no entry; otherwise, the rule is not covered.
+changes. For each of the others, a comment in that directory must say why no entry is needed; otherwise, the rule is not
+covered.
 
 Each heading in docs/format.md and docs/texts.md must have a section in docs/map.md, and each fault in docs/texts.md a row.
-The section on a crate in docs/design.md must name each of its modules. Code that a page names must occur in the crates.
+The section on a crate in docs/design.md must name each of its modules. Names that look like code must occur in the code.
 """
 import csv
 import pathlib
@@ -62,7 +63,7 @@ def owner(lines: list, line: int) -> str:
 
 
 def tagged(path: pathlib.Path):
-    """Yields each tag in a file and the index of the line to which it applies. Attributes may come between tag and line."""
+    """Yields each tag in a file and the index of the line to which it applies, skipping any attributes in between."""
     tags = []
     for line, one in enumerate(read(path).splitlines()):
         found = TAG.match(one)
@@ -74,7 +75,7 @@ def tagged(path: pathlib.Path):
 
 
 def places() -> list:
-    """Returns each tagged place, in the order of the files: its tag, the column for it, its crate and its name."""
+    """Returns, for each tagged place in file order, its tag, its column in docs/map.md, its crate and its name."""
     found = []
     for crate in CRATES:
         for folder in ("specs", "src", "proofs"):
@@ -168,14 +169,14 @@ def rules() -> None:
 
 
 def modules(crate: str) -> set:
-    """Returns the last part of the path of each module in a crate, except modules of tests."""
+    """Returns the last part of the path of each module in a crate, except test modules."""
     files = (TOP / "crates" / crate / "src").rglob("*.rt")
     return {file.stem for file in files if not re.match(r"lib$|test_|(\w+_)?tests$", file.stem)}
 
 
 def house() -> None:
-    """Checks that the section on each crate in docs/design.md names all of its modules and no others. A name in the list
-    below the heading counts if it is in backquotes and begins with a lower-case letter."""
+    """Checks that the section on each crate in docs/design.md names all modules of that crate and no others. A word in the
+    list below the heading counts as a module name if it is in backquotes and begins with a lower-case letter."""
     lines = read(TOP / "docs/design.md").splitlines()
     named, first, crate = {}, {}, ""
     for line, one in enumerate(lines, 1):

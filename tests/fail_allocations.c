@@ -1,7 +1,7 @@
 // A library that is preloaded into a program and makes one of its memory allocations fail, so that a test can check how
 // the program handles each failure. REFUSE_COUNT names a file of eight bytes, in which the library counts the allocations.
-// The file is mapped into memory, so that the count is kept even if the program exits suddenly. REFUSE_AT is the number of
-// the allocation that must fail (counted from 1), or 0 if none must fail.
+// The file is mapped into memory, so that the count is preserved even if the program exits suddenly. REFUSE_AT is the number
+// of the allocation that must fail (counted from 1), or 0 if none must fail.
 //
 // This file declares the functions that it calls, so that it can be compiled without the headers of the C library.
 typedef __SIZE_TYPE__ size_t;

@@ -6,8 +6,8 @@
 Each command first runs without failures. Then its Nth allocation fails, for each N up to one more than the number of
 allocations, so that the last run produces the complete output. Every other run must exit with status 2. Its output must be
 a prefix of the complete output, and its errors must be a prefix of the fault lines, followed by `bufr: 73 out of memory`. A
-run may also succeed although one allocation fails, if the program then tries a smaller one. For example, if `collect` in std
-cannot allocate a large buffer for the arguments, it requests a smaller buffer.
+run may also succeed even though one allocation fails, if the program then tries a smaller one. For example, if `collect` in
+std cannot allocate a large buffer for the arguments, it requests a smaller buffer.
 
 The output consists of pieces: the lines of `ls`, the texts of `dump`, or the messages of `encode`. The program must write
 whole pieces, and at least as many as when an earlier allocation failed. `dump` may also write whole lines of an incomplete
@@ -66,8 +66,8 @@ INPUTS = {
     "nothing": b"",
 }
 
-# The number of allocations that can fail without changing the output: those for shared lines and for the list that records
-# which other items are between these lines.
+# For some runs, the number of allocations that can fail without changing the output. These allocations are for shared lines,
+# and for the list that records which other items are between these lines.
 SPARED = {"dump of compressed names": 1, "dump of 200 compressed items": 2, "dump of buoys.bufr": 4}
 
 
@@ -80,7 +80,7 @@ class Run(NamedTuple):
 
 
 class Left(NamedTuple):
-    """The results of a run, and the number of allocations."""
+    """The results of a run, and the number of allocations that the program attempted."""
 
     status: int
     output: bytes
@@ -118,7 +118,7 @@ class Trial:
 
 
 def wrongs(name: str, whole: Left, lefts: list) -> list:
-    """Returns complaints about the runs of a command in which each allocation fails in turn."""
+    """Returns complaints about the results of `lefts`: a run without failures, and those in which one allocation fails."""
     if whole.calls == 0:
         return ["the library does not see the program's calls for memory"]
     if whole.errors.endswith(WANT):
@@ -144,7 +144,7 @@ def fits(whole: Left, number: int, left: Left) -> bool:
 
 
 def is_left(output: bytes, whole: bytes) -> bool:
-    """Returns whether an output consists of the first pieces of `whole` and, if a text is next, some of its first lines."""
+    """Returns whether an output consists of the first pieces of `whole`, possibly followed by some lines of the next text."""
     left = whole
     for piece in reversed(pieces(whole)):
         left = left[: -len(piece)]
@@ -184,7 +184,7 @@ def again(trial: Trial) -> list:
 
 
 def runs(work: pathlib.Path) -> list:
-    """Returns the runs: each command on its inputs, valid and invalid tables, the help, the version, and invalid arguments."""
+    """Returns the runs: each command on its inputs, valid and invalid tables, --help, --version, and invalid arguments."""
     bufr = program()
 
     def file(name: str, octets: bytes) -> str:

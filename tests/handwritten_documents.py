@@ -30,7 +30,7 @@ def lines(*parts: str) -> str:
     return "".join(part + "\n" for part in parts)
 
 
-# Each document as a person might write it, and as in a dump.
+# Each document, first as a person might write it, and then as in a dump.
 ROWS = {
     "zeros in front and behind, minus zero, a scale below 0": (
         plain("012101 005002 010004 001001", "012101 0288.150", "005002 -0", "010004 00101320.0", "001001 MISSING"),
@@ -94,13 +94,13 @@ ROWS = {
 
 
 def run(command: str, octets: bytes) -> bytes:
-    """Returns the output of a command. If its exit status is not 0, its errors and the status follow."""
+    """Returns the output of a command. If the command fails, its errors and its exit status are appended."""
     done = subprocess.run([program(), command, *TABLES], input=octets, capture_output=True)
     return done.stdout + (b"%sstatus %d\n" % (done.stderr, done.returncode) if done.returncode else b"")
 
 
 def wrong(by_hand: str, dumped: str) -> str:
-    """Encodes both forms of a document. Returns a complaint, or an empty string if the dump and the octets are right."""
+    """Encodes both forms of a document. Returns an error message, which is empty if the dump and the octets are right."""
     octets = run("encode", (HEAD + by_hand).encode())
     text = run("dump", octets)
     if text != (HEAD + dumped).encode():

@@ -3,7 +3,8 @@
 # installed files.
 set -eu
 . "$(dirname "$0")/lib.sh"
-# The caller's umask and CDPATH must not affect the installation. Here, CDPATH contains other directories with the same names.
+# The caller's umask and CDPATH must not affect the installation. Here, CDPATH names a directory with another `prefix` and
+# another `source`.
 top=$PWD prefix=$work/here/prefix
 mkdir -p "$work/here" "$work/other"/{prefix,source}
 ln -s "$top" "$work/here/source"
@@ -26,7 +27,7 @@ grep -q "^installed $("$bufr" --version) (unproved; " "$work/told" || fail "inst
 [ -s "$older/own/B.csv" ] || fail "install.sh removes a set of the user's own"
 [ ! -L "$older/wmo-39/B.csv" ] && cmp "$older/wmo-39/B.csv" tables/wmo-39/B.csv || fail "another set wmo-39"
 rm -r "$older/own"
-# A second installation must replace the first one, even while its program is running, and must not add files.
+# A second installation must replace the first one, even while the installed program is running, and must not add files.
 (cd "$prefix" && find . | sort) > "$work/once"
 mkfifo "$work/feed"
 "$prefix/bin/bufr" ls < "$work/feed" &

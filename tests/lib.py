@@ -59,7 +59,7 @@ def seconds_of(words: list, **streams) -> float:
 
 
 def least_seconds(commands: list, most: float, output=os.devnull, **streams) -> list:
-    """Returns the least processor time of each command. The commands take turns, because other programs may slow down any run.
+    """Returns the lowest processor time of each command over several rounds, because other programs may slow down any run.
 
     Stops as soon as the first command takes at most `most` times as long as the others together, but not before round 3 or
     after round 20.
@@ -103,7 +103,7 @@ def message(data: bytes, descriptors: bytes = b"\x01\x01", subsets: int = 1, fla
 
 
 def asking(message: bytes, version: int, local: int = 0, centre: int = 98) -> bytes:
-    """Returns an edition 4 message with a different centre, table version and local version."""
+    """Returns an edition 4 message with its centre, table version and local version replaced."""
     return message[:12] + centre.to_bytes(2, "big") + message[14:21] + bytes([version, local]) + message[23:]
 
 

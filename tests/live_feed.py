@@ -144,8 +144,8 @@ want(feed.has(*ran(["ls"], messages[0])), "ls: a false word holds up what comes 
 want(feed.peak() < 3000, f"ls: {feed.peak()} kB for a false word")
 feed.end()
 
-# The number of writes is small: a delayed block is at least half full, and each 64 KiB of input adds at most one write for
-# each of output and errors.
+# The number of writes is small: the blocks that are written are at least half full, except that each 64 KiB of input can cause
+# one more write to standard output and one more to standard error.
 with tempfile.TemporaryDirectory() as folder:
     stream, text = pathlib.Path(folder, "stream"), pathlib.Path(folder, "text")
     stream.write_bytes((messages[0] + STRAY + messages[1]) * 1000)

@@ -68,14 +68,14 @@ def made(version: int, local: int, centre: int, descriptors: str, data: bytes) -
 
 
 def of_eccodes(tables: pathlib.Path, centre: int, local: int) -> str:
-    """Returns the advice for a centre whose tables are in Debian's ecCodes package, which need not be installed."""
+    """Returns the advice for a missing set whose tables are in Debian's ecCodes package, whether or not it is installed."""
     folder = f"/usr/share/eccodes/definitions/bufr/tables/0/local/{local}/{centre}/0"
     debian = "" if pathlib.Path(folder).exists() else "install libeccodes-data (Debian), then "
     return f"to make it, {debian}run: {TOP}/tables/convert.py {tables}+{centre}-{local} {tables} {folder}\n"
 
 
 def of_definitions(place: pathlib.Path, script, holds) -> None:
-    """The command that a note prints makes a table set from ecCodes' definitions, so that `bufr-auto` can dump the message."""
+    """The command in a note makes a table set from ecCodes' definitions, so that `bufr-auto` can dump the message."""
     folder = place / "definitions/bufr/tables/0/local/5/7/0"
     folder.mkdir(parents=True)
     (folder / "element.table").write_text("#code|..\n063255|a|long|MADE UP|Numeric|0|0|8\n")
@@ -124,7 +124,7 @@ def in_packages(holds) -> None:
 
 
 def versions_and_editions(script, holds) -> None:
-    """`bufr-lacks` uses the latest set for later versions, and finds the descriptor list of a message of either edition."""
+    """`bufr-lacks` uses the latest set for later versions, and finds the descriptor list in messages of both editions."""
     holds("of a later version", script("bufr-lacks", made(41, 0, 98, "013164", b"\1")), (0, "", ""))
     wanted = "1 message from centre 98/0, tables 0/41/0, lacks 001255\n"
     newer = "bufr-lacks: the table set wmo-41 is missing; get newer tables from WMO (wmo-im/BUFR4 on GitHub), and convert them with tables/convert.py\n"
@@ -147,7 +147,7 @@ def versions_and_editions(script, holds) -> None:
 
 
 def limits(script, holds) -> None:
-    """`bufr-lacks` lists up to 1,000 kinds of messages and 50,000 rows, says if it omits any, and names each set once."""
+    """`bufr-lacks` lists up to 1,000 kinds of messages and 50,000 rows, says if it omits any, and names a missing set once."""
     kinds = b"".join(made(13, 1, centre, "063255", b"") for centre in range(1, 1004)) * 2
     status, output, errors = script("bufr-lacks", kinds)
     holds("the kinds that are listed", (status, output.count("\n"), output.count("2 messages")), (1, 1000, 1000))
@@ -155,10 +155,10 @@ def limits(script, holds) -> None:
     holds("the notes on kinds", (errors.splitlines()[0], errors.count("\n")), (first, 1001))
     _, _, errors = script("bufr-lacks", b"".join(made(13, 1, centre, "063255", b"") for centre in range(1, 1002)))
     holds("one message of too many kinds", errors.startswith("bufr-lacks: left out 1 message because "), True)
-    # Two kinds of messages for which the same set is missing.
+    # These two kinds of messages need the same missing set.
     _, output, errors = script("bufr-lacks", made(12, 1, 7, "063255", b"") + made(13, 1, 7, "063255", b""))
     holds("one note for a set", (output.count("\n"), errors.count("\n")), (2, 1))
-    # Only the last descriptor in a long descriptor list is unknown, and the message follows another one.
+    # Only the last descriptor in a long descriptor list is unknown, and the message follows another message.
     long = lib.asking(lib.message(b"", lib.words("001001") * 40_000 + lib.words("063255")), 13)
     holds("a long list", script("bufr-lacks", made(13, 0, 98, "001001", b"\1") + long)[1], "1 message from centre 98/0, tables 0/13/0, lacks 063255\n")
     many = " ".join(f"0{x}{y:03}" for x in range(48, 64) for y in range(256))
@@ -169,7 +169,7 @@ def limits(script, holds) -> None:
 
 
 def nearest_own_set(tables: pathlib.Path, script, message: bytes, holds) -> None:
-    """If a centre has several sets, `bufr-auto` uses the one for the next higher version: for version 9, that is set 10."""
+    """If a centre has several sets, `bufr-auto` uses the one for the next higher version, here version 10 instead of 9."""
     name = "MADE UP: KIND OF BUOY"
     for version in (8, 10, 11, 12):
         shutil.copytree(tables / "wmo-13+98-102", tables / f"wmo-{version}+98-102")
@@ -205,7 +205,7 @@ def main() -> None:
         for value, width in ((4711, 16), (15, 4), (27315, 16)):
             bits.put(value, width)
         message = made(13, 102, 98, "301250", bits.octets())
-        # The same sequence from another centre, with another local version, and with another WMO version.
+        # Messages with the same sequence, but with another centre, another local version, or another WMO table version.
         others = [made(13, 102, 7, "301250", b""), made(13, 1, 98, "301250", b""), made(16, 102, 98, "301250", b"")]
         other_lines = (
             "1 message from centre 7/0, tables 0/13/102, lacks 301250\n"
@@ -232,7 +232,7 @@ def main() -> None:
         holds("bufr-auto before", script("bufr-auto", message), (1, "", refused + note))
         of_definitions(place, script, holds)
 
-        # As tables/README.md advises, WMO's tables come after the centre's tables, so that WMO's rows replace outdated ones.
+        # As tables/README.md advises, WMO's tables are listed last, so that their rows replace the outdated ones.
         words = [TOP / "tables/convert.py", "tables/wmo-13+98-102", "B0000000000098013102.txt", "tables/wmo-13"]
         done = subprocess.run(words, cwd=place, capture_output=True)
         holds("convert.py", (done.returncode, done.stderr), (0, b""))
@@ -246,7 +246,7 @@ def main() -> None:
         of_earlier = f"to make it, run: {TOP}/tables/convert.py {tables}/wmo-16+98-102 {tables}/wmo-13+98-102 {tables}/wmo-16\n"
         behind = other_notes.removesuffix(ASK.format(98)) + of_earlier
         holds("bufr-lacks behind", script("bufr-lacks", message + b"".join(others)), (1, other_lines, behind))
-        # If this centre has several earlier sets, the advice names the latest.
+        # If there are several earlier sets for this centre, the note names the latest one.
         for name in ("wmo-12+98-102", "wmo-15+198-102", "xmo-15+98-102"):
             shutil.copytree(tables / "wmo-13+98-102", tables / name)
         holds("the latest earlier set", script("bufr-lacks", others[2])[2].endswith(of_earlier), True)
@@ -275,7 +275,7 @@ def main() -> None:
         versions_and_editions(script, holds)
         in_packages(holds)
         limits(script, holds)
-        # bufr-lacks prints a note on an incomplete set and ignores it, but stops if a set is invalid.
+        # bufr-lacks ignores an incomplete set and prints a note about it, but stops if a set is invalid.
         synop = (TOP / "examples/synop.bufr").read_bytes()
         (place / "odd \x1b").symlink_to("tables")
         environment["BUFR_TABLES"], shown = str(place / "odd \x1b"), f"{place}/odd \\x1B"

@@ -1,5 +1,5 @@
 #!/usr/bin/env python3
-"""Checks that each command needs no more memory than docs/operations.md states, for the worst messages of up to 16 MB.
+"""Checks that each command needs no more memory than docs/operations.md states, even for the worst messages of up to 16 MB.
 
     tests/program_memory.py [PROGRAM]
 
@@ -17,7 +17,7 @@ from lib import TABLES, TOP, finish, program, words
 
 
 def row(command: str) -> str:
-    """Returns the memory that docs/operations.md states for a command."""
+    """Returns the cell in docs/operations.md that states the memory for a command."""
     page = (TOP / "docs/operations.md").read_text(encoding="utf-8")
     return re.search(rf"^\| `bufr {command}` \| ([^|]*) \|", page, re.M)[1]
 

@@ -110,7 +110,7 @@ mkdir "$1" && cp library/bufr.h "$1" && cd "$1" && echo archive > libbufr.a && e
 END
 chmod +x "$work/marked" "$work/unmarked" "$work/build.sh"
 count=$(ls -d crates/*/src crates/*/must-fail/*.edit | wc -l)
-# fake LOGIC [COMMANDS]: creates a stand-in with this logic, whose `rt ci` runs COMMANDS before it prints its last line.
+# fake LOGIC [COMMANDS]: creates a stand-in with this logic. Its `rt ci` runs COMMANDS before it prints its last line.
 fake() {
     cat > "$work/fake/rt" << END
 #!/bin/sh
@@ -179,7 +179,7 @@ is_over
 fake "$logic" "echo \$\$ > '$work/pid'; kill -KILL \$PPID; exec sleep 60"
 ! TMPDIR=$work/temporary "$make" "$work/fourth" > "$work/told" 2>&1 || fail "a killed script succeeds"
 is_over
-# Everything is proved.
+# In this run, every proof succeeds.
 fake "$logic"
 "$make" "$work/proved" > "$work/told" || fail "release.sh: $(< "$work/told")"
 grep -q "^$count passed, 0 failed$" "$work/told" || fail "release.sh hides what the gate said: $(< "$work/told")"
@@ -313,7 +313,7 @@ ln -s $prefix/share/doc/bufr/* own
 ln -s /tests own/tests
 /usr/bin/python3 own/tests/docs_commands.py $prefix/bin/bufr own/README.md own/docs/operations.md || fail "the commands of README and operations.md"
 rm -r own
-# The operator adds two table sets: one for the messages of a centre, and one for another version.
+# The operator adds two table sets: one for messages from a particular centre, and one for another table version.
 set=$prefix/share/bufr/tables
 cp -r $set/wmo-39 $set/wmo-39+78-0
 sed -i 's/^"\?012101"\?,.*/012101,OWN NAME,K,2,0,16/' $set/wmo-39+78-0/B.csv
@@ -355,7 +355,7 @@ types block2
 types block3
 printf '%s\n' 'systemctl restart bufr-feed' "$(/opt/bufr/bin/bufr-auto --version)" | cmp - told || fail "after an upgrade: $(cat told)"
 types block4
-# The fourth block must find a changed link and an added file.
+# The commands in the fourth block must report a changed link and an added file.
 bash=/opt/bufr-0.1.0/share/bash-completion/completions/bufr-auto
 ln -sfT bufr $bash
 touch /opt/bufr-0.1.0/bin/added
@@ -366,7 +366,7 @@ ln -sfT bufr-scripts.bash $bash
 # The hourly commands must report rejected and skipped messages, notes, a failed run, and an hour without a dump.
 mkdir -p /var/lib/feed /usr/local/lib/feed
 (cd /usr/local/lib/feed && sed -n '/cat > check/,/^> END/s/^[$>] //p' $page | bash && cp /home/page/block5 hourly-feed)
-# cron COMMAND: runs the line of the crontab that contains this command.
+# cron COMMAND: runs the crontab line that contains this command.
 cron() {
     sed -n "s/^[0-9*]* [0-9*]* \* \* \* root \(.*$1\)/\1/p" crontab > line
     [ "$(wc -l < line)" -eq 1 ] && PATH=/home/stubs:$(sed -n 's/^PATH=//p' crontab) bash -eu line > told 2>&1 || fail "$1 of the crontab: $(cat line told)"
@@ -381,7 +381,7 @@ note='bufr-auto: 1 message, at offset 0: the table set wmo-99+254-9 (local versi
 cron hourly-feed
 printf '%s\n' 'messages rejected or skipped: 21' "$note" 'bufr-feed failed: exit-code' 'nothing was dumped for an hour' | cmp - told ||
     fail "the hourly commands print $(cat told)"
-# hourly must report the exit status of a run that was killed.
+# The script `hourly` must report the exit status of a run that was killed.
 (
     cd /usr/local/lib/feed
     printf '#!/bin/sh\nkill -KILL $$\n' > bufr-auto

@@ -3,7 +3,7 @@
 
     tests/script_failures.py [PROGRAM [SCRIPT..]]
 
-Descriptors are closed, devices are full, memory and disk space run out, files are truncated while they are being read,
+File descriptors are closed, devices are full, memory and disk space run out, files are truncated while they are being read,
 tables are invalid, and programs are killed. The test also covers the options that all scripts share, and the progress line.
 """
 import contextlib
@@ -31,7 +31,7 @@ DUMP = ["dump", *TABLES]
 SCRIPTS = {"bufr-auto": [], "bufr-csv": ["--json", "-c", "001001"], "bufr-extract": [], "bufr-lacks": [], "bufr-parallel": ["-P", "2", *DUMP]}
 # Scripts that find messages themselves. The others use `bufr ls`.
 READERS = ("bufr-auto", "bufr-csv")
-# A script that needs a package. This test covers only its options; tests/bufr_plot.py covers the rest.
+# A script that needs a Python package. This test covers only its options; tests/bufr_plot.py covers the rest.
 OTHERS = {"bufr-plot": ["map", "a.png"]}
 complaints = []
 
@@ -42,7 +42,7 @@ def holds(what: str, is_so: bool, told: object = "") -> None:
 
 
 class Trial:
-    """Runs of one script, with a separate directory for its files."""
+    """A script to run, and a separate directory for its files."""
 
     def __init__(self, name: str, words: list, place: str) -> None:
         self.name, self.words, self.place = name, [sys.executable, str(TOP / "scripts" / name), *words], pathlib.Path(place)
@@ -50,7 +50,7 @@ class Trial:
         self.environment.pop("BUFR_TABLES", None)
 
     def run(self, words=(), closed=(), full=(), limits=None, **more):
-        """Runs the script with some descriptors closed or open on a full device, and with these resource limits.
+        """Runs the script with some file descriptors closed or open on a full device, and with these resource limits.
 
         Returns the completed process.
         """
@@ -87,7 +87,7 @@ class Trial:
 
 
 def descriptors(trial: Trial) -> None:
-    """A script must fail if a descriptor that it uses is closed or full, and only then."""
+    """A script must fail if it uses a file descriptor that is closed or open on a full device, and only then."""
     lacking = trial.place / "lacking"
     lacking.write_bytes(lib.asking(lib.message(b"", lib.words("063255")), 13))
     gives = lacking if trial.name == "bufr-lacks" else SYNOP
@@ -219,7 +219,7 @@ def room(trial: Trial) -> None:
             told = f"{trial.name}: no space left in {folder or '/tmp'}; set TMPDIR to another directory\n"
             holds(f"{trial.name}: no space left in {folder!r}", done.stderr.decode() == told, done)
     if trial.name == "bufr-extract":
-        # `bufr ls`, which starts immediately or late, gets only a part of the stream. This must not be reported as a fault.
+        # Whether it starts immediately or late, `bufr ls` gets only a part of the stream. The script must not report a fault.
         octets *= 20
         for begin in (trial.words[:1], [*trial.words[:1], "-c", LATE.format(TOP / "scripts")]):
             trial.words[:1] = begin
@@ -309,7 +309,7 @@ def killed(trial: Trial) -> None:
 def signals(trial: Trial) -> None:
     """A signal must end a script and the programs that it runs.
 
-    If the reader of its output exits early, the script must report a failed write or end silently.
+    If the reader of a script's output exits early, the script must report a failed write or end silently.
     """
     # Python ignores SIGPIPE, but the programs that a script runs must neither ignore nor block it.
     ignored = trial.place / "ignored"
@@ -486,7 +486,7 @@ def progress(trial: Trial) -> None:
     main, terminal = pty.openpty()
     begin = time.monotonic()
     words = [*trial.words, str(trial.place / "long")]
-    # bufr-lacks prints its lines at the end, so it shows the progress even if they go to a terminal.
+    # bufr-lacks prints its output only at the end, so it shows progress even if the output goes to a terminal.
     output = terminal if trial.name == "bufr-lacks" else subprocess.DEVNULL
     run = subprocess.Popen(words, stdin=subprocess.DEVNULL, stdout=output, stderr=terminal, env={**trial.environment, **slow})
     os.close(terminal)
@@ -517,10 +517,10 @@ def progress(trial: Trial) -> None:
             told = b""
             told = os.read(main, 4096)
         os.close(main)
-        # On a busy machine, the progress of the listing can follow.
+        # On a busy machine, progress lines for `bufr ls` may follow.
         is_shown = re.match(rb"\r\x1b\[K[2-4] MB\r\r\x1b\[K", told) and told.endswith(b"\r\x1b[K")
         holds("bufr-lacks: progress of a pipe", is_shown, told)
-    if trial.name == "bufr-extract":  # on a terminal, its output already shows the progress
+    if trial.name == "bufr-extract":  # on a terminal, its output already shows progress
         main, terminal = pty.openpty()
         subprocess.run([*words, "category=9"], stdout=terminal, stderr=terminal, env={**trial.environment, **slow})
         os.close(terminal)
@@ -576,7 +576,7 @@ def guard() -> None:
         words = [sys.executable, "-c", code + work.format("os.kill(os.getpid(), 15)"), f"{place}/none", f"{place}/begun"]
         done = subprocess.run(words, cwd=TOP / "scripts", capture_output=True)
         holds("an unfinished file", done.returncode == -signal.SIGTERM and not os.listdir(place), (done, os.listdir(place)))
-    # The first import of a script fails, as it does if there is too little memory.
+    # The first import in each script fails, as happens if there is too little memory.
     with tempfile.TemporaryDirectory() as place:
         (pathlib.Path(place) / "bufr_guard.py").write_text("raise MemoryError\n")
         for name in [*SCRIPTS, *OTHERS]:

@@ -3,11 +3,11 @@
 
     tests/script_memory.py [PROGRAM [SCRIPT..]]
 
-The limit for each process is a number of megabytes, plus the length of the longest message if --help says so.
+The limit for each process is the number of megabytes in --help, plus the length of the longest message if --help says so.
 The streams contain 300,000 strays, 300,000 small messages with bytes between them, 30,000 kinds of messages for which
 tables are missing, 200,000 kinds for which no rows are missing, messages of 16 MB, long descriptor lists, or messages of 40
-table versions. In addition, one document has no end. With the first two streams, a script must not need much more memory than
-with a third of the stream.
+table versions. There is also a long document without an `end` line. With the first two streams, a script must not need much
+more memory than with a third of the stream.
 """
 import os
 import pathlib
@@ -30,7 +30,7 @@ SCRIPTS = {
     "bufr-parallel": ["-P", "2", "dump", *TABLES],
 }
 LONGEST = 16_700_000
-# The most kilobytes that a script may need for a whole stream in addition to the memory for a third of it.
+# The maximum number of kilobytes by which a script's memory for a whole stream may exceed its memory for a third of it.
 GROWTH = 2000
 
 
@@ -45,9 +45,9 @@ def messages():
 
 
 def kinds():
-    """Yields messages of 30,000 kinds, each with a different descriptor list, and of 40 more kinds.
+    """Yields 30,000 messages of different kinds, each with its own descriptor list, and then 40 messages of other kinds.
 
-    For each of the 40 kinds, 4,096 rows are missing.
+    For each of these 40 messages, 4,096 rows are missing.
     """
     for centre in range(1, 301):
         pieces = []
@@ -61,7 +61,7 @@ def kinds():
 
 
 def centres():
-    """Yields messages of 200,000 kinds for which no rows are missing."""
+    """Yields 200,000 messages for which no rows are missing, each with its own combination of centre and local version."""
     message = lib.message(b"\x14")
     for centre in range(1000):
         yield b"".join(lib.asking(message, 13, local, centre) for local in range(200))
@@ -93,13 +93,13 @@ def many_long_lists():
 
 
 def versions():
-    """Yields messages of 40 versions, each of which has its own table set."""
+    """Yields 40 messages, each with its own table version. There is a table set for each version."""
     for version in range(1, 41):
         yield lib.asking(lib.message(b"", lib.words("307080 063255")), version)
 
 
 def no_end():
-    """Yields a document that has no end."""
+    """Yields a document with a million comments, but without an `end` line."""
     yield b"message\n"
     for _ in range(100):
         yield b"# A comment in a document.\n" * 10_000
@@ -116,13 +116,13 @@ STREAMS = {
     many_long_lists: (1, 0),
     versions: (1, 0),
 }
-# Streams that are tried with only one script.
+# Streams that are given to only one script, with the name of that script.
 ONLY = {long_lists: "bufr-auto", many_long_lists: "bufr-lacks", versions: "bufr-lacks", centres: "bufr-lacks"}
 TEXTS = {no_end: (1, 1)}
 
 
 def stated(script: str) -> tuple:
-    """Returns the limit in a script's help: the megabytes, and whether memory for the longest message is added."""
+    """Returns the limit in a script's help: the megabytes, and whether the length of the longest message is added."""
     words = [sys.executable, TOP / "scripts" / script, "--help"]
     text = " ".join(subprocess.run(words, stdout=subprocess.PIPE, text=True).stdout.split())
     found = re.search(r"needs? (?:at most )?(\d+) MB of memory(.*?memory for the longest message)?", text)
@@ -140,7 +140,7 @@ def is_tried(name: str, stream) -> bool:
 
 
 def measured(name: str, path: pathlib.Path) -> tuple:
-    """Runs a script. Returns its exit status, the number of fault lines, and the memory in kilobytes."""
+    """Runs a script. Returns its exit status, the number of fault lines, and its peak memory in kilobytes."""
     script, *option = name.split()
     words = [sys.executable, TOP / "scripts" / script, *option, *SCRIPTS[name], path]
     with tempfile.TemporaryFile() as errors:
@@ -178,7 +178,7 @@ def main() -> None:
             (sets / f"wmo-{version}").symlink_to(TOP / "tables/wmo-39")
         for stream in [*STREAMS, *TEXTS]:
             path, third = (pathlib.Path(place) / name for name in (stream.__name__, f"a third of {stream.__name__}"))
-            # Write the streams in pieces, because the memory that is measured for a child includes that of this process.
+            # Write the streams in pieces, because the memory measured for a child process includes the memory of this process.
             with open(path, "wb") as file, open(third, "wb") as less:
                 for number, piece in enumerate(stream()):
                     file.write(piece)

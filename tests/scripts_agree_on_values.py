@@ -5,8 +5,8 @@
 
 All four must return the same values, with each installed awk. Some messages are random and use WMO's tables. Others use a
 table that the test generates. For each scale from -127 to 127, they contain zero, a number with one digit, numbers at the
-limits of a field's range, random numbers, and a missing value. Numbers up to the limits of 128 bits, which do not fit in a
-field, are read from a generated dump.
+limits of a field's range, random numbers, and a missing value. Numbers up to the limits of 128-bit integers, which do not fit
+in a field, are read from a generated dump.
 """
 import itertools
 import os
@@ -99,7 +99,7 @@ def compare(what: str, rows: list, others: list) -> None:
 
 
 def columns_of(messages: list, rng: random.Random) -> list:
-    """Returns some columns for which there are items, and one for which there are none."""
+    """Returns columns for some of the descriptors in the messages, and one for a descriptor that does not occur."""
     numbers = sorted({item.fxy for message in messages for subset in message.subsets for item in subset})
     some = rng.sample(numbers, min(len(numbers), len(SCALES)))
     return [f"{fxy}:{rng.randint(1, 3)}" if rng.random() < 0.2 else fxy for fxy in some] + ["063255"]
@@ -122,9 +122,9 @@ def own_tables(folder: pathlib.Path) -> list:
 
 
 def scaled_stream(rng: random.Random) -> bytes:
-    """Returns a stream with a message for each kind of number. Each message contains a number of every scale.
+    """Returns a stream with a message for each kind of number. Each of these messages contains a number at every scale.
 
-    The reference value of each element is its negated index. The last message contains the longest possible number, which has
+    The reference value of each element is its negated index. One more message contains the longest possible number, which has
     37 digits because 2 07 018 multiplies its reference value.
     """
     most, stream = (1 << 63) - 1, b""
@@ -139,7 +139,7 @@ def scaled_stream(rng: random.Random) -> bytes:
 
 
 def limits() -> bytes:
-    """Returns a dump with numbers up to the limits of 128 bits at every scale, each after a redefined reference value."""
+    """Returns a dump with numbers of every scale, up to the limits of 128-bit integers. Each follows a new reference value."""
     text = (TOP / "tests/vectors/texts/one_block_number.txt").read_bytes().splitlines(keepends=True)
     lines = []
     for scale in SCALES:
@@ -181,5 +181,5 @@ def main() -> None:
 
 
 if __name__ == "__main__":
-    warnings.simplefilter("ignore")  # bufr_text warns about empty columns, of which there are many
+    warnings.simplefilter("ignore")  # bufr_text would print many warnings about empty columns
     main()

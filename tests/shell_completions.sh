@@ -3,7 +3,7 @@
 set -eu
 . "$(dirname "$0")/lib.sh"
 
-# offers WANTED WORD..: for a command line with these words, the last of which is incomplete, bash must offer WANTED.
+# offers WANTED WORD..: bash must offer WANTED for a command line with these words. The last word is incomplete.
 offers() {
     local wanted=$1
     shift

@@ -19,7 +19,7 @@ TABLE_B = """fxy,name,unit,scale,reference,width
 031000,SHORT DELAYED DESCRIPTOR REPLICATION FACTOR,Numeric,0,0,1
 031001,DELAYED DESCRIPTOR REPLICATION FACTOR,Numeric,0,0,8
 """
-# A sequence of two elements, and one that expands to 131,072 elements, because each of its 17 levels doubles the next one.
+# A sequence of two elements, and one that expands to 131,072 elements: each of its 17 levels contains the next one twice.
 TABLE_D = "fxy,member\n360192,001001\n360192,012101\n" + "".join(
     f"3000{x:02},{f'3000{x + 1:02}' if x < 17 else '001001'}\n" * 2 for x in range(1, 18)
 )
@@ -55,7 +55,7 @@ REFUSED = [
         b"BUFR\0\x10\0\x04" * 1024,
         "\n".join(f"offset {at}: {'3 no end' if at <= 4096 else '1 cut'}" for at in range(0, 8192, 8)),
     ),
-    # a delayed group whose data are truncated, although all lengths are right
+    # a delayed group whose data are truncated, although every declared length is right
     (built("101000 031001 001001", ""), "offset 0: 30 data end at subset 1 descriptor 031001 bit 0"),
     (built("101000 031001 001001", "02"), "offset 0: 30 data end at subset 1 descriptor 001001 bit 8"),
     (built("101000 031001 001001", "0214"), "offset 0: 30 data end at subset 1 descriptor 001001 bit 15"),
@@ -67,7 +67,7 @@ REFUSED = [
     ),
 ]
 
-# A message, the items in its dump without comments, and the result of encoding the dump, if it is a different message.
+# A message, the items in its dump without comments, and the result of encoding the dump (None if it is the same message).
 ACCEPTED = [
     (ONE, "001001 10", None),
     (built("012101", "708F"), "012101 288.15", None),

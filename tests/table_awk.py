@@ -4,8 +4,8 @@
     tests/table_awk.py [PROGRAM]
 
 Every awk must make the same tables from the examples, with a row of seven fields for each item, and the same JSON from
-strings that contain every byte and every escape. In a live feed, the rows of a message must be written at the end of the
-message.
+strings that contain every byte and every escape. In a live feed, the rows for a message must be written as soon as
+the message ends.
 """
 import csv
 import json
@@ -53,7 +53,7 @@ def run(words: list, text: bytes) -> tuple:
 
 
 def serves(words: list) -> bool:
-    """Returns whether the rows of a message are written before the input ends."""
+    """Returns whether the rows for a message are written before the input ends."""
     if "mawk" in os.path.realpath(shutil.which(words[0])):
         words = [words[0], "-Winteractive", *words[1:]]
     with subprocess.Popen(words, stdin=subprocess.PIPE, stdout=subprocess.PIPE, stderr=subprocess.DEVNULL) as script:

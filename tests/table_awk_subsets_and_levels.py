@@ -47,8 +47,8 @@ subset 1
 012103 2.5
 end
 """
-# Three passes with inner groups of different lengths, then a group with no passes and three with one, and lines that are not
-# items.
+# Three passes with inner groups of different lengths, a group with no passes, and three groups with one pass each. Some lines
+# are not items.
 VARIED = b"message\nsubset 1\n031001 3\nR 012101 5\n# a note\n\n007004 1\n031001 2\n011001 3\n011001 4\n012101 1.0\n"
 VARIED += b"007004 2\n031001 0\n012101 2.0\n007004 3\n031001 1\n011001 3\n012101 3.0\n"
 VARIED += b"031001 0\n" + b"".join(b"031001 1\n007004 %d\n012101 %d.0\n" % (level, level) for level in (4, 5, 6)) + b"end\n"
@@ -122,7 +122,7 @@ class Stream:
     """A stream in which some messages are rejected, its dump, and files with its listing and its fault lines."""
 
     def __init__(self, folder: pathlib.Path) -> None:
-        # Version 13 lacks sequences and elements that some of these messages need.
+        # Table version 13 lacks sequences and elements that some of these messages need.
         tables = [word.replace("wmo-39", "wmo-13") for word in TABLES]
         paths = sorted((TOP / "examples").glob("*.bufr"), key=lambda path: path.stem != "sounding")
         octets = b"".join(path.read_bytes() + b"BUFR" for path in paths)
@@ -171,7 +171,7 @@ def tries_offsets(awk: list, stream: Stream) -> None:
 
 
 def tries_speed(awk: list, text: bytes, folder: pathlib.Path) -> None:
-    """Skipping items that are in no column must take little more time than reading their lines.
+    """Skipping items that are in no column must take at most 2 times (subsets) or 4 times (levels) as long as counting lines.
 
     Processing all items would take 12 times as long.
     """
@@ -189,7 +189,7 @@ def tries_speed(awk: list, text: bytes, folder: pathlib.Path) -> None:
 
 
 def tries_memory(awk: list, folder: pathlib.Path) -> None:
-    """table.awk must not cache all names of items: 100,000 names may need at most 10 MB more memory than 20,000."""
+    """table.awk must not cache the name of every item: 100,000 names may need at most 10 MB more memory than 20,000."""
     sizes = []
     for count in (20_000, 100_000):
         lines = (f"012101 1  # A NAME OF AN ELEMENT OF A TABLE {number} [K]\n" for number in range(count))

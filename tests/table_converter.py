@@ -3,8 +3,8 @@
 
     tests/table_converter.py [PROGRAM]
 
-Each row is tested in a separate table. Next to it is the reason for leaving it out, or nothing if it is kept. Other tests
-cover sources with conflicting rows, and files with an invalid layout.
+Each row is tested in a separate table. In the lists of rows, the text after `|` is the reason for leaving the row out; it is
+blank if the row is kept. Other tests cover sources with conflicting rows, and files with an invalid layout.
 """
 import functools
 import pathlib
@@ -100,9 +100,9 @@ def wreport_row(fxy: str, name: str, unit: str, scale: str, reference: str, widt
 
 
 ELEMENT = "012101,NAME,K,2,0,16\n"
-# The first of the two lines that list the elements whose definitions differ between versions 13 and 14.
+# The first of the two lines in which changes.py lists the elements whose definitions differ between versions 13 and 14.
 CHANGED = "  elements changed: 13: 014001 014002 014003 014004 014011 014012 014013 014014 014017 014018 014028"
-# Two small sets, and the changes from one to the other.
+# Two small table sets, and the output of changes.py for them.
 ONE = """\
 001033,A \udcff,CODE TABLE,0,0,8
 001034,B,Numeric,0,0,8
@@ -133,7 +133,8 @@ one to ot\\x1Bher
   sequences added: 0
 """
 TWICE = "source: left out %s: the source contains conflicting rows for this descriptor\n"
-# A file, its text, the exit status, the messages, and the rows of the new set without headers (None if there is no new set).
+# A file, its text, and what convert.py must produce: the exit status, the messages, and the rows of the new set without
+# headers (None if there is no new set).
 SOURCES = [
     ("B.csv", f"{HEADERS['B']}\n{ELEMENT}\n{ELEMENT}", 0, "", ELEMENT),
     ("B.csv", "", 2, "source/B.csv has no column 'fxy'\n", None),
@@ -250,7 +251,7 @@ def convert(place: pathlib.Path, name: str, text: str):
 
 
 def behind_headers(place: pathlib.Path):
-    """Returns the rows of both tables in the new set, or None if it was not written."""
+    """Returns the rows of both tables in the new set, or None if the set was not written."""
     paths = [place / "out" / f"{table}.csv" for table in HEADERS]
     if not all(path.exists() for path in paths):
         return None
@@ -258,7 +259,7 @@ def behind_headers(place: pathlib.Path):
 
 
 def wrong_row(place: pathlib.Path, table: str, row: str, reason: str) -> str:
-    """Returns a complaint, or an empty string if convert.py and the program treat this row as expected."""
+    """Returns an error message, which is empty if convert.py and the program treat this row as expected."""
     texts = {name: f"{header}\n" + f"{row}\n" * (name == table) for name, header in HEADERS.items()}
     done = convert(place, f"{table}.csv", texts[table])
     kept = behind_headers(place)
@@ -277,7 +278,7 @@ def wrong_row(place: pathlib.Path, table: str, row: str, reason: str) -> str:
 def several_sources(place: pathlib.Path) -> list:
     """Returns complaints about sets from two sources. Rows in the last source take precedence, unless they are left out.
 
-    Rows that are left out must be reported for both sources.
+    Rows that are left out must be reported, whichever source contains them.
     """
     tables = {
         "fi\x1brst/B.csv": "012103,OLD,K,2,0,16\n064000,NAME,K,2,0,16\n012102,OLD,K,2,0,16\n012101,OLD,K,2,0,16\n",
@@ -298,7 +299,7 @@ def several_sources(place: pathlib.Path) -> list:
         made = "".join((place / f"both/{name}.csv").read_text().partition("\n")[2] for name in HEADERS)
         if (done.returncode, done.stdout, done.stderr, made) != (1, "", told + more, wanted):
             wrongs.append(f"two sources: {done}, {made!r}")
-    # This directory contains both of wreport's tables.
+    # This directory contains both tables in wreport's format.
     (place / "pair").mkdir()
     (place / "pair/Bone.txt").write_text(wreport_row("001210", "MADE UP", "CCITTIA5", "0", "0", "72"))
     (place / "pair/Done.txt").write_text(" 307210  1 001210\n")

@@ -1,6 +1,6 @@
 #!/usr/bin/env python3
-"""Checks that the sets in tables/ match every version from 7 to 39 exactly, by the rule in tables/README.md, and that every
-set is needed.
+"""Checks that the sets in tables/ match every version from 7 to 39 exactly, according to the rule in tables/README.md, and
+that every set is needed.
 
     tests/table_versions.py
 
@@ -23,10 +23,10 @@ import changes  # noqa: E402
 ECCODES = pathlib.Path("/usr/share/eccodes/definitions/bufr/tables/0/wmo")
 WREPORT = pathlib.Path("/usr/share/wreport")
 VERSIONS = range(7, 40)
-# The descriptors that versions up to 6 define differently, according to bufr-auto.
+# The descriptors that versions up to 6 define differently from the set wmo-13, according to bufr-auto.
 AUTO = (TOP / "scripts/bufr_auto.py").read_text()
 CHANGED_SINCE_6 = re.search(r'CHANGED_SINCE_6 = set\(\s*"""([^"]*)"""', AUTO)[1].split()
-# The differences in wreport. In versions 12 and 13, members of sequences are missing or occur twice.
+# The known differences between wreport and our sets. In versions 12 and 13, members of sequences are missing or occur twice.
 MISPRINTS = "301034 307046 307052 307054 307055 307084 308008 310019 310025".split()
 # In version 16, two elements have reference values that ecCodes has only from version 17 on, the two halves of nine sequences
 # are swapped, and four sequences are in neither version 15 nor version 16 of ecCodes. wreport's sequences for version 15 are a
@@ -60,7 +60,7 @@ def is_of_wmo(fxy: str) -> bool:
 
 
 def check(name: str, versions: dict, known: dict) -> list:
-    """Compares our sets with the versions in one package, and returns complaints."""
+    """Compares our sets with the versions in one package, and returns error messages."""
     shipped, complaints = sets(), []
     for version, tables in versions.items():
         number = min(number for number in shipped if number >= version)

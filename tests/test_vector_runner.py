@@ -20,7 +20,7 @@ def main() -> None:
         (["--only", "no such case", program()], 2, "0 of 0 vectors"),
         (["/nosuch"], 2, "cannot run /nosuch: No such file or directory"),
         (["--only", "delayed_twice"], 2, "name the program"),
-        (["--help"], 0, "--only limits the run"),
+        (["--help"], 0, "--only selects the cases"),
     ):
         done = subprocess.run([sys.executable, RUNNER, *words], stdout=subprocess.PIPE, stderr=subprocess.STDOUT)
         if done.returncode != status or told not in done.stdout.decode():

@@ -40,7 +40,7 @@ def tokens(text: str) -> set:
 
 
 class Block:
-    """A declaration or an import: its text, and the names that it declares."""
+    """A declaration or an import: its text, and the names that it declares, if any."""
 
     def __init__(self, line: str) -> None:
         self.lines, self.declares = [line], not NO_DECLARATION.match(line)

@@ -43,7 +43,7 @@ class Entry:
         return "\n".join([*self.words, *lines, self.kind, self.of, self.name])
 
     def changed(self, places: set) -> dict:
-        """Returns the text of each changed file in these directories, keyed by place."""
+        """Returns the changed text of each file in these directories, keyed by crate, directory and file name."""
         texts = {}
         for change in self.changes:
             place = change.place()
@@ -113,7 +113,7 @@ def read_line(entry: Entry, line: str) -> None:
 
 
 def finished(entry: Entry) -> None:
-    """Raises `Bad` unless an entry is complete and each of its old texts occurs exactly once."""
+    """Raises `Bad` unless an entry is complete and each text that it replaces occurs exactly once."""
     if not entry.words:
         raise Bad("a comment must say the wrong rule, or the reason, in words")
     if entry.free:

@@ -106,7 +106,7 @@ class Definition:
         yield from self.orders()
 
     def is_value(self, at: int) -> bool:
-        """Returns whether a number is on the right side of an equation, not in a pattern or signature, and has no exponent."""
+        """Returns whether a number is on the right side of an equation, not in a pattern or signature, and not before `^`."""
         line = self.text.rfind("\n", 0, self.starts[at] - self.start) + 1
         head = self.text[line : self.starts[at] - self.start]
         is_base = self.words[at + 1 : at + 2] == ["^"]
@@ -152,7 +152,10 @@ class Definition:
         return at
 
     def choice(self, at: int) -> list:
-        """Returns the condition of an `if` that rejects input in one branch, and the check in its other branch, if any."""
+        """If an `if` rejects input in one branch and checks something in the other, returns its condition and that check.
+
+        Otherwise, returns an empty list.
+        """
         then = self.end_of(at + 1, "then")
         other = self.end_of(then + 1, "else")
         branches = self.words[then + 1 : other], self.words[other + 1 : self.end_of(other + 1, "")]
@@ -182,7 +185,7 @@ def place_in(words: list, part) -> int | None:
 
 
 def times(words: list, part: list, is_open: bool) -> int:
-    """Returns how often a part occurs in a list of words. Unless `is_open` is true, an expression must end after the part."""
+    """Returns how often a part occurs in a list of words. If `is_open` is false, only counts parts that end an expression."""
     ends = (at + len(part) for at in range(len(words)) if words[at : at + len(part)] == part)
     return sum(is_open or words[end : end + 1] == [] or words[end] in ENDS for end in ends)
 
@@ -213,7 +216,7 @@ def files() -> list:
 
 
 def cover(entries: list) -> list:
-    """Assigns to each site the entries that change it, or the reason why the site needs no entry. Returns complaints."""
+    """Assigns to each site the entries that change it, or the reason why it needs none. Returns error messages."""
     for entry in entries:
         for change in entry.changes:
             if change.folder == "specs":
@@ -259,7 +262,7 @@ def note(entry: Entry, change: Change) -> None:
 
 
 def set_free(entry: Entry, place: tuple, names: str) -> list:
-    """Assigns the reason that `entry` gives to each site without entries in the named definitions, or in the quoted text.
+    """Assigns the reason that `entry` gives to each uncovered site in the named definitions or in the quoted text.
 
     Returns these sites.
     """

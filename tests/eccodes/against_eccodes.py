@@ -3,7 +3,7 @@
 
     tests/eccodes/against_eccodes.py [COUNT [FIRST]]    COUNT random messages (default: 1,000), starting with number FIRST
     tests/eccodes/against_eccodes.py FILE..             the messages in these files
-    tests/eccodes/against_eccodes.py --differences      small messages that are known to be read differently
+    tests/eccodes/against_eccodes.py --differences      small messages that `bufr` and ecCodes are known to read differently
 
 random_messages.py generates each message, along with the lines that its dump should contain. These lines are compared with
 the output of `bufr dump` and with what ecCodes reads: `bufr_dump -jf` provides descriptors, strings and scales, and
@@ -11,8 +11,8 @@ the output of `bufr dump` and with what ecCodes reads: `bufr_dump -jf` provides 
 message, in which ecCodes must read the same values. For messages in files, there are no expected lines to compare with.
 
 If a message differs, it is saved in tests/out/eccodes, the first difference is printed, and the exit status is 1. With
---differences, the exit status is 1 if a message does not differ. To test a program other than the one that was built, set
-PROGRAM to its path. This test needs ecCodes, and is not part of the gate.
+--differences, the exit status is 1 if both programs read a message the same way. To test a program other than the one that
+was built, set PROGRAM to its path. This test needs ecCodes, and is not part of the gate.
 """
 import collections
 import json
@@ -134,7 +134,7 @@ def theirs(path: pathlib.Path) -> Foreign:
 
 
 def chosen(entry: dict, subset: int) -> dict:
-    """Returns an entry with its value in one subset, without spaces at the end of a string.
+    """Returns an entry with its value in one subset. If the value is a string, trailing spaces are removed.
 
     In compressed data, an entry has either one value for all subsets or a list.
     """

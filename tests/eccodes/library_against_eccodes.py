@@ -1,7 +1,7 @@
 #!/usr/bin/env python3
 """Compares the values that the C library returns with those that ecCodes returns.
 
-    tests/eccodes/library_against_eccodes.py FOLDER [FILE..]    FOLDER: the directory that library/build.sh filled
+    tests/eccodes/library_against_eccodes.py FOLDER [FILE..]    FOLDER: the output directory of library/build.sh
                                                                 FILE: a BUFR file (default: all files in examples/)
 
 For each accepted message, the test compares the header fields that the library returns, and all items. If any of them

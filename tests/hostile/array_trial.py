@@ -7,8 +7,8 @@
 
 Each stream depends only on its number, as in random_trial.py. Every tenth stream is read with the tables that each message
 needs, and the others with the tables in wmo-39. `differences` in tests/bufr_module.py makes the comparison. Two streams are
-tried at a time. If the modules differ on a stream, the exit status is 1. This trial needs NumPy and pandas, and is not part of
-the gate.
+compared at a time. If the modules differ on a stream, the exit status is 1. This trial needs NumPy and pandas, and is not part
+of the gate.
 """
 import multiprocessing
 import os

@@ -1,13 +1,13 @@
 #!/usr/bin/env python3
 """Compares the C library with the program on random hostile streams, dumps and tables.
 
-    tests/hostile/library_trial.py FOLDER [COUNT [FIRST [PROGRAM]]]    FOLDER: the directory that library/build.sh filled
+    tests/hostile/library_trial.py FOLDER [COUNT [FIRST [PROGRAM]]]    FOLDER: the output directory of library/build.sh
                                                                        COUNT: the number of cases (default: 1,000)
                                                                        FIRST: the number of the first case
 
 Each case depends only on its number, as in random_trial.py. The library lists and dumps a stream, reads its items, and encodes
-its dump in each form, or it encodes a hostile dump in each form. The buffers are large in some cases and small in others. Two
-cases are tried at a time. If a case fails, the exit status is 1. This trial is not part of the gate.
+its dump in each form, or it encodes a hostile dump in each form. The library's buffers are large in some cases and small in
+others. Two cases are tried at a time. If a case fails, the exit status is 1. This trial is not part of the gate.
 """
 import multiprocessing
 import pathlib
@@ -25,7 +25,7 @@ import bufr_library
 
 
 def try_case(number: int) -> list:
-    """Tries the case with this number. Returns complaints."""
+    """Tries the case with this number. Returns error messages."""
     c_library.wrongs.clear()
     rng = random.Random(f"library case {number}")
     kind = rng.choices(("stream", "text", "tables"), (60, 25, 15))[0]

@@ -1,8 +1,8 @@
 """Generates random messages for against_eccodes.py: templates, data, and the lines that their dumps should contain.
 
 This file has its own encoder, which shares nothing with the program except the tables. Each message depends only on its
-number, so a message that differs can be generated again. Templates that `bufr` and ecCodes are known to read differently
-are not generated; against_eccodes.py lists these differences in DIFFERENCES.
+number, so a message that reveals a difference can be generated again. Templates that `bufr` and ecCodes are known to read
+differently are not generated; against_eccodes.py lists these differences in DIFFERENCES.
 """
 import collections
 import copy
@@ -80,14 +80,14 @@ def fit(holds: bool) -> None:
 
 
 class Operators:
-    """The active operators, and the number of delayed replications that are open."""
+    """The active operators, and the number of delayed replications that enclose the current descriptor."""
 
     def __init__(self, widest: int) -> None:
         self.width = self.scale = self.power = self.characters = self.defining = self.given = 0
         self.references, self.widest, self.groups = {}, widest, 0
 
     def take(self, x: int, y: int) -> None:
-        """Applies an operator that has no bits in the data."""
+        """Applies an operator that adds no bits to the data."""
         fit(not self.power if x in (1, 2) else not (x == 7 and (self.width or self.scale or self.references)))
         fit(x != 3 or y in (0, 255) or not (self.references or self.power))
         if x == 1:
@@ -128,7 +128,7 @@ class Operators:
 
 
 def signed(raw: int, width: int) -> int:
-    """Converts the raw bits of a redefined reference value, a sign bit and a magnitude, to a number."""
+    """Converts the bits of a redefined reference value (a sign bit and a magnitude) to a number."""
     half = 1 << width - 1
     return raw if raw < half else half - raw
 
@@ -176,7 +176,7 @@ def expanded(fxy: str):
 
 
 def sequence_fits(fxy: str) -> bool:
-    """Returns whether a sequence is short, and all its members are in the tables and supported by this file."""
+    """Returns whether a sequence is short, and whether all its members are in the tables and supported by this file."""
     try:
         members = list(expanded(fxy))
     except KeyError:
@@ -254,7 +254,7 @@ LETTERS = "ABCDEFGHIJKLMNOPQRSTUVWXYZ abcdefghijklmnopqrstuvwxyz 0123456789 .,:;
 
 
 def drawn(rng: random.Random, field: Field) -> int:
-    """Draws a raw number for a field. Missing values and the ends of the range are frequent."""
+    """Draws a raw number for a field. Missing values, the lowest value and the highest value are frequent."""
     most = (1 << field.width) - 1
     if field.kind == "factor":
         return rng.randint(0, min(most, 3))

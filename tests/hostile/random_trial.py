@@ -12,8 +12,8 @@ following must hold:
 - The number of messages plus the number of faults is the same for `ls` and `dump`.
 - The dump of a stream is encoded without a fault, and dumping the result gives the same dump.
 - The encoded messages are no longer than the stream, apart from two octets for each edition 3 message.
-- If `--form` is used to encode the dump of a stream, and fault 58, 59 or 60 is not reported, dumping the result gives the same
-  dump except for the `compressed` lines.
+- If the dump of a stream is encoded with `--form`, and none of the faults 58, 59 and 60 is reported, dumping the result gives
+  the same dump except for the `compressed` lines.
 - The result of encoding a dump is dumped without a fault, and that dump is encoded to the same octets.
 
 The trial reports:
@@ -79,7 +79,7 @@ def hold(holds: bool, told: str) -> None:
 
 
 def run_once(octets: bytes, arguments: tuple) -> tuple:
-    """Runs the program on these octets. Returns its status, output, errors, whether the output was longer, and CPU seconds."""
+    """Runs the program on these octets. Returns its status, output, errors, whether output is cut off, and CPU seconds."""
     with tempfile.TemporaryFile() as source, tempfile.TemporaryFile() as told:
         source.write(octets)
         source.seek(0)
@@ -235,7 +235,7 @@ def stamped(rng: random.Random, octets: bytes) -> bytes:
 
 
 def lengths_in(octets: bytes) -> list:
-    """Returns the positions of the lengths of a message and its sections, as far as they can be found."""
+    """Returns the positions of the length fields of a message and its sections, as far as these fields can be found."""
     places, at = [], octets.find(b"BUFR")
     if at < 0 or at + 20 > len(octets):
         return places
@@ -395,7 +395,7 @@ def tables_of(rng: random.Random, text: bytes, folder: pathlib.Path) -> tuple:
 
 
 def try_case(number: int) -> tuple:
-    """Tries the case with this number. Returns counts of what happened, and a complaint or an empty string."""
+    """Tries the case with this number. Returns counts of what happened, and an error message, which is empty on success."""
     rng, seen = random.Random(f"case {number}"), collections.Counter()
     kind = rng.choices(("streams", "texts", "tables"), (50, 35, 15))[0]
     form = rng.choice(("", "", "plain", "compressed"))

@@ -190,7 +190,7 @@ def one_head(file: ProofFile, lemma: Declaration, body: str, found: list[Clause]
 
 
 def items(text: str, at: int) -> list[tuple[int, str]]:
-    """Returns the items, with their positions, of the bracketed list that begins at this position."""
+    """Returns each item in the bracketed list that begins at this position, together with the item's own position."""
     end = argument_end(text, at)
     return [(at + 1 + place, item) for place, item in split(text[at + 1 : end - 1], ",")]
 
@@ -283,7 +283,7 @@ def weak_edits(file: ProofFile, lemma: Declaration, body: str) -> Iterator[Edit]
     for tactic in TACTIC.finditer(body):
         found = items(body, tactic.end())
         optional = [one for one in found if one[1].strip() not in ("arith", "rules")]
-        if tactic[1] == "omega":  # a field of a record or a step of the proof shows where a bound comes from
+        if tactic[1] == "omega":  # keep record fields and proof steps, which show where a bound comes from
             optional = [one for one in optional if "." not in one[1] and one[1].strip() not in steps]
         if len(optional) > 1 and len(optional) < len(found):
             yield tuple((place - 1, place + len(item), "") for place, item in optional)
@@ -305,7 +305,7 @@ def weak_edits(file: ProofFile, lemma: Declaration, body: str) -> Iterator[Edit]
 
 
 def without_repeats(body: str) -> str:
-    """Returns the body without the facts that are repeated in a tactic's list."""
+    """Returns the body with duplicate facts removed from each tactic's list."""
     for tactic in reversed(list(TACTIC.finditer(body))):
         found = items(body, tactic.end())
         for number, (place, item) in reversed(list(enumerate(found))):
@@ -315,7 +315,7 @@ def without_repeats(body: str) -> str:
 
 
 def applied(body: str, edit: Edit) -> str:
-    """Returns the body after an edit, without double brackets, repeated facts or lines that are too long."""
+    """Returns the body after an edit, with redundant brackets and duplicate facts removed and long lines broken."""
     for start, end, new in sorted(edit, reverse=True):
         body = body[:start] + new + body[end:]
     body = re.sub(r"(?<![^\s(\[{])(omega|grind|search|simp|rw) \(([^\s(){}\[\],;.]+)\)", r"\1 \2", body)
@@ -365,7 +365,7 @@ def hides_steps(old: str, new: str, citable: set[str]) -> bool:
 
 
 def idle(text: str) -> int:
-    """Returns the number of `let`s in a clause that are not mentioned after they are defined."""
+    """Returns the number of `let`s in a clause that are not mentioned after their definitions."""
     return sum(not mentions(re.sub(r"\b(?=\.)", " ", text[one.end :]), one.name) for one in lets(text))
 
 

@@ -62,7 +62,8 @@ class ProofFile:
     def end(self, at: int, margin: str, own: str = "") -> int:
         """Returns the end of the declaration that continues at line `at`, not counting blank lines after it.
 
-        Each further line is indented more than the margin, closes a bracket at the margin, or begins a clause of `own`.
+        From `at` on, each line of the declaration is blank, is indented more than the margin, closes a bracket at the margin,
+        or begins a clause of `own`.
         """
         last = at
         while at < len(self.lines):
@@ -147,7 +148,7 @@ class ProofFile:
         return with_imports(lines, set(self.imported()) | tokens("\n".join(line.partition("--")[0] for line in self.lines if not is_use(line))))
 
 
-# Names that the shorter proofs use, with the modules that define them.
+# Names that shortened proofs can use, and the modules that define them.
 SETS = {"arith": "Rattle.std.proofs.Common", "rules": "Rattle.std.proofs.Common", "refl": "Rattle.std.proofs.Common", "common_steps": "Rattle.std.proofs.lemmas.Grind"}
 
 

@@ -63,7 +63,7 @@ def libraries(crate: str) -> list[str]:
 
 
 def function(file: pathlib.PurePath) -> str:
-    """Returns the path of the function whose proof is in this file. A cycle of calls has the path of its module or type."""
+    """Returns the path of the function that this file proves. For a cycle of calls, this is the path of its module or type."""
     return "::".join(part for part in file.parent.parts if not part.startswith("+"))
 
 
@@ -94,7 +94,7 @@ class Scratch:
             (self.top / "proofs/shrink_law/shrink_law").mkdir(parents=True)
 
     def add_user(self, path: pathlib.Path) -> None:
-        """Adds another proof file of the copy to each check."""
+        """Adds another proof file in the copy to all later checks."""
         parts = path.relative_to(self.top / "proofs").with_suffix("").parts
         if parts[-1] in ("Answers", "Invariants"):
             self.asked.append(function(path.relative_to(self.top / "proofs")))

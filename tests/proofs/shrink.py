@@ -60,7 +60,7 @@ class Search:
 
     def __init__(self, lemma: Declaration, body: str) -> None:
         self.lemma, self.old, self.body = lemma, body, body
-        self.options = {body: 0.0}  # proofs that pass, with the seconds that they add
+        self.options = {body: 0.0}  # proofs that pass, with the number of seconds that each adds
         self.measured = {body}  # proofs in `options` that were timed more than once
         self.tried: set[object] = {body}
         self.together: list[str] = []  # bodies that combine several edits, to be tried
@@ -171,7 +171,7 @@ class Shrinker:
         return {name: one.body for name, one in self.searches.items() if one.body != one.old}
 
     def added(self) -> float:
-        """Returns the seconds that the chosen proofs add."""
+        """Returns the number of seconds that the chosen proofs add."""
         return sum(one.options[one.body] for one in self.searches.values())
 
     def choose(self) -> None:
@@ -285,7 +285,7 @@ def without_imports(text: str, module: str, names: set[str]) -> str:
 
 
 def unused_names() -> dict[pathlib.Path, set[str]]:
-    """Returns the unused lemmas in each proof file. Only their own text, imports, or other unused lemmas mention them."""
+    """Returns the unused lemmas in each proof file. Only their own text, imports, and other unused lemmas mention them."""
     folder = TOP / "crates"
     others = [*folder.glob("*/src/**/*.rt"), *folder.glob("*/specs/**/*.antt"), *folder.glob("*/must-fail/*.edit")]
     words: dict[str, int] = {}
@@ -324,7 +324,7 @@ def unused_names() -> dict[pathlib.Path, set[str]]:
 def check_unused(path: pathlib.Path, names: set[str], asked: argparse.Namespace) -> str:
     """Checks a file without some of its lemmas, and the modules in the crate that use it.
 
-    Returns the errors, or an empty string.
+    Returns the error messages, which are empty if nothing went wrong.
     """
     crate, _, *rest = path.relative_to(TOP / "crates").parts
     scratch = Scratch(crate, pathlib.PurePath(*rest), asked.rlibs, shlex.split(asked.prefix))

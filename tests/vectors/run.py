@@ -1,5 +1,5 @@
 #!/usr/bin/env python3
-"""Runs every case in cases.tsv with a program whose command line is that of `bufr`, and reports cases with wrong results.
+"""Runs every case in cases.tsv with a program that has the same command line as `bufr`, and reports cases with wrong results.
 
     tests/vectors/run.py [--only TEXT] PROGRAM [WORD..]        for example: ./run.py python3 my_bufr.py
 
