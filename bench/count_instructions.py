@@ -39,7 +39,7 @@ COUNTED = {
     "I1 misses": ["I1mr"],
     "branch misses": ["Bcm", "Bim"],
 }
-# The counts in instructions.csv, and the number that is added to the old and the new count before they are compared.
+# The counts in instructions.csv, each with the number that is added to its old and new values before they are compared.
 RECORDED = {"instructions": 0, "L1 misses": 1, "L2 misses": 1}
 MOST = 1.1
 # First-level caches of 32 KiB each for instructions and data, and a second-level cache of 1 MiB.

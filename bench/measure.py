@@ -83,7 +83,8 @@ def least(*commands: list) -> list:
 def resident(words: list, file: pathlib.Path) -> int:
     """Returns a run's peak resident memory in KiB, as measured by GNU time, which writes the result to the file.
 
-    The peak can include memory of the process that starts the run, and GNU time needs less memory than Python.
+    The run is started with GNU time, because the peak can include memory used by the parent process, and GNU time uses less
+    than Python.
     """
     with open(os.devnull, "wb") as nowhere:
         subprocess.run(["/usr/bin/env", "time", "-q", "-f", "%M", "-o", str(file), *words], stdout=nowhere, stderr=nowhere)

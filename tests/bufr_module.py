@@ -1166,7 +1166,7 @@ class Wheel(WithFolder):
         self.assertIn(f'NAME = "bufr_text-{bufr.__version__}"', (TOP / "build_wheel.py").read_text())
 
     def test_a_wheel_is_enough(self):
-        """If NumPy is installed, an installed wheel needs no library or tables from elsewhere."""
+        """An installed wheel needs only NumPy; it contains its own library and tables."""
         code = "import sys, build_wheel; print(build_wheel.build_wheel(sys.argv[1], {'library': sys.argv[2]}))"
         words = [sys.executable, "-c", code, self.folder, os.environ["BUFR_LIBRARY"]]
         wheel = subprocess.run(words, cwd=TOP, stdout=subprocess.PIPE, text=True, check=True).stdout.strip()

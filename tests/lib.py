@@ -61,8 +61,8 @@ def seconds_of(words: list, **streams) -> float:
 def least_seconds(commands: list, most: float, output=os.devnull, **streams) -> list:
     """Returns the lowest processor time of each command over several rounds, because other programs may slow down any run.
 
-    Stops as soon as the first command takes at most `most` times as long as the others together, but not before round 3 or
-    after round 20.
+    Runs 3 to 20 rounds. From round 3 on, stops as soon as the first command's least time is at most `most` times the sum of
+    the others'.
     """
     least = [1e9] * len(commands)
     for number in range(20):

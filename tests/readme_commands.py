@@ -6,7 +6,8 @@
 A fenced block contains commands if it is marked `sh` or begins with `$ `. The commands run in one shell, with a separate
 home directory, at the top of a clone of the current files. Each command must exit with status 0, and the lines below a
 command that begins with `$ ` must be its output. `.ci/run` is skipped, because it takes up to two hours and runs this test
-itself. install.sh installs PROGRAM instead of the program that it would prove, or that a proved release would contain.
+itself. The test makes install.sh install PROGRAM, because install.sh would otherwise prove a program in the clone, or install
+the one from a proved release.
 """
 import os
 import pathlib

@@ -50,7 +50,7 @@ class Trial:
         self.environment.pop("BUFR_TABLES", None)
 
     def run(self, words=(), closed=(), full=(), limits=None, **more):
-        """Runs the script with some file descriptors closed or open on a full device, and with these resource limits.
+        """Runs the script with the given file descriptors closed or redirected to /dev/full, and with the given limits.
 
         Returns the completed process.
         """

@@ -26,7 +26,8 @@ VERSIONS = range(7, 40)
 # The descriptors that versions up to 6 define differently from the set wmo-13, according to bufr-auto.
 AUTO = (TOP / "scripts/bufr_auto.py").read_text()
 CHANGED_SINCE_6 = re.search(r'CHANGED_SINCE_6 = set\(\s*"""([^"]*)"""', AUTO)[1].split()
-# The known differences between wreport and our sets. In versions 12 and 13, members of sequences are missing or occur twice.
+# The known differences between wreport and our sets. In wreport's versions 12 and 13, the following sequences lack members or
+# contain some twice.
 MISPRINTS = "301034 307046 307052 307054 307055 307084 308008 310019 310025".split()
 # In version 16, two elements have reference values that ecCodes has only from version 17 on, the two halves of nine sequences
 # are swapped, and four sequences are in neither version 15 nor version 16 of ecCodes. wreport's sequences for version 15 are a

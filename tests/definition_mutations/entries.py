@@ -113,7 +113,7 @@ def read_line(entry: Entry, line: str) -> None:
 
 
 def finished(entry: Entry) -> None:
-    """Raises `Bad` unless an entry is complete and each text that it replaces occurs exactly once."""
+    """Raises `Bad` unless the entry is complete and each passage that it replaces occurs exactly once in its file."""
     if not entry.words:
         raise Bad("a comment must say the wrong rule, or the reason, in words")
     if entry.free:

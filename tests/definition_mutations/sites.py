@@ -294,7 +294,7 @@ def boundaries(place: tuple, name: str) -> list:
 
 
 def listed(crate: str, is_whole: bool) -> list:
-    """Returns a line for each site or, unless `is_whole` is true, for each site that is not covered."""
+    """Returns a line for each site that is not covered or, if `is_whole` is true, for every site."""
     lines, missing = [], []
     for place in files():
         if crate and place[0] != crate:
