@@ -349,7 +349,7 @@ class Run:
     FIRST: int
     PIECE: str
     SOURCE: Type[Union[Messages, Documents]]
-    # How the texts of faults begin if the header may be invalid, so that it says nothing about the tables.
+    # The beginnings of the faults after which no notes on tables are printed, because the header may be invalid.
     HEADER_FAULTS: Tuple[bytes, ...]
 
     def __init__(self, tables: bufr_sets.TableSet) -> None:

@@ -301,11 +301,13 @@ def bare(file: Optional[str], begin: bytes, piece: str = "message") -> bytes:
 
 
 def no_dump(named: str, begin: bytes) -> bytes:
-    """Returns the note for a file that is clearly not a dump, or an empty bytes object if the format is not known."""
+    """Returns the note for a file that is clearly not a dump, or an empty bytes object if it may be one."""
     if b"BUFR" in begin:
         return os.fsencode(f"{name()}: {named} is BUFR, not a dump; to dump it, leave out --encode\n")
     kind = kind_of(begin)
-    return os.fsencode(f"{name()}: {named} is not a dump: it looks like {kind}\n") if kind else b""
+    if kind is None or kind == KINDS_OF_FILES[b"message\n"]:
+        return b""
+    return os.fsencode(f"{name()}: {named} is not a dump: it looks like {kind}\n")
 
 
 def kind_of(begin: bytes) -> Optional[str]:

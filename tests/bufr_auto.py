@@ -274,6 +274,8 @@ class Trial:
         note = b"line 1: 50 line\nbufr-auto: standard input is not a dump: it looks like gzip data (use zcat)\n"
         done = self.auto("--encode", stream=b"\x1f\x8b\x08\0\n")
         self.same("gzip data", (done.stdout, done.stderr, done.returncode), (b"", note, 1))
+        done = self.auto("--encode", stream=b" message\n")
+        self.same("a dump with a space", (done.stdout, done.stderr, done.returncode), (b"", b"line 1: 50 line\n", 1))
         # BUFR data is rejected without waiting for the end of the input, and a note says which option to leave out.
         note = b"bufr-auto: standard input is BUFR, not a dump; to dump it, leave out --encode\n"
         for begin in (b"BUFR", b"\1\r\r\n001\r\r\nIUSK01 ENMI 010000\r\r\nBUFR"):
